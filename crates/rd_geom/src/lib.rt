@@ -1,8 +1,8 @@
 //! Rectangles of pixels.
 #![tactic(auto)]
 
-ghost use Rattle.std.specs.Prelude.{◌≡◌, ℕ, ℤ, pos, ◌+ℤ◌, ◌≤ℤ◌, IfSome, IfNone};
-ghost use Rattle.rd_geom.specs.Plane.{Rectangle, common, has_none, IsPlaced, between, int_low, inset_by, grown};
+ghost use Rattle.std.specs.Prelude.{◌≡◌, ℕ, ℤ, pos, ◌+ℤ◌, ◌≤ℤ◌, IfSome, IfNone, ◌&&◌, int_le, int_lt};
+ghost use Rattle.rd_geom.specs.Plane.{Rectangle, common, has_none, IsPlaced, between, int_low, inset_by, grown, holds_pixel};
 ghost use Rattle.std.specs.Int.{int_max, int_min};
 
 mod steps;
@@ -178,4 +178,27 @@ pub fn outset(r: &Rect, by: u16) -> Rect
         w: r.w + 2 * by,
         h: r.h + 2 * by,
     }
+}
+
+/// Is the number one of the `size` numbers from `low` on?
+fn in_span(i: i32, low: i32, size: i32) -> bool
+    requires from { int_low ≤ℤ low }
+    requires to { (low +ℤ size) ≤ℤ pos 1000000000 }
+    requires some { pos 0 ≤ℤ size }
+    ensures { result ≡ (int_le low i && int_lt i (low +ℤ size)) }
+{
+    if i < low {
+        return false;
+    }
+    i < low + size
+}
+
+/// Is the pixel at x, y in the rectangle?
+pub fn holds(r: Rect, x: i32, y: i32) -> bool
+    ensures { result ≡ holds_pixel r x y }
+{
+    if !in_span(x, r.x, r.w) {
+        return false;
+    }
+    in_span(y, r.y, r.h)
 }
