@@ -4,8 +4,8 @@ use Rattle.std.specs.List.{list_any}
 use Rattle.rd_geom.specs.Plane.{Rectangle, common, has_none}
 use Rattle.rd_geom.specs.Colors.{Premultiplied, premultiplied, laid_over, scaled, white, clear}
 use Rattle.rd_keys.specs.Keys.{BoxKey, same_key}
-use Rattle.rd_keys.specs.declared.boxes.Part.{Part}
-use Rattle.rd_keys.specs.declared.boxes.Part.TheVariants.{Back, Border, Content, Outline}
+use Rattle.rd_keys.specs.declared.entry.Part.{Part}
+use Rattle.rd_keys.specs.declared.entry.Part.TheVariants.{Back, Border, Content, Outline}
 use Rattle.rd_item.specs.declared.leaf.Leaf.{Leaf}
 use Rattle.rd_item.specs.Leaves.{covers}
 use Rattle.rd_list.specs.Entries.{Entries, nil, leaf, group, flat, is_empty}

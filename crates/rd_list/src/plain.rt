@@ -34,7 +34,7 @@ impl Model for PlainList {
     ghost use Rattle.rd_list.specs.EntriesCode.{entries_code};
     ghost use Rattle.rd_item.specs.contracts.leaf.Leaf as item;
     ghost use Rattle.rd_keys.specs.contracts.key.Key as key;
-    ghost use Rattle.rd_keys.specs.contracts.boxes.BoxMark as mark;
+    ghost use Rattle.rd_keys.specs.contracts.entry.BoxMark as mark;
 
     ghost Value = { Entries Leaf };
 
