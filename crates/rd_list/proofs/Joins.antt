@@ -31,12 +31,3 @@ listed-append [] ys = refl
 listed-append (entry.Leaf l ∷ xs) ys = ap (leaf l) (listed-append xs ys)
 listed-append (entry.Group k o inner ∷ xs) ys = ap (group k o inner) (listed-append xs ys)
 
--- two filters are one
-pub filter_both : {A : Type 0} (p q : A → Bool) (xs : List A) → filter q (filter p xs) ≡ filter (λ x. p x && q x) xs
-filter_both p q [] = refl
-filter_both p q (x ∷ xs) = elim (p x) as (λ b. filter q (cond b (x ∷ filter p xs) (filter p xs)) ≡ cond (b && q x) (x ∷ filter (λ x. p x && q x) xs) (filter (λ x. p x && q x) xs)) [
-  | true ↦ elim (q x) as (λ b. cond b (x ∷ filter q (filter p xs)) (filter q (filter p xs)) ≡ cond b (x ∷ filter (λ x. p x && q x) xs) (filter (λ x. p x && q x) xs)) [ true ↦ ap (λ zs. x ∷ zs) (filter_both p q xs) | false ↦ filter_both p q xs ]
-  | false ↦ filter_both p q xs
-]
-
-pub ruleset joins = (join-nil, join_assoc)
