@@ -5,8 +5,10 @@ ghost use Rattle.std.specs.Prelude.{◌≡◌, ℕ, ℤ, pos, ◌+ℤ◌, ◌≤
 ghost use Rattle.rd_geom.specs.Plane.{Rectangle, common, has_none, IsPlaced, between, int_low, inset_by, grown};
 ghost use Rattle.std.specs.Int.{int_max, int_min};
 
+mod size;
 mod steps;
 
+pub use size::Size;
 pub use steps::Steps;
 
 use std::marker::Model;
