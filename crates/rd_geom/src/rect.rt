@@ -54,6 +54,23 @@ pub struct Sides {
     pub left: u16,
 }
 
+impl Size {
+    ghost use Rattle.rd_geom.specs.Canvas.{IsCanvas, canvas_of};
+
+    /// The rectangle of a canvas of this size, which is from 1 to 4,096 pixels wide and high (CSS 2.2 section 10.1).
+    pub fn rect(&self) -> Rect
+        requires { IsCanvas self.now }
+        ensures { result ≡ canvas_of self.now }
+    {
+        Rect {
+            x: 0,
+            y: 0,
+            w: self.w,
+            h: self.h,
+        }
+    }
+}
+
 impl Rect {
     /// The rectangle without a pixel.
     pub const EMPTY: Rect = Rect {
