@@ -5,9 +5,11 @@
 
 mod color;
 mod rect;
+mod span;
 mod steps;
 
-pub use color::Color;
-pub use rect::{Rect, Sides, Size, holds, inset, meet, outset};
+pub use color::{Color, Px, mul, over, px_of, scale};
+pub use rect::{Rect, Sides, Size, holds, hull, inset, meet, meets, outset};
+pub use span::Span;
 pub use std::alloc::AllocError as NoMemory;
 pub use steps::Steps;
