@@ -1,0 +1,5 @@
+pub mod Slices
+pub mod Twelve
+pub mod Filters
+pub mod Joined
+pub mod ByLevel

@@ -1,0 +1,6 @@
+pub mod Spots
+pub mod Clips
+pub mod Parts
+pub mod Painting
+pub mod Seen
+pub mod Tests
