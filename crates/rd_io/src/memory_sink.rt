@@ -1,0 +1,1 @@
+//! Sinks over a slice in memory.
