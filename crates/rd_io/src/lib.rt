@@ -4,6 +4,7 @@
 #![tactic(auto)]
 
 pub mod adapters;
+mod calls;
 pub mod memory_sink;
 pub mod memory_source;
 pub mod reading;
@@ -12,7 +13,7 @@ pub mod source;
 pub mod writing;
 
 pub use adapters::{ReadSource, WriteSink};
-// pub use memory_sink::{MemorySink, SureSink};
+pub use memory_sink::{MemorySink, SureSink};
 pub use memory_source::{MemorySource, SureSource};
 pub use reading::{ReadAll, read_all};
 pub use sink::Sink;

@@ -1,11 +1,12 @@
 //! Sources over bytes in memory.
 
-ghost use Rattle.std.specs.Prelude.{ℕ, List, ◌≡◌, ◌≤◌, drop, take, min, length, IsErr, IsOk, IfOk, ◌↔◌, IsTrue, Some, vec_len, Contains};
+ghost use Rattle.std.specs.Prelude.{ℕ, List, ◌≡◌, ◌≤◌, drop, take, min, length, OkIff, IsOkAnd, Some, vec_len};
 ghost use Rattle.std.specs.Io.{ReadsAtMost};
 ghost use Rattle.std.specs.Io.KnownBytes.{ReadConsumes};
 ghost use Rattle.rd_io.specs.Causes.{HasCause};
-ghost use Rattle.rd_io.specs.Memory.{Given, next, is_failing};
+ghost use Rattle.rd_io.specs.Memory.{Given, MayPass, NextCall, first_call};
 
+use crate::calls::Calls;
 use crate::source::{Failed, Source};
 use std::marker::Model;
 
@@ -50,12 +51,12 @@ impl Source for SureSource {
 
     ghost faults = { λ s. 0 };
 
+    /// Never fails, and gives as many bytes as there are and `buf` has room for.
     fn read(&mut self, buf: &mut [u8]) -> Result<usize, Failed>
         ensures bound { ReadsAtMost result buf.new }
         ensures bytes { ReadConsumes (Some self.old) (Some self.new) result buf.new }
-        ensures sure { IsOk result }
-        ensures full { IfOk result (λ n. n ≡ min (length buf.new) (length self.old)) }
         ensures cause { HasCause 0 0 result }
+        ensures answer { IsOkAnd result (λ n. n ≡ min (length buf.new) (length self.old)) }
     {
         let count = copy_front(&self.bytes[self.at..], buf);
         self.at += count;
@@ -63,32 +64,28 @@ impl Source for SureSource {
     }
 }
 
-/// A source in memory whose calls of the numbers given fail, counted from 0. Contracts see the bytes left, the number
-/// of the next call, those numbers and the count of faults.
+/// A source in memory of which the calls of given numbers fail, counted from 0. Contracts see the bytes left, and the
+/// calls: the number of the next one, those numbers and the count of faults.
 #[derive(Drop)]
 pub struct MemorySource {
     bytes: SureSource,
-    failing: Vec<u64>,
-    calls: u64,
-    faults: u64,
+    calls: Calls,
 }
 
 impl Model for MemorySource {
     ghost Value = { Given };
 
-    ghost view = { λ s. record { left = s.bytes; calls = s.calls; failing = s.failing.items; faults = s.faults } };
+    ghost view = { λ s. record { left = s.bytes; calls = s.calls } };
 }
 
 impl MemorySource {
     /// A source of these bytes, of which the calls numbered in `failing` fail.
     pub fn new(bytes: Vec<u8>, failing: Vec<u64>) -> MemorySource
-        ensures { result ≡ record { left = bytes.items; calls = 0; failing = failing.items; faults = 0 } }
+        ensures { result ≡ record { left = bytes.items; calls = first_call failing.items } }
     {
         MemorySource {
             bytes: SureSource::new(bytes),
-            failing,
-            calls: 0,
-            faults: 0,
+            calls: Calls::new(failing),
         }
     }
 }
@@ -98,22 +95,17 @@ impl Source for MemorySource {
 
     ghost left = { λ s. Some s.left };
 
-    ghost faults = { λ s. s.faults };
+    ghost faults = { λ s. s.calls.faults };
 
+    /// Fails where its number is among those given, and else gives as many bytes as there are and `buf` has room for.
     fn read(&mut self, buf: &mut [u8]) -> Result<usize, Failed>
         ensures bound { ReadsAtMost result buf.new }
         ensures bytes { ReadConsumes (Some self.old.left) (Some self.new.left) result buf.new }
-        ensures cause { HasCause self.old.faults self.new.faults result }
-        ensures fails { IsErr result ↔ IsTrue (is_failing self.old.failing self.old.calls) }
-        ensures full { IfOk result (λ n. (n ≡ min (length buf.new) (length self.old.left)) × (self.new.faults ≡ self.old.faults)) }
-        ensures call { (self.new.calls ≡ next self.old.calls) × (self.new.failing ≡ self.old.failing) }
+        ensures cause { HasCause self.old.calls.faults self.new.calls.faults result }
+        ensures answer { OkIff result (MayPass self.old.calls) (min (length buf.new) (length self.old.left)) }
+        ensures call { NextCall self.old.calls self.new.calls result }
     {
-        let call = self.calls;
-        self.calls = call.saturating_add(1);
-        if self.failing.contains(&call) {
-            self.faults = self.faults.saturating_add(1);
-            return Err(Failed);
-        }
+        self.calls.begin()?;
         self.bytes.read(buf)
     }
 }

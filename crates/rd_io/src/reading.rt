@@ -1,8 +1,8 @@
 //! A source's bytes to the end.
 
-ghost use Rattle.std.specs.Prelude.{ℕ, List, ◌≡◌, ◌≤◌, ◌<◌, ◌+◌, ◌++◌, length, IfOk, IsErrOf, Bool, false, IsTrue, vec_len, []};
+ghost use Rattle.std.specs.Prelude.{ℕ, List, ◌≡◌, ◌≤◌, ◌<◌, ◌+◌, ◌-◌, ◌++◌, length, IfOk, IsErrOf, Bool, false, IsTrue, vec_len, []};
 ghost use Rattle.std.specs.Io.KnownBytes.{Consumes, IsAtEnd};
-ghost use Rattle.rd_io.specs.Causes.{Rose, TakesTo, Takes};
+ghost use Rattle.rd_io.specs.Causes.{HasCauseAt, TakesTo, Takes};
 
 use crate::source::{Failed, Source};
 use std::alloc::{AllocError, Global};
@@ -59,8 +59,8 @@ fn read_some<S: Source>(
         × (more ≡ false → IsAtEnd (S.left source.new) × (taken ≡ []))) }
     ensures fault { IsErrOf result ReadAll.Fault → Takes (S.left source.old) (S.left source.new) 0 × (bytes.new.items ≡ bytes.old.items) }
     ensures not_large { IsErrOf result ReadAll.TooLarge → ⊥ }
-    ensures later { S.faults source.old ≤ S.faults source.new }
-    ensures cause { IsErrOf result ReadAll.Fault → Rose (S.faults source.old) (S.faults source.new) }
+    ensures memory { IsErrOf result ReadAll.NoMemory → TakesTo (S.left source.old) (S.left source.new) (limit + 1 - vec_len bytes.old) }
+    ensures cause { HasCauseAt (IsErrOf result ReadAll.Fault) (S.faults source.old) (S.faults source.new) }
 {
     let room = (limit - bytes.len()).min(buf.len() - 1) + 1;
     let n = source.read(&mut buf[..room])?;
@@ -79,8 +79,8 @@ pub fn read_all<S: Source>(
         × IsAtEnd (S.left source.new) × (vec_len v ≤ limit)) }
     ensures too_large { IsErrOf result ReadAll.TooLarge → Takes (S.left source.old) (S.left source.new) (limit + 1) }
     ensures fault { IsErrOf result ReadAll.Fault → TakesTo (S.left source.old) (S.left source.new) limit }
-    ensures later { S.faults source.old ≤ S.faults source.new }
-    ensures cause { IsErrOf result ReadAll.Fault → Rose (S.faults source.old) (S.faults source.new) }
+    ensures memory { IsErrOf result ReadAll.NoMemory → TakesTo (S.left source.old) (S.left source.new) (limit + 1) }
+    ensures cause { HasCauseAt (IsErrOf result ReadAll.Fault) (S.faults source.old) (S.faults source.new) }
 {
     let mut buf = [0u8; PIECE];
     let mut bytes = Vec::new(alloc);
