@@ -69,11 +69,7 @@ fn read_some<S: Source>(
 }
 
 /// Reads all bytes that are left, where these are at most `limit`. After a refusal the bytes that were taken are gone.
-pub fn read_all<S: Source>(
-    alloc: Global,
-    source: &mut S,
-    limit: usize,
-) -> Result<Vec<u8>, ReadAll>
+pub fn read_all<S: Source>(alloc: Global, source: &mut S, limit: usize) -> Result<Vec<u8>, ReadAll>
     requires { limit < usize.MAX }
     ensures all { IfOk result (λ v. Consumes (S.left source.old) (S.left source.new) v.items
         × IsAtEnd (S.left source.new) × (vec_len v ≤ limit)) }
