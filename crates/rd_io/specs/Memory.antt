@@ -1,5 +1,5 @@
 -- What contracts see of the streams over memory. They are this project's own.
-use Rattle.std.specs.Prelude.{◌≡◌, ℕ, ◌+◌, ◌-◌, ◌^◌, ◌≤◌, min, Bool, false, ◌==◌, List, length, Result, Ok, Err, OnOk}
+use Rattle.std.specs.Prelude.{◌≡◌, ℕ, ◌+◌, ◌-◌, ◌^◌, ◌≤◌, min, false, ◌==◌, List, length, Result, Ok, Err, OnOk}
 use Rattle.std.specs.List.{list_any}
 
 -- The number of the next call, the numbers of the calls that are to fail, and the faults so far.
