@@ -1,0 +1,223 @@
+//! Rectangles of pixels as sets of pixels.
+
+ghost use Rattle.std.specs.Prelude.{◌≡◌, ℕ, ℤ, pos, ◌+ℤ◌, ◌≤ℤ◌, ◌↔◌, IfSome, IfNone, IsTrue, ◌&&◌, int_le, int_lt, Bool};
+ghost use Rattle.rd_geom.specs.Plane.{Rectangle, common, has_none, holds_pixel, right, bottom, IsPlaced, between, int_low, inset_by, grown};
+ghost use Rattle.std.specs.Int.{int_max, int_min};
+
+use std::marker::Model;
+
+/// A rectangle of pixels: its left upper pixel, and how many it has across and down (CSS 2.2 section 8.1).
+///
+/// `w` and `h` are not negative, `x` and `y` are at least -1,000,000,000, and `x + w` and `y + h` are at most 1,000,000,000.
+#[derive(PartialEq, Eq, Debug)]
+pub struct Rect {
+    x: i32,
+    y: i32,
+    w: i32,
+    h: i32,
+}
+
+impl Model for Rect {
+    ghost use Rattle.rd_geom.specs.Plane.{Rectangle, IsPlaced};
+
+    ghost Value = { Rectangle };
+
+    ghost view = { λ a. record { x = a.x; y = a.y; w = a.w; h = a.h } };
+
+    ghost invariant = { λ a. IsPlaced (record { x = a.x; y = a.y; w = a.w; h = a.h }) };
+
+    ghost inverse = { λ r. record { x = r.x; y = r.y; w = r.w; h = r.h } };
+}
+
+impl Clone for Rect {
+    fn clone(&self) -> Result<Self, std::alloc::AllocError> {
+        Ok(*self)
+    }
+}
+
+impl Copy for Rect {}
+
+/// A size in canvas pixels.
+#[derive(Clone, Copy, PartialEq, Eq, Debug)]
+pub struct Size {
+    pub w: i32,
+    pub h: i32,
+}
+
+/// Four widths in canvas pixels, as those of a border (CSS 2.2 section 8.1).
+#[derive(Clone, Copy, PartialEq, Eq, Debug)]
+pub struct Sides {
+    pub top: u16,
+    pub right: u16,
+    pub bottom: u16,
+    pub left: u16,
+}
+
+impl Rect {
+    /// The rectangle without a pixel.
+    pub const EMPTY: Rect = Rect {
+        x: 0,
+        y: 0,
+        w: 0,
+        h: 0,
+    };
+
+    /// The rectangle, or None exactly where the limits of the type do not hold of it.
+    pub fn new(x: i32, y: i32, w: i32, h: i32) -> Option<Rect>
+        ensures made { IfSome result (λ r. r ≡ record { x = x; y = y; w = w; h = h }) }
+        ensures placed { IfSome result (λ r. IsPlaced r) }
+        ensures none { IfNone result (IsPlaced (record { x = x; y = y; w = w; h = h }) → ⊥) }
+    {
+        let low = -1_000_000_000;
+        let high = 1_000_000_000;
+        if w < 0 || h < 0 || x < low || y < low {
+            return None;
+        }
+        if x > high - w || y > high - h {
+            return None;
+        }
+        Some(Rect { x, y, w, h })
+    }
+
+    /// The first column.
+    pub fn x(&self) -> i32
+        ensures value { result ≡ self.now.x }
+        ensures placed { IsPlaced self.now }
+    {
+        self.x
+    }
+
+    /// The first row.
+    pub fn y(&self) -> i32
+        ensures value { result ≡ self.now.y }
+        ensures placed { IsPlaced self.now }
+    {
+        self.y
+    }
+
+    /// The number of columns.
+    pub fn w(&self) -> i32
+        ensures value { result ≡ self.now.w }
+        ensures placed { IsPlaced self.now }
+    {
+        self.w
+    }
+
+    /// The number of rows.
+    pub fn h(&self) -> i32
+        ensures value { result ≡ self.now.h }
+        ensures placed { IsPlaced self.now }
+    {
+        self.h
+    }
+
+    /// Is there no pixel in it?
+    pub fn is_empty(&self) -> bool
+        ensures { result ≡ has_none self.now }
+    {
+        self.w <= 0 || self.h <= 0
+    }
+}
+
+/// The pixels from column `left` up to `right` and from row `top` up to `bottom`.
+fn spanning(left: i32, top: i32, right: i32, bottom: i32) -> Rect
+    requires from_left { int_low ≤ℤ left }
+    requires from_top { int_low ≤ℤ top }
+    requires to_right { right ≤ℤ pos 1000000000 }
+    requires to_bottom { bottom ≤ℤ pos 1000000000 }
+    ensures { result ≡ between left top right bottom }
+{
+    if left < right && top < bottom {
+        Rect {
+            x: left,
+            y: top,
+            w: right - left,
+            h: bottom - top,
+        }
+    } else {
+        Rect {
+            x: 0,
+            y: 0,
+            w: 0,
+            h: 0,
+        }
+    }
+}
+
+fn larger(a: i32, b: i32) -> i32
+    ensures { result ≡ int_max a b }
+{
+    if b < a { a } else { b }
+}
+
+fn smaller(a: i32, b: i32) -> i32
+    ensures { result ≡ int_min a b }
+{
+    if b < a { b } else { a }
+}
+
+/// The first column right of a rectangle.
+fn right_of(r: Rect) -> i32
+    ensures value { result ≡ right r }
+    ensures placed { IsPlaced r }
+{
+    r.x + r.w
+}
+
+/// The first row below a rectangle.
+fn bottom_of(r: Rect) -> i32
+    ensures value { result ≡ bottom r }
+    ensures placed { IsPlaced r }
+{
+    r.y + r.h
+}
+
+/// The common pixels of both, or `Rect::EMPTY`.
+pub fn meet(a: Rect, b: Rect) -> Rect
+    ensures { result ≡ common a b }
+{
+    let left = larger(a.x(), b.x());
+    let top = larger(a.y(), b.y());
+    let right = smaller(right_of(a), right_of(b));
+    let bottom = smaller(bottom_of(a), bottom_of(b));
+    spanning(left, top, right, bottom)
+}
+
+/// Is the pixel at column `x` and row `y` in the rectangle?
+pub fn holds(r: Rect, x: i32, y: i32) -> bool
+    ensures { result ≡ holds_pixel r x y }
+{
+    is_within(r.x(), right_of(r), x) && is_within(r.y(), bottom_of(r), y)
+}
+
+/// Is `at` at least `from` and below `to`?
+fn is_within(from: i32, to: i32, at: i32) -> bool
+    ensures { result ≡ (int_le from at && int_lt at to) }
+{
+    from <= at && at < to
+}
+
+/// What the four widths leave of a rectangle, or `Rect::EMPTY` (CSS 2.2 section 8.1).
+pub fn inset(r: Rect, s: Sides) -> Rect
+    ensures { result ≡ inset_by r s.top s.right s.bottom s.left }
+{
+    let left = r.x() + s.left as i32;
+    let top = r.y() + s.top as i32;
+    let right = right_of(r) - s.right as i32;
+    let bottom = bottom_of(r) - s.bottom as i32;
+    spanning(left, top, right, bottom)
+}
+
+/// A rectangle with a border of the given width round it, also where the rectangle is empty.
+pub fn outset(r: Rect, by: u16) -> Rect
+    requires { IsPlaced (grown r by) }
+    ensures { result ≡ grown r by }
+{
+    let by = by as i32;
+    Rect {
+        x: r.x - by,
+        y: r.y - by,
+        w: r.w + 2 * by,
+        h: r.h + 2 * by,
+    }
+}
