@@ -1,0 +1,32 @@
+//! Boxes with their links.
+
+use crate::id::Id;
+use rd_geom::Rect;
+use rd_keys::BoxKey;
+use rd_style::Style;
+
+/// What a box is, but for its place.
+#[derive(Drop)]
+pub(crate) struct Item {
+    pub(crate) id: Id,
+    pub(crate) rect: Rect,
+    pub(crate) style: Style,
+    pub(crate) touched: bool,
+}
+
+/// The neighbours of a box.
+#[derive(Clone, Copy)]
+pub(crate) struct Links {
+    pub(crate) up: Option<BoxKey>,
+    pub(crate) prev: Option<BoxKey>,
+    pub(crate) first: Option<BoxKey>,
+    pub(crate) last: Option<BoxKey>,
+    pub(crate) next: Option<BoxKey>,
+}
+
+/// A box with its neighbours.
+#[derive(Drop)]
+pub(crate) struct Node {
+    pub(crate) item: Item,
+    pub(crate) links: Links,
+}
