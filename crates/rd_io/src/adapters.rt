@@ -1,0 +1,103 @@
+//! std's readers and writers as sources and sinks that tell nothing of their bytes.
+
+ghost use Rattle.std.specs.Prelude.{ℕ, ◌≡◌, ◌≤◌, ◌<◌, length, IfOk};
+ghost use Rattle.rd_io.specs.Causes.{Rose};
+
+use crate::sink::Sink;
+use crate::source::{Failed, Source};
+use std::io::{Read, Write};
+use std::marker::Model;
+
+/// A reader of std as a source. Contracts see its count of faults, one for each `Err` of the reader.
+#[derive(Drop)]
+pub struct ReadSource<R> {
+    reader: R,
+    faults: u64,
+}
+
+impl<R> Model for ReadSource<R> {
+    ghost Value = { ℕ };
+
+    ghost view = { λ s. s.faults };
+}
+
+impl<R: Read> ReadSource<R> {
+    /// A source of the reader's bytes, with no fault so far.
+    pub fn new(reader: R) -> ReadSource<R>
+        ensures { result ≡ 0 }
+    {
+        ReadSource { reader, faults: 0 }
+    }
+}
+
+impl<R: Read> Source for ReadSource<R> {
+    ghost use Rattle.std.specs.Prelude.{None};
+
+    ghost left = { λ s. None };
+
+    ghost faults = { λ s. s };
+
+    fn read(&mut self, buf: &mut [u8]) -> Result<usize, Failed> {
+        match self.reader.read(buf) {
+            Ok(count) => Ok(count),
+            Err(_) => {
+                self.faults = self.faults.saturating_add(1);
+                Err(Failed)
+            }
+        }
+    }
+}
+
+/// A writer of std as a sink that flushes after each write. Contracts see its count of faults: one for each `Err` of
+/// the writer or of its flush, and one where it takes nothing of a piece that is not empty.
+#[derive(Drop)]
+pub struct WriteSink<W> {
+    writer: W,
+    faults: u64,
+}
+
+impl<W> Model for WriteSink<W> {
+    ghost Value = { ℕ };
+
+    ghost view = { λ s. s.faults };
+}
+
+impl<W: Write> WriteSink<W> {
+    /// A sink that writes to the writer, with no fault so far.
+    pub fn new(writer: W) -> WriteSink<W>
+        ensures { result ≡ 0 }
+    {
+        WriteSink { writer, faults: 0 }
+    }
+
+    fn fail(&mut self) -> Failed
+        ensures later { self.old ≤ self.new }
+        ensures rose { Rose self.old self.new }
+    {
+        self.faults = self.faults.saturating_add(1);
+        Failed
+    }
+}
+
+impl<W: Write> Sink for WriteSink<W> {
+    ghost use Rattle.std.specs.Prelude.{None};
+
+    ghost written = { λ s. None };
+
+    ghost faults = { λ s. s };
+
+    fn write(&mut self, piece: &[u8]) -> Result<usize, Failed> {
+        match self.writer.write(piece) {
+            Ok(count) => {
+                if count == 0 && !piece.is_empty() {
+                    return Err(self.fail());
+                }
+                match self.writer.flush() {
+                    Ok(()) => Ok(count),
+                    Err(_) => Err(self.fail()),
+                }
+            }
+            Err(_) => Err(self.fail()),
+        }
+    }
+}

@@ -1,0 +1,1 @@
+//! Which boxes may follow which.
