@@ -4,3 +4,4 @@ pub mod Parts
 pub mod Painting
 pub mod Seen
 pub mod Tests
+pub mod Fresh
