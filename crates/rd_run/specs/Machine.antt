@@ -6,9 +6,10 @@ use Rattle.rd_item.specs.declared.leaf.Leaf.{Leaf}
 use Rattle.rd_list.specs.Entries.{Entries, nil, leaf, group, flat}
 use Rattle.rd_list.specs.Lists.{StandsFor, same_leaf}
 use Rattle.rd_tree.specs.Document.{Document}
-use Rattle.rd_stack.specs.Canvas.{canvas_of}
-use Rattle.rd_stack.specs.Fresh.{fresh_list}
-use Rattle.rd_scene.specs.Scripts.{Command, paint, dump, Script}
+use Rattle.rd_stack.specs.Fresh.{canvas_of, fresh_list}
+use Rattle.rd_scene.specs.Scripts.{Script}
+use Rattle.rd_scene.specs.declared.script.Command.{Command}
+use Rattle.rd_scene.specs.declared.script.Command.TheVariants.{Paint, Dump}
 use Rattle.rd_scene.specs.Planting.{Plants}
 use Rattle.rd_run.specs.Lines.{KeptItem, paint_line, dump_lines}
 
@@ -33,7 +34,7 @@ leaves (group k opacity inner rest) = group k opacity (leaves inner) (leaves res
 
 -- The invalid area, as rectangles: for now every paint paints the whole canvas.
 abbrev pub invalid_area : State → List Rectangle
-invalid_area s = canvas_of s.tree.canvas ∷ []
+invalid_area s = canvas_of s.tree ∷ []
 
 -- does a leaf meet one of these rectangles?
 abbrev pub meets_any : List Rectangle → Leaf → Bool
@@ -72,7 +73,7 @@ pub record Paints (old : State) (text : List ℕ) (new : State) : Type 0 where
   pub stands : StandsFor (leaves new.kept) (fresh_list old.tree)
   pub numbers : AllByRecursion (λ i. i.made ≡ made_after old i.of) (flat new.kept)
   pub settled : new ≡ record { tree = old.tree; last = Some old.tree; pending = false; paints = old.paints + 1; kept = new.kept }
-  pub told : text ≡ paint_line (old.paints + 1) (built old) (kept_on old) (pixels_in (canvas_of old.tree.canvas) (invalid_area old))
+  pub told : text ≡ paint_line (old.paints + 1) (built old) (kept_on old) (pixels_in (canvas_of old.tree) (invalid_area old))
 
 -- a pending list is painted first
 abbrev pub Settles : Bool → State → List ℕ → State → Type 0
@@ -88,8 +89,8 @@ dumped s = dump_lines s.tree.boxes s.kept
 
 -- From old, the machine may answer a command by this text and go on to new.
 abbrev pub Step : State → Command → List ℕ → State → Type 0
-Step old paint text new = Paints old text new
-Step old dump text new = Asks dumped old text new
+Step old Paint text new = Paints old text new
+Step old Dump text new = Asks dumped old text new
 
 -- The machine may answer these commands by this text, one after another.
 abbrev pub Run : State → List Command → List ℕ → State → Type 0
