@@ -4,3 +4,5 @@ pub mod Parts
 pub mod Painting
 pub mod Seen
 pub mod Tests
+pub mod Fresh
+pub mod Looks
