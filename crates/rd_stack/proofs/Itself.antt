@@ -20,7 +20,8 @@ use Rattle.rd_item.specs.declared.leaf.Shape.{Shape}
 use Rattle.rd_geom.specs.declared.color.Color.{Color}
 use Rattle.rd_list.specs.Lists.{StandsFor, same_leaf, same_part, groups, no_group_is_empty}
 use Rattle.rd_stack.specs.Painting.{Painted, steps, grouped, paint, back_border, is_translucent}
-use Rattle.rd_stack.specs.Fresh.{box, painted, canvas_of, fresh_list}
+use Rattle.rd_geom.specs.Canvas.{canvas_of}
+use Rattle.rd_stack.specs.Fresh.{box, painted, fresh_list}
 use Rattle.rd_stack.proofs.Totals.{total, total-append, total-zero}
 use Rattle.rd_stack.proofs.Once.{all}
 use Rattle.rd_stack.proofs.Measures.{IsMeasure, parts}
@@ -318,7 +319,7 @@ once_each empty h = λ j. omega arith
 once_each (tree k d c n) h = λ j. one_of_three j k c n h.0 h.1 h.2 (once_each c h.3 j) (once_each n h.4 j)
 
 -- what the whole painting order counts by a measure
-fresh_least : (t : Document) → IsRooted t → forest.IsApart same_key t.boxes → (n : Entries Leaf → ℕ) (own : BoxData → ℕ) → IsMeasure (canvas_of t) n own
+fresh_least : (t : Document) → IsRooted t → forest.IsApart same_key t.boxes → (n : Entries Leaf → ℕ) (own : BoxData → ℕ) → IsMeasure (canvas_of t.canvas) n own
     → n (fresh_list t) ≤ all kind own t.boxes
 fresh_least t r h n own m =
     let d : Item = r.0 in
@@ -333,8 +334,8 @@ fresh_least t r h n own m =
         let whole : Boxes = tree t.root d below empty in
         let known = known_below (λ j. find j [] whole) [] whole each (λ j l. refl) in
         let few : (j : BoxKey) → hits j (box t.root d) + all kind (hits j) below ≤ 1 = λ j. omega (arith, each j) in
-        let walk = walk_least (λ j. find j [] whole) (canvas_of t) n own m top below refl known.0 tt known.1 few in
-        let entry = m.entry_least (record { at = top; order = steps (canvas_of t) top (painted (canvas_of t) (box t.root d ∷ []) below) }) in
+        let walk = walk_least (λ j. find j [] whole) (canvas_of t.canvas) n own m top below refl known.0 tt known.1 few in
+        let entry = m.entry_least (record { at = top; order = steps (canvas_of t.canvas) top (painted (canvas_of t.canvas) (box t.root d ∷ []) below) }) in
         rw e (omega (arith, walk, entry))
 
 none_at_all : (f : Boxes) → all kind (λ b. 0) f ≡ 0
@@ -345,8 +346,8 @@ pub stands_for_itself : (t : Document) → IsRooted t → forest.IsApart same_ke
 stands_for_itself t r h = record {
   leaves = IsPermutation-refl _;
   once = apart same_leaf (flat (fresh_list t)) same_leaf-refl
-    (λ l. omega (arith, fresh_least t r h (leaves_of l.owner l.part) (hits l.owner) (leaf_measure (canvas_of t) l.owner l.part), once_each t.boxes h l.owner));
-  grouped = apart same_key (groups (fresh_list t)) same_key-refl (λ j. omega (arith, fresh_least t r h (groups_of j) (hits j) (group_measure (canvas_of t) j), once_each t.boxes h j));
-  filled = filled (fresh_list t) (omega (arith, fresh_least t r h empty_groups (λ b. 0) (empty_measure (canvas_of t)), none_at_all t.boxes));
+    (λ l. omega (arith, fresh_least t r h (leaves_of l.owner l.part) (hits l.owner) (leaf_measure (canvas_of t.canvas) l.owner l.part), once_each t.boxes h l.owner));
+  grouped = apart same_key (groups (fresh_list t)) same_key-refl (λ j. omega (arith, fresh_least t r h (groups_of j) (hits j) (group_measure (canvas_of t.canvas) j), once_each t.boxes h j));
+  filled = filled (fresh_list t) (omega (arith, fresh_least t r h empty_groups (λ b. 0) (empty_measure (canvas_of t.canvas)), none_at_all t.boxes));
   ordered = λ a b p q m. refl;
 }

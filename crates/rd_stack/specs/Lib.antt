@@ -5,3 +5,4 @@ pub mod Painting
 pub mod Seen
 pub mod Tests
 pub mod Fresh
+pub mod Looks

@@ -1,8 +1,8 @@
 -- The painting order of a box and of all that is below it.
 use Rattle.std.specs.Prelude.{ℤ, pos, int_lt, nat_lt, Bool, true, false, not, ◌&&◌, ◌||◌, if◌then◌else◌, List, [], ◌∷◌, ◌++◌, filter, Option, Some, None}
 use Rattle.rd_geom.specs.Plane.{Rectangle}
-use Rattle.rd_style.specs.declared.Class.{Class}
-use Rattle.rd_style.specs.declared.Class.TheVariants.{Layer, Float, Atom, Block, Inline}
+use Rattle.rd_style.specs.declared.kinds.Class.{Class}
+use Rattle.rd_style.specs.declared.kinds.Class.TheVariants.{Layer, Float, Atom, Block, Inline}
 use Rattle.rd_style.specs.Boxes.{level, blocky}
 use Rattle.rd_keys.specs.declared.entry.Part.{Part}
 use Rattle.rd_keys.specs.declared.entry.Part.TheVariants.{Back, Border, Content, Outline}

@@ -3,10 +3,10 @@ use Rattle.std.specs.Prelude.{Bool, true, false, ◌||◌, if◌then◌else◌, 
 use Rattle.rd_geom.specs.Plane.{Rectangle, common, no_pixels, has_none, grown}
 use Rattle.rd_geom.specs.declared.color.Color.{Color}
 use Rattle.rd_geom.specs.declared.rect.Sides.{Sides}
-use Rattle.rd_style.specs.declared.Visibility.{Visibility}
-use Rattle.rd_style.specs.declared.Visibility.TheVariants as visibility
-use Rattle.rd_style.specs.declared.Pointer.{Pointer}
-use Rattle.rd_style.specs.declared.Pointer.TheVariants as pointer
+use Rattle.rd_style.specs.declared.kinds.Visibility.{Visibility}
+use Rattle.rd_style.specs.declared.kinds.Visibility.TheVariants as visibility
+use Rattle.rd_style.specs.declared.kinds.Pointer.{Pointer}
+use Rattle.rd_style.specs.declared.kinds.Pointer.TheVariants as pointer
 use Rattle.rd_keys.specs.declared.entry.Part.{Part}
 use Rattle.rd_keys.specs.declared.entry.Part.TheVariants.{Back, Border, Content, Outline}
 use Rattle.rd_item.specs.declared.leaf.Leaf.{Leaf}
@@ -56,7 +56,7 @@ shape_of canvas x Outline = outline x.here
 abbrev pub shown : Rectangle → Spot → Part → Option (Shape × Color) → Option Leaf
 shown canvas x part None = None
 shown canvas x part (Some s) =
-    let visible = common s.0.outer (clip_of canvas x.above x.here.style) in
+    let visible = common s.0.outer (clip_of canvas x) in
     if has_none visible then None else
     Some (record { owner = x.here.key; part = part; visible = visible; shape = s.0; color = s.1; hits = takes_hits x.here.style.pointer })
 

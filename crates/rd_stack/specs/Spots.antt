@@ -2,9 +2,9 @@
 use Rattle.std.specs.Prelude.{ℕ, ◌+◌, ◌-◌, Bool, true, false, not, ◌&&◌, ◌||◌, List, [], ◌∷◌, length, take}
 use Rattle.std.specs.List.{list_all, list_any}
 use Rattle.rd_geom.specs.Plane.{Rectangle, IsPlaced, grown}
-use Rattle.rd_style.specs.declared.Style.{Style}
-use Rattle.rd_style.specs.declared.Class.{Class}
-use Rattle.rd_style.specs.declared.Class.TheVariants.{Layer, Float, Atom, Block, Inline}
+use Rattle.rd_style.specs.declared.styles.Style.{Style}
+use Rattle.rd_style.specs.declared.kinds.Class.{Class}
+use Rattle.rd_style.specs.declared.kinds.Class.TheVariants.{Layer, Float, Atom, Block, Inline}
 use Rattle.rd_style.specs.Boxes.{class, real}
 use Rattle.rd_keys.specs.Keys.{BoxKey, same_key}
 

@@ -1,6 +1,6 @@
 -- The tests by which the plain program picks the boxes of a step.
 use Rattle.std.specs.Prelude.{Bool, ◌&&◌, ◌||◌}
-use Rattle.rd_style.specs.declared.Class.TheVariants.{Block, Float, Inline}
+use Rattle.rd_style.specs.declared.kinds.Class.TheVariants.{Block, Float, Inline}
 use Rattle.rd_stack.specs.Spots.{Spot, is, is_local, is_layer}
 use Rattle.rd_stack.specs.Painting.{Painted}
 

@@ -133,7 +133,7 @@ fn is_translucent(x: &Spot) -> bool
 }
 
 #[tactic(auto, using(crate::proofs::Joined::joins))]
-fn group(alloc: Global, out: &mut PlainList, x: &Painted) -> Result<(), NoMemory>
+pub fn group(alloc: Global, out: &mut PlainList, x: &Painted) -> Result<(), NoMemory>
     ensures { OnOk result (out.new ≡ out.old ▷ painting.grouped (seen x.now)) }
 {
     if is_translucent(&x.at) && x.order.has_leaf() {

@@ -5,8 +5,11 @@
 
 mod clip;
 mod flow;
+mod fresh;
 mod layers;
 mod painted;
 mod parts;
 mod spot;
 mod steps;
+
+pub use fresh::fresh_list;

@@ -94,7 +94,7 @@ fn takes_hits(b: &BoxData) -> bool
 fn shown(canvas: &Rect, x: &Spot, part: Part, shape: &Shape, color: Color) -> Option<Leaf>
     ensures { result ≡ parts.shown canvas.now (spot x.now) part (Some (shape.now, color)) }
 {
-    let visible = meet(shape.outer, clip(canvas, x.here.style(), &x.above));
+    let visible = meet(shape.outer, clip(canvas, x));
     if visible.is_empty() {
         return None;
     }

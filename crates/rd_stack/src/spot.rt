@@ -4,7 +4,7 @@ ghost use Rattle.std.specs.List.{list_all};
 ghost use Rattle.rd_geom.specs.Plane.{IsPlaced, grown};
 ghost use Rattle.rd_stack.specs.Seen.{spot};
 ghost use Rattle.rd_stack.specs.Spots as spots;
-ghost use Rattle.rd_style.specs.declared.Class.TheVariants as classes;
+ghost use Rattle.rd_style.specs.declared.kinds.Class.TheVariants as classes;
 
 use rd_geom::Rect;
 use rd_keys::BoxKey;

@@ -7,7 +7,7 @@ use Rattle.rd_stack.specs.Spots.{is_local, is_layer, is, is_root, is_context}
 use Rattle.rd_stack.specs.Painting as painting
 use Rattle.rd_stack.specs.Tests as tests
 use Rattle.rd_keys.specs.declared.entry.Part.TheVariants as parts
-use Rattle.rd_style.specs.declared.Class.TheVariants as classes
+use Rattle.rd_style.specs.declared.kinds.Class.TheVariants as classes
 use Rattle.rd_stack.proofs.Filters.{filter_both}
 use Rattle.rd_stack.proofs.Twelve.{twelve}
 use Rattle.rd_stack.proofs.steps.steps.Goals as goal
