@@ -3,3 +3,4 @@ pub mod Twelve
 pub mod Filters
 pub mod Joined
 pub mod ByLevel
+pub mod Going
