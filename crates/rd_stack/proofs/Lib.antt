@@ -11,3 +11,4 @@ pub mod Owners
 pub mod Lines
 pub mod Shares
 pub mod Itself
+pub mod Going
