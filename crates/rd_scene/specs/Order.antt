@@ -7,7 +7,7 @@ use Rattle.rd_scene.specs.declared.script.SceneBox.{SceneBox}
 abbrev pub depth_of : List ℕ → List SceneBox → Option ℕ
 depth_of id [] = None
 depth_of id (b ∷ before) =
-    if bytes_eq id b.id then Some (unwrap_or (option_and_then (λ p. depth_of p before) b.parent) 0 + 1) else depth_of id before
+    if bytes_eq b.id id then Some (unwrap_or (option_and_then (λ p. depth_of p before) b.parent) 0 + 1) else depth_of id before
 
 -- the depth of a box with this parent after these boxes
 abbrev pub depth_below : List SceneBox → Option (List ℕ) → ℕ
