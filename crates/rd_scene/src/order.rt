@@ -1,6 +1,6 @@
 //! Which boxes may follow which.
 
-ghost use Rattle.std.specs.Prelude.{◌≡◌, ℕ, ◌+◌, List, [], Some, IfOk, bytes_eq, unwrap_or, option_and_then};
+ghost use Rattle.std.specs.Prelude.{◌≡◌, ℕ, ◌+◌, List, [], Some, IfOk, IfErr, bytes_eq, unwrap_or, option_and_then};
 ghost use Rattle.indexmap.specs.IndexMap.{get_by};
 ghost use Rattle.rd_scene.specs.Members.{only_if};
 ghost use Rattle.rd_scene.specs.Order as spec;
@@ -39,7 +39,8 @@ fn depth_after(depths: &IndexMap<&str, u32>, is_first: bool, parent: &Option<Id>
 
 /// Does each box have an id of its own, and stand after its parent, at most 256 deep? Each box takes constant time.
 pub(crate) fn are_in_order(alloc: Global, boxes: &[SceneBox]) -> Result<bool, SceneFault>
-    ensures { IfOk result (λ b. b ≡ spec.are_in_order [] boxes.now) }
+    ensures value { IfOk result (λ b. b ≡ spec.are_in_order [] boxes.now) }
+    ensures memory { IfErr result (λ e. e ≡ SceneFault.NoMemory) }
 {
     let mut depths = IndexMap::new(alloc);
     for (i, b) in boxes.iter().enumerate() {

@@ -4,8 +4,8 @@ use Rattle.rd_scene.specs.Order as spec
 use Rattle.rd_scene.proofs.OrderLemmas.{refused, admitted, before_more, next_box, first_at, no_place, taken_id, may_stand, depths_more}
 use Rattle.rd_scene.proofs.order.are_in_order.Goals as goal
 
-pub returns-in_default : goal.returns-in_default
-returns-in_default c =
+pub returns-in_default-clause-value : goal.returns-in_default-clause-value
+returns-in_default-clause-value c =
     let within : c.loop-i.i < length c.args.boxes.now = omega arith in
     let b = c.index-boxes-i.result in
     let before = reverse (take c.loop-i.i c.args.boxes.now) in
@@ -15,8 +15,8 @@ returns-in_default c =
     let place : spec.has_place before b.parent ≡ false = refused _ _ (sym answer ∙ c.in_default.is) in
     sym (no_place before rest b place) ∙ sym (ap (spec.are_in_order before) (next_box _ _ b within c.index-boxes-i.is)) ∙ c.loop-i.invariant.rest
 
-pub returns-then-is_some : goal.returns-then-is_some
-returns-then-is_some c =
+pub returns-then-is_some-clause-value : goal.returns-then-is_some-clause-value
+returns-then-is_some-clause-value c =
     let within : c.loop-i.i < length c.args.boxes.now = omega arith in
     let b = c.index-boxes-i.result in
     let before = reverse (take c.loop-i.i c.args.boxes.now) in
