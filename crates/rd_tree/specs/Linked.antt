@@ -1,11 +1,15 @@
 -- An arena of nodes that are linked as a forest.
-use Rattle.std.specs.Prelude.{◌≡◌, ℕ, ◌≤◌, Bool, true, Option, Some, None, option_map, is_some}
+use Rattle.std.specs.Prelude.{◌≡◌, ℕ, ◌≤◌, Bool, true, List, Option, Some, None, option_map, is_some, if◌then◌else◌}
+use Rattle.std.specs.HashMap.{HashMap, get_by_text}
+use Rattle.std.specs.Prelude.{String}
+use Rattle.std.specs.Str.{bytes_eq}
 use Rattle.rd_keys.specs.Keys.{same_key}
 use Rattle.rd_keys.specs.Arena.{Arena, value, occupied}
 use Rattle.rd_tree.specs.declared.node.Node as inner
 use Rattle.rd_tree.specs.Forest.{size, has, IsApart}
 use Rattle.rd_tree.specs.Links.{Node, Stands, read}
 use Rattle.rd_tree.specs.Document.{BoxKey, Item, Boxes}
+use Rattle.rd_tree.specs.Limits.{FitsRect, Fits}
 use Rattle.rd_tree.specs.Shown.{Shown}
 
 abbrev pub plain : inner.Node → Node BoxKey Item
@@ -31,6 +35,29 @@ pub record IsTree (a : Arena inner.Node) (root : BoxKey) : Type 0 where
   pub boxes : Boxes
   pub is : IsLinked a root boxes
   pub most : occupied a ≤ a.limit
+
+-- the item under a key
+abbrev pub item_at : Arena inner.Node → BoxKey → Option Item
+item_at a k = option_map (λ n. n.item) (linked a k)
+
+-- The index has the key of each item under its id, and no other.
+pub record IsIndexed {Y S : Type 0} (at : BoxKey → Option Item) (ids : HashMap (String Y) BoxKey S) : Type 0 where
+  pub named : (k : BoxKey) (d : Item) → at k ≡ Some d → get_by_text ids d.id ≡ Some k
+  pub live : (i : List ℕ) (k : BoxKey) → get_by_text ids i ≡ Some k → option_map (λ d. d.id) (at k) ≡ Some i
+
+-- The new index has k under this id, and all else as it was.
+abbrev pub AddsText : {Y S : Type 0} → List ℕ → BoxKey → HashMap (String Y) BoxKey S → HashMap (String Y) BoxKey S → Type 0
+AddsText i k old new = (j : List ℕ) → get_by_text new j ≡ (if bytes_eq i j then Some k else get_by_text old j)
+
+abbrev pub EachFits : (BoxKey → Option Item) → Type 0
+EachFits at = (k : BoxKey) (d : Item) → at k ≡ Some d → FitsRect d.rect × Fits d.style
+
+-- What the fields of a tree always keep.
+pub record IsSound {Y S : Type 0} (a : Arena inner.Node) (root : BoxKey) (ids : HashMap (String Y) BoxKey S) : Type 0 where
+  pub tree : IsTree a root
+  pub indexed : IsIndexed (item_at a) ids
+  pub fits : EachFits (item_at a)
+  pub limit : a.limit ≡ 20000
 
 abbrev pub seen : Arena inner.Node → BoxKey → Boxes
 seen a root = read a.limit (linked a) (Some root)

@@ -1,8 +1,9 @@
 //! The ids of boxes.
 
-ghost use Rattle.std.specs.Prelude.{◌≡◌, ◌↔◌, IfOk, IsTrue};
+ghost use Rattle.std.specs.Prelude.{◌≡◌, ◌↔◌, IfOk, IsTrue, string_bytes};
 ghost use Rattle.rd_tree.specs.Ids.{IsIdByte, IsIdText};
 
+use rd_geom::NoMemory;
 use std::alloc::Global;
 use std::marker::Model;
 
@@ -70,5 +71,21 @@ impl Id {
         ensures well_formed { IsIdText self.now }
     {
         self.text.as_str()
+    }
+
+    /// The same id once more.
+    pub(crate) fn copy(&self) -> Result<Id, NoMemory>
+        ensures { IfOk result (λ id. id ≡ self.now) }
+    {
+        Ok(Id {
+            text: self.text.clone()?,
+        })
+    }
+
+    /// The text of the id, to keep.
+    pub(crate) fn name(&self) -> Result<String, NoMemory>
+        ensures { IfOk result (λ text. string_bytes text ≡ self.now) }
+    {
+        self.text.clone()
     }
 }

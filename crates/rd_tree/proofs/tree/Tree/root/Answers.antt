@@ -1,5 +1,9 @@
 use Rattle.rd_tree.proofs.Rooting.{rooted_seen}
+use Rattle.rd_tree.proofs.Naming.{fits_seen}
 use Rattle.rd_tree.proofs.tree.Tree.root.Goals as goal
 
 pub returns-clause-rooted : goal.returns-clause-rooted
-returns-clause-rooted g c = rw (← c.self.view_is) (rooted_seen c.self.inside.nodes c.self.inside.root c.self.invariant)
+returns-clause-rooted g c = rw (← c.self.view_is) (rooted_seen c.self.inside.nodes c.self.inside.root c.self.invariant.tree)
+
+pub returns-clause-limits : goal.returns-clause-limits
+returns-clause-limits g c = rw (← c.self.view_is) (fits_seen c.self.inside.nodes c.self.inside.root c.self.inside.ids c.self.invariant)

@@ -1,0 +1,2 @@
+-- What a box may be.
+pub use Rattle.rd_style.specs.Limits.{FitsRect, Fits}
