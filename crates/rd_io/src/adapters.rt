@@ -1,41 +1,37 @@
-//! std's readers and writers as sources and sinks that tell nothing of their bytes.
+//! std's readers and writers as sources and sinks. Of the bytes of files, pipes and terminals std tells nothing.
 
 ghost use Rattle.std.specs.Prelude.{ℕ, ◌≡◌, ◌≤◌, ◌<◌, length, IfOk};
 ghost use Rattle.rd_io.specs.Causes.{Rose};
+ghost use Rattle.rd_io.specs.Readers.{reader_of, faults_of};
 
 use crate::sink::Sink;
 use crate::source::{Failed, Source};
 use std::io::{Read, Write};
 use std::marker::Model;
 
-/// A reader of std as a source. Contracts see its count of faults, one for each `Err` of the reader.
+/// A reader of std as a source, which tells of its bytes what the reader tells. Each `Err` of the reader is a fault.
 #[derive(Drop)]
 pub struct ReadSource<R> {
     reader: R,
     faults: u64,
 }
 
-impl<R> Model for ReadSource<R> {
-    ghost Value = { ℕ };
-
-    ghost view = { λ s. s.faults };
-}
-
 impl<R: Read> ReadSource<R> {
     /// A source of the reader's bytes, with no fault so far.
     pub fn new(reader: R) -> ReadSource<R>
-        ensures { result ≡ 0 }
+        ensures reader { reader_of result ≡ reader }
+        ensures faults { faults_of result ≡ 0 }
     {
         ReadSource { reader, faults: 0 }
     }
 }
 
 impl<R: Read> Source for ReadSource<R> {
-    ghost use Rattle.std.specs.Prelude.{None};
+    ghost use Rattle.rd_io.specs.Readers.{reader_of, faults_of};
 
-    ghost left = { λ s. None };
+    ghost left = { λ s. R.remaining (reader_of s) };
 
-    ghost faults = { λ s. s };
+    ghost faults = { λ s. faults_of s };
 
     fn read(&mut self, buf: &mut [u8]) -> Result<usize, Failed> {
         match self.reader.read(buf) {

@@ -3,7 +3,7 @@
 use Rattle.std.specs.Prelude.{ℕ, ◌+◌, ℤ, int_le, Bool, true, ◌&&◌, nat_le, if◌then◌else◌, List, [], ◌∷◌, bytes_eq, Option, Some, None}
 use Rattle.std.specs.List.{list_any}
 use Rattle.serde_json.specs.Data.{Data, Items, no_items, item, Members, no_members, member}
-use Rattle.serde_json.specs.Find.{as_number, as_array, as_i64}
+use Rattle.serde_json.specs.Find.{get, as_number, as_array, as_i64}
 
 infixl 10 ◌>>=◌
 abbrev pub ◌>>=◌ : {A B : Type 0} → Option A → (A → Option B) → Option B
@@ -38,6 +38,10 @@ count (item d ds) = count ds + 1
 -- an array of low to high elements
 abbrev pub array_of : ℕ → ℕ → Data → Option Items
 array_of low high d = as_array d >>= λ ds. only_if (nat_le low (count ds) && nat_le (count ds) high) (Some ds)
+
+-- the elements of the array at a member
+abbrev pub elements : List ℕ → ℕ → ℕ → Data → Option Items
+elements name low high d = get name d >>= array_of low high
 
 -- what each element is read as, where each is
 abbrev pub each : {A : Type 0} → (Data → Option A) → Items → Option (List A)

@@ -3,6 +3,7 @@ use Rattle.std.specs.Prelude.{◌≡◌, ℕ, List, map, Option, Some, None, Res
 use Rattle.std.specs.Borrow.{Bor}
 use Rattle.serde_json.specs.Data.{Data}
 use Rattle.serde_json.specs.Read.{read}
+use Rattle.rd_scene.specs.Scripts.{Script, script_of}
 use Rattle.rd_scene.specs.declared.fault.SceneFault.{SceneFault}
 use Rattle.rd_scene.specs.declared.fault.SceneFault.TheVariants.{NotJson, Form, NoMemory}
 
@@ -13,6 +14,14 @@ Reads bytes d = IsUtf8 bytes × (read bytes ≡ Some d)
 -- no value at all
 abbrev pub HasNoReading : List ℕ → Type 0
 HasNoReading bytes = (d : Data) → Reads bytes d → ⊥
+
+-- the bytes are JSON, and their value is this script
+abbrev pub IsScriptText : List ℕ → Script → Type 0
+IsScriptText bytes s = (d : Data) × Reads bytes d × (script_of d ≡ Some s)
+
+-- the bytes are JSON, and their value is no script
+abbrev pub IsOffForm : List ℕ → Type 0
+IsOffForm bytes = (d : Data) × Reads bytes d × (script_of d ≡ None)
 
 -- A refusal of a value that is at hand: off the grammar, or out of memory.
 abbrev pub Fails : {X : Type 0} → SceneFault → Option X → Type 0

@@ -6,7 +6,7 @@ use Rattle.rd_geom.specs.declared.rect.Size.{Size}
 use Rattle.rd_style.specs.Limits.{Fits, FitsRect, IsBetween}
 use Rattle.rd_scene.specs.declared.script.SceneBox.{SceneBox}
 use Rattle.rd_scene.specs.declared.script.Command.{Command}
-use Rattle.rd_scene.specs.Members.{◌>>=◌, only_if, has_only, from_to, array_of, each}
+use Rattle.rd_scene.specs.Members.{◌>>=◌, only_if, has_only, from_to, elements, each}
 use Rattle.rd_scene.specs.Rects.{canvas_of}
 use Rattle.rd_scene.specs.Boxes.{box_of}
 use Rattle.rd_scene.specs.Order.{are_in_order}
@@ -43,7 +43,7 @@ script_of d = do
   ms ← as_object d
   version ← (get (codes "version") d >>= from_to (pos 1) (pos 1))
   canvas ← (get (codes "canvas") d >>= canvas_of)
-  boxes ← (get (codes "boxes") d >>= λ v. array_of 1 20000 v >>= each box_of)
-  commands ← (get (codes "script") d >>= λ v. array_of 0 1000000 v >>= each command_of)
+  boxes ← (elements (codes "boxes") 1 20000 d >>= each box_of)
+  commands ← (elements (codes "script") 0 1000000 d >>= each command_of)
   only_if (has_only (codes "version" ∷ codes "canvas" ∷ codes "boxes" ∷ codes "script" ∷ []) ms)
     (only_if (are_in_order [] boxes) (Some (record { canvas = canvas; boxes = boxes; commands = commands })))

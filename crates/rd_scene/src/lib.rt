@@ -15,5 +15,5 @@ mod script;
 mod styles;
 
 pub use fault::SceneFault;
-// pub use reader::read;
+pub use reader::read;
 pub use script::{Command, SceneBox, Script};

@@ -1,6 +1,6 @@
 //! Members of objects, whole numbers and arrays.
 
-ghost use Rattle.std.specs.Prelude.{◌≡◌, ℕ, Bool, List, map, string_bytes, bytes_eq, option_map, IfSome};
+ghost use Rattle.std.specs.Prelude.{◌≡◌, ℕ, Bool, List, map, string_bytes, bytes_eq, option_map, IfSome, ◌≤◌, length};
 ghost use Rattle.std.specs.List.{list_any, list_all};
 ghost use Rattle.std.specs.BTreeMap.{keys};
 ghost use Rattle.serde_json.specs.View.{view, members_view, items_view};
@@ -62,8 +62,10 @@ pub(crate) fn from_to(low: i32, high: i32, v: &Value) -> Option<i32>
 
 /// The elements of an array of `low` to `high` of them.
 #[tactic(auto, using(crate::proofs::Items::items))]
-pub(crate) fn array_of(low: usize, high: usize, v: &Value) -> Option<&[Value]>
-    ensures { option_map (λ xs. items_view xs.now) result ≡ spec.array_of low high (view v.now) }
+fn array_of(low: usize, high: usize, v: &Value) -> Option<&[Value]>
+    ensures value { option_map (λ xs. items_view xs.now) result ≡ spec.array_of low high (view v.now) }
+    ensures low { IfSome result (λ xs. low ≤ length xs.now) }
+    ensures high { IfSome result (λ xs. length xs.now ≤ high) }
 {
     let list = v.as_array()?;
     if low <= list.len() && list.len() <= high {
@@ -71,4 +73,18 @@ pub(crate) fn array_of(low: usize, high: usize, v: &Value) -> Option<&[Value]>
     } else {
         None
     }
+}
+
+/// The elements of the array that the member of this name is.
+pub(crate) fn elements<'a>(
+    v: &'a Value,
+    name: &str,
+    low: usize,
+    high: usize,
+) -> Option<&'a [Value]>
+    ensures value { option_map (λ xs. items_view xs.now) result ≡ spec.elements name.now low high (view v.now) }
+    ensures low { IfSome result (λ xs. low ≤ length xs.now) }
+    ensures high { IfSome result (λ xs. length xs.now ≤ high) }
+{
+    array_of(low, high, member(v, name)?)
 }
