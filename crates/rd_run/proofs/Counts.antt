@@ -8,7 +8,7 @@ use Rattle.rd_list.specs.declared.plain.PlainEntry.{PlainEntry}
 use Rattle.rd_list.specs.declared.plain.PlainEntry.TheVariants.{Leaf, Group}
 use Rattle.rd_list.proofs.Joins.{listed-append, flat-join}
 use Rattle.rd_tree.specs.Document.{Boxes}
-use Rattle.rd_run.specs.Lines.{KeptItem, lines, width}
+use Rattle.rd_run.specs.Lines.{KeptItem, item_line, group_line, lines, width}
 use Rattle.rd_run.specs.Display.{stamped}
 
 pub width-stamped : (n : ℕ) (xs : Entries item.Leaf) → width (stamped n xs) ≡ width xs
@@ -34,8 +34,11 @@ stamped-join n (group k o inner xs) ys = ap (group k o (stamped n inner)) (stamp
 
 lines-join : (t : Boxes) (d : ℕ) (xs ys : Entries KeptItem) → lines t d (xs ▷ ys) ≡ lines t d xs ++ lines t d ys
 lines-join t d nil ys = refl
-lines-join t d (leaf i xs) ys = rw (lines-join t d xs ys) (simp append_assoc)
-lines-join t d (group k o inner xs) ys = rw (lines-join t d xs ys) (simp append_assoc)
+lines-join t d (leaf i xs) ys =
+    ap (λ z. item_line t d i ++ z) (lines-join t d xs ys) ∙ sym (append_assoc (item_line t d i) (lines t d xs) (lines t d ys))
+lines-join t d (group k o inner xs) ys =
+    let front : List ℕ = group_line t d k o (width inner) ++ lines t (d + 1) inner in
+    ap (λ z. front ++ z) (lines-join t d xs ys) ∙ sym (append_assoc front (lines t d xs) (lines t d ys))
 
 -- one more entry's lines
 pub lines_more : (t : Boxes) (d n : ℕ) (es : List PlainEntry) (i : ℕ) (x : PlainEntry) (begun before after : List ℕ) → i < length es → x ≡ get_or es i x

@@ -1,5 +1,6 @@
 -- Ids of boxes, as they are written.
-use Rattle.std.specs.Prelude.{ℕ, List, [], option_map_or}
+use Rattle.std.specs.Prelude.{ℕ, List, []}
+use Rattle.std.specs.Option.{option_map_or}
 use Rattle.rd_keys.specs.Keys.{BoxKey}
 use Rattle.rd_tree.specs.Document as document
 use Rattle.rd_tree.specs.Document.{Boxes}

@@ -11,5 +11,3 @@ mod words;
 
 pub use run::run;
 
-#[cfg(test)]
-mod tests;
