@@ -1,0 +1,63 @@
+//! The tree of a script.
+
+ghost use Rattle.std.specs.Prelude.{◌≡◌, IfOk, OnOk, OnErr, Some, None, IsSome};
+ghost use Rattle.rd_tree.specs.Document.{HasRoom, named};
+ghost use Rattle.rd_scene.specs.Planting as spec;
+ghost use Rattle.rd_scene.specs.Planting.{Begins, Adds, Plants};
+ghost use Rattle.rd_scene.specs.Scripts.{FitsBox};
+
+use crate::script::{SceneBox, Script};
+use rd_geom::NoMemory;
+use rd_tree::{BoxKey, Id, IdFault, Tree};
+use std::alloc::Global;
+use std::sync::ledger::Ledger;
+
+fn copy_of(alloc: Global, id: &Id) -> Result<Id, NoMemory>
+    ensures { IfOk result (λ i. i ≡ id.now) }
+{
+    match Id::new(alloc, id.text()) {
+        Ok(id) => Ok(id),
+        Err(IdFault::Form) => unreachable!(),
+        Err(IdFault::NoMemory) => Err(NoMemory),
+    }
+}
+
+/// The parent of the box in the tree.
+fn parent_key<B: Ledger>(tree: &Tree<B>, b: &SceneBox) -> Option<BoxKey>
+    ensures { result ≡ spec.parent_in tree.now.boxes b.now }
+{
+    let id = b.parent.as_ref()?;
+    tree.find(id)
+}
+
+/// A box more, as the last child of its parent.
+#[tactic(auto, using(crate::proofs::Names::parent_there))]
+fn add<B: Ledger>(tree: &mut Tree<B>, b: &SceneBox) -> Result<(), NoMemory>
+    requires parent { IsSome (spec.parent_in tree.old.boxes b.now) }
+    requires new_id { named b.now.id tree.old.boxes ≡ None }
+    requires room { HasRoom tree.old }
+    requires fits { FitsBox b.now }
+    ensures { OnOk result (Adds b.now tree.old tree.new) }
+{
+    let Some(parent) = parent_key(tree, b) else {
+        unreachable!()
+    };
+    tree.insert(parent, None, &b.id, b.rect, b.style)?;
+    Ok(())
+}
+
+/// The tree of the script's boxes: the first is the root, and each other the last child of its parent at that point. Every
+/// box is touched. The script stays.
+pub fn plant<B: Ledger>(alloc: Global, script: &Script) -> Result<Tree<B>, NoMemory>
+    ensures { IfOk result (λ t. Plants script.now t) }
+{
+    let [root, rest @ ..] = script.boxes.as_slice() else {
+        unreachable!()
+    };
+    let id = copy_of(alloc, &root.id)?;
+    let mut tree = Tree::new(alloc, script.canvas, id, root.rect, root.style)?;
+    for b in rest {
+        add(&mut tree, b)?;
+    }
+    Ok(tree)
+}
