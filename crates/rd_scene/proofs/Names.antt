@@ -69,8 +69,8 @@ named_children i p empty = refl
 named_children i p (tree k d below rest) =
     named_tree i k d below rest ∙
     elim (same_key p k) as (λ b. (bytes_eq d.id i || (is_named i below || is_named i rest))
-        ≡ (cond b (bytes_eq d.id i || is_named i rest) (bytes_eq d.id i || (outside i p below || outside i p rest))
-            || is_named i (cond b below (children same_key p below ▷ children same_key p rest)))) [
+    ≡ (cond b (bytes_eq d.id i || is_named i rest) (bytes_eq d.id i || (outside i p below || outside i p rest))
+    || is_named i (cond b below (children same_key p below ▷ children same_key p rest)))) [
       | true ↦ swap (bytes_eq d.id i) (is_named i below) (is_named i rest)
       | false ↦ rw (named_children i p below, named_children i p rest, named_join i (children same_key p below) (children same_key p rest))
           (sort (bytes_eq d.id i) (outside i p below) (is_named i (children same_key p below)) (outside i p rest) (is_named i (children same_key p rest)))
@@ -81,13 +81,13 @@ unfolding outside
 named_under i p g empty = refl
 named_under i p g (tree k d below rest) =
     elim (same_key p k) as (λ b. is_named i (cond b (tree k d g rest) (tree k d (under same_key p g below) (under same_key p g rest)))
-        ≡ (cond b (bytes_eq d.id i || is_named i rest) (bytes_eq d.id i || (outside i p below || outside i p rest))
-            || ((b || (has same_key p below || has same_key p rest)) && is_named i g))) [
+    ≡ (cond b (bytes_eq d.id i || is_named i rest) (bytes_eq d.id i || (outside i p below || outside i p rest))
+    || ((b || (has same_key p below || has same_key p rest)) && is_named i g))) [
       | true ↦ named_tree i k d g rest ∙ swap (bytes_eq d.id i) (is_named i g) (is_named i rest)
       | false ↦ named_tree i k d (under same_key p g below) (under same_key p g rest)
           ∙ rw (named_under i p g below, named_under i p g rest)
           (sort (bytes_eq d.id i) (outside i p below) (has same_key p below && is_named i g) (outside i p rest) (has same_key p rest && is_named i g)
-           ∙ ap (λ b. (bytes_eq d.id i || (outside i p below || outside i p rest)) || b) (both (has same_key p below) (has same_key p rest) (is_named i g)))
+          ∙ ap (λ b. (bytes_eq d.id i || (outside i p below || outside i p rest)) || b) (both (has same_key p below) (has same_key p rest) (is_named i g)))
     ]
 
 -- Once a box is added, its id is there besides those of before.
@@ -110,6 +110,7 @@ there_first i k j d below rest down on h = by (bytes_eq d.id i) h
     deeper : (o : Option BoxKey) → named i below ≡ o → or_else o (named i rest) ≡ Some k → (has same_key k below || has same_key k rest) ≡ true
     deeper None e h = from_right (has same_key k below) (has same_key k rest) (on h)
     deeper (Some l) e h = from_left (has same_key k below) (has same_key k rest) (down (e ∙ h))
+
     by : (b : Bool) → cond b (Some j) (or_else (named i below) (named i rest)) ≡ Some k → (same_key k j || (has same_key k below || has same_key k rest)) ≡ true
     by true h = from_left (same_key k j) (has same_key k below || has same_key k rest) (let e : j ≡ k = cc in rw e (same_key-refl k))
     by false h = from_right (same_key k j) (has same_key k below || has same_key k rest) (deeper (named i below) refl h)

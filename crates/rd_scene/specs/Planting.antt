@@ -14,9 +14,9 @@ item_of b = record { id = b.id; rect = b.rect; style = b.style; touched = true }
 abbrev pub parent_in : Boxes → SceneBox → Option BoxKey
 parent_in boxes b = option_and_then (λ p. named p boxes) b.parent
 
--- The root alone, under any key.
-abbrev pub Begins : Script → SceneBox → Document → Type 0
-Begins s b t = (k : BoxKey) × (t ≡ record { canvas = s.canvas; root = k; boxes = tree k (item_of b) empty empty; taken = 1 })
+-- This box alone, under any key.
+abbrev pub IsAlone : SceneBox → Document → Type 0
+IsAlone b t = (t.boxes ≡ tree t.root (item_of b) empty empty) × (t.taken ≡ 1)
 
 -- A box more, as the last child of its parent, under any key that no box has.
 abbrev pub Adds : SceneBox → Document → Document → Type 0
@@ -28,10 +28,11 @@ abbrev pub AddsAll : List SceneBox → Document → Document → Type 0
 AddsAll [] old new = new ≡ old
 AddsAll (b ∷ bs) old new = (t : Document) × Adds b old t × AddsAll bs t new
 
--- The tree has the script's canvas and boxes, the first as its root.
-abbrev pub PlantsAll : Script → List SceneBox → Document → Type 0
-PlantsAll s [] t = ⊥
-PlantsAll s (b ∷ bs) t = (root : Document) × Begins s b root × AddsAll bs root t
+-- From the first box alone, all others are added.
+abbrev pub Grows : List SceneBox → Document → Document → Type 0
+Grows [] root t = ⊥
+Grows (b ∷ bs) root t = IsAlone b root × AddsAll bs root t
 
+-- The tree has the script's canvas and its boxes.
 abbrev pub Plants : Script → Document → Type 0
-Plants s t = PlantsAll s s.boxes t
+Plants s t = (root : Document) × (root.canvas ≡ s.canvas) × Grows s.boxes root t

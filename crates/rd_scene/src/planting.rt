@@ -1,9 +1,10 @@
 //! The tree of a script.
 
-ghost use Rattle.std.specs.Prelude.{◌≡◌, IfOk, OnOk, OnErr, Some, None, IsSome};
+ghost use Rattle.std.specs.Prelude.{◌≡◌, ◌<◌, true, [], ◌∷◌, length, All, IfOk, OnOk, None, IsSome};
 ghost use Rattle.rd_tree.specs.Document.{HasRoom, named};
+ghost use Rattle.rd_scene.specs.Order.{are_in_order};
 ghost use Rattle.rd_scene.specs.Planting as spec;
-ghost use Rattle.rd_scene.specs.Planting.{Begins, Adds, Plants};
+ghost use Rattle.rd_scene.specs.Planting.{IsAlone, Adds, AddsAll, Plants};
 ghost use Rattle.rd_scene.specs.Scripts.{FitsBox};
 
 use crate::script::{SceneBox, Script};
@@ -46,18 +47,34 @@ fn add<B: Ledger>(tree: &mut Tree<B>, b: &SceneBox) -> Result<(), NoMemory>
     Ok(())
 }
 
+/// These boxes more, in turn, in a tree of the first box alone.
+fn add_all<B: Ledger>(
+    tree: &mut Tree<B>,
+    first: &SceneBox,
+    rest: &[SceneBox],
+) -> Result<(), NoMemory>
+    requires alone { IsAlone first.now tree.old }
+    requires order { are_in_order (first.now ∷ []) rest.now ≡ true }
+    requires most { length rest.now < 20000 }
+    requires fits { All FitsBox rest.now }
+    ensures { OnOk result (AddsAll rest.now tree.old tree.new) }
+{
+    for b in rest {
+        add(tree, b)?;
+    }
+    Ok(())
+}
+
 /// The tree of the script's boxes: the first is the root, and each other the last child of its parent at that point. Every
 /// box is touched. The script stays.
 pub fn plant<B: Ledger>(alloc: Global, script: &Script) -> Result<Tree<B>, NoMemory>
     ensures { IfOk result (λ t. Plants script.now t) }
 {
-    let [root, rest @ ..] = script.boxes.as_slice() else {
+    let [first, rest @ ..] = script.boxes.as_slice() else {
         unreachable!()
     };
-    let id = copy_of(alloc, &root.id)?;
-    let mut tree = Tree::new(alloc, script.canvas, id, root.rect, root.style)?;
-    for b in rest {
-        add(&mut tree, b)?;
-    }
+    let id = copy_of(alloc, &first.id)?;
+    let mut tree = Tree::new(alloc, script.canvas, id, first.rect, first.style)?;
+    add_all(&mut tree, first, rest)?;
     Ok(tree)
 }
