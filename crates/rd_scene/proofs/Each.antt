@@ -19,5 +19,5 @@ pub each_more : {A : Type 0} (read : Data → Option A) (done : List A) (vs : Li
     → after (done ++ a ∷ []) (each read (items_view (drop (i + 1) vs))) ≡ after done (each read (items_view (drop i vs)))
 each_more read done vs i v a within is reads = rw (add-one i) (
     after_more done a _ ∙ sym (ap (λ l. after done (each read (items_view l))) (drop-cons vs i v within)
-      ∙ ap (λ w. after done (each read (items_view (w ∷ drop (suc i) vs)))) (sym is)
-      ∙ ap (λ o. after done (o >>= λ b. (each read (items_view (drop (suc i) vs)) >>= λ more. Some (b ∷ more)))) reads))
+    ∙ ap (λ w. after done (each read (items_view (w ∷ drop (suc i) vs)))) (sym is)
+    ∙ ap (λ o. after done (o >>= λ b. (each read (items_view (drop (suc i) vs)) >>= λ more. Some (b ∷ more)))) reads))

@@ -35,4 +35,4 @@ box_of d = do
   rect ← (get (codes "rect") d >>= rect_of)
   style ← optional plain style_of (get (codes "style") d)
   only_if (has_only (codes "id" ∷ codes "parent" ∷ codes "rect" ∷ codes "style" ∷ []) ms)
-    (Some (record { id = id; parent = parent; rect = rect; style = style }))
+      (Some (record { id = id; parent = parent; rect = rect; style = style }))

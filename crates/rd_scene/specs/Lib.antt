@@ -3,6 +3,7 @@ pub mod Colors
 pub mod Commands
 pub mod Members
 pub mod Order
+pub mod Planting
 pub mod Reading
 pub mod Rects
 pub mod Scripts

@@ -46,4 +46,4 @@ script_of d = do
   boxes ← (elements (codes "boxes") 1 20000 d >>= each box_of)
   commands ← (elements (codes "script") 0 1000000 d >>= each command_of)
   only_if (has_only (codes "version" ∷ codes "canvas" ∷ codes "boxes" ∷ codes "script" ∷ []) ms)
-    (only_if (are_in_order [] boxes) (Some (record { canvas = canvas; boxes = boxes; commands = commands })))
+      (only_if (are_in_order [] boxes) (Some (record { canvas = canvas; boxes = boxes; commands = commands })))

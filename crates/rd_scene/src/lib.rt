@@ -9,11 +9,13 @@ mod commands;
 mod fault;
 mod members;
 mod order;
+mod planting;
 mod reader;
 mod rects;
 mod script;
 mod styles;
 
 pub use fault::SceneFault;
+pub use planting::plant;
 pub use reader::read;
 pub use script::{Command, SceneBox, Script};

@@ -76,12 +76,7 @@ fn array_of(low: usize, high: usize, v: &Value) -> Option<&[Value]>
 }
 
 /// The elements of the array that the member of this name is.
-pub(crate) fn elements<'a>(
-    v: &'a Value,
-    name: &str,
-    low: usize,
-    high: usize,
-) -> Option<&'a [Value]>
+pub(crate) fn elements<'a>(v: &'a Value, name: &str, low: usize, high: usize) -> Option<&'a [Value]>
     ensures value { option_map (λ xs. items_view xs.now) result ≡ spec.elements name.now low high (view v.now) }
     ensures low { IfSome result (λ xs. low ≤ length xs.now) }
     ensures high { IfSome result (λ xs. length xs.now ≤ high) }

@@ -19,20 +19,10 @@ fn depth_after(depths: &IndexMap<&str, u32>, is_first: bool, parent: &Option<Id>
         → result ≡ only_if (spec.has_place before parent.now) (Some (spec.depth_below before parent.now)) }
 {
     match parent {
-        None => {
-            if is_first {
-                Some(1)
-            } else {
-                None
-            }
-        }
+        None => { if is_first { Some(1) } else { None } }
         Some(parent) => {
             let above = *depths.get(parent.text())?;
-            if above < 256 {
-                Some(above + 1)
-            } else {
-                None
-            }
+            if above < 256 { Some(above + 1) } else { None }
         }
     }
 }

@@ -11,7 +11,7 @@ returns-in_default-clause-value c =
     let before = reverse (take c.loop-i.i c.args.boxes.now) in
     let rest = drop (c.loop-i.i + 1) c.args.boxes.now in
     let answer : c.depth_after.result ≡ only_if (spec.has_place before b.parent) (Some (spec.depth_below before b.parent)) =
-        c.depth_after.ensures before c.loop-i.invariant.depths (first_at _ _ b within) in
+    c.depth_after.ensures before c.loop-i.invariant.depths (first_at _ _ b within) in
     let place : spec.has_place before b.parent ≡ false = refused _ _ (sym answer ∙ c.in_default.is) in
     sym (no_place before rest b place) ∙ sym (ap (spec.are_in_order before) (next_box _ _ b within c.index-boxes-i.is)) ∙ c.loop-i.invariant.rest
 
@@ -22,8 +22,8 @@ returns-then-is_some-clause-value c =
     let before = reverse (take c.loop-i.i c.args.boxes.now) in
     let rest = drop (c.loop-i.i + 1) c.args.boxes.now in
     let found : is_some (spec.depth_of b.id before) ≡ true =
-        sym (ap is_some (c.in_ok-insert.ensures.old ∙ c.loop-i.invariant.depths c.text.result.now ∙ ap (λ t. spec.depth_of t before) c.text.ensures.same_text))
-        ∙ sym c.is_some.ensures ∙ c.if-is_some.true in
+    sym (ap is_some (c.in_ok-insert.ensures.old ∙ c.loop-i.invariant.depths c.text.result.now ∙ ap (λ t. spec.depth_of t before) c.text.ensures.same_text))
+    ∙ sym c.is_some.ensures ∙ c.if-is_some.true in
     sym (taken_id before rest b found) ∙ sym (ap (spec.are_in_order before) (next_box _ _ b within c.index-boxes-i.is)) ∙ c.loop-i.invariant.rest
 
 pub loop-i-preserved : goal.loop-i-preserved
@@ -33,11 +33,11 @@ loop-i-preserved c =
     let before = reverse (take c.loop-i.i c.args.boxes.now) in
     let rest = drop (c.loop-i.i + 1) c.args.boxes.now in
     let answer : c.depth_after.result ≡ only_if (spec.has_place before b.parent) (Some (spec.depth_below before b.parent)) =
-        c.depth_after.ensures before c.loop-i.invariant.depths (first_at _ _ b within) in
+    c.depth_after.ensures before c.loop-i.invariant.depths (first_at _ _ b within) in
     let place = admitted _ _ _ (sym answer ∙ c.in-Some.is) in
     let free : is_some (spec.depth_of b.id before) ≡ false =
-        sym (ap is_some (c.in_ok-insert.ensures.old ∙ c.loop-i.invariant.depths c.text.result.now ∙ ap (λ t. spec.depth_of t before) c.text.ensures.same_text))
-        ∙ sym c.is_some.ensures ∙ c.if-is_some.false in
+    sym (ap is_some (c.in_ok-insert.ensures.old ∙ c.loop-i.invariant.depths c.text.result.now ∙ ap (λ t. spec.depth_of t before) c.text.ensures.same_text))
+    ∙ sym c.is_some.ensures ∙ c.if-is_some.false in
     record {
       depths = rw (before_more _ _ b within c.index-boxes-i.is)
           (depths_more c.text.result.now c.loop-i.depths c.insert.new.self before b _ c.in_ok-insert.ensures.updates c.text.ensures.same_text place.1 c.loop-i.invariant.depths);
