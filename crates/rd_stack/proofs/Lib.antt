@@ -12,3 +12,4 @@ pub mod Lines
 pub mod Shares
 pub mod Itself
 pub mod Going
+pub mod Visible
