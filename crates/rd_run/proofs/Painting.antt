@@ -7,16 +7,22 @@ use Rattle.rd_list.specs.Lists.{StandsFor}
 use Rattle.rd_geom.specs.Canvas.{canvas_of}
 use Rattle.rd_tree.specs.Document.{Document}
 use Rattle.rd_stack.specs.Fresh.{fresh_list}
+use Rattle.rd_geom.specs.Plane.{Rectangle, common, has_none}
 use Rattle.rd_stack.proofs.Itself.{stands_for_itself}
+use Rattle.rd_stack.proofs.Visible.{all_on_canvas}
 use Rattle.rd_run.specs.Lines.{KeptItem, paint_line}
 use Rattle.rd_run.specs.Machine.{State, Paints, leaves, invalid_area, meets_any, made_after, pixels_in, built, kept_on}
 use Rattle.rd_run.specs.Display.{Shows, Answers, IsSound, stamped}
 use Rattle.rd_run.specs.declared.display.Display.{Display}
 use Rattle.rd_run.proofs.Pixels.{whole_canvas}
 
+on_canvas : (canvas : Rectangle) (ls : List Leaf) → AllByRecursion (λ l. has_none (common canvas l.visible) ≡ false) ls → AllByRecursion (λ l. meets_any (canvas ∷ []) l ≡ true) ls
+on_canvas canvas [] h = tt
+on_canvas canvas (l ∷ ls) h = (rw (h.0) refl, on_canvas canvas ls h.1)
+
 -- every leaf is on the canvas
 pub all_meet : (t : Document) → IsSound t → AllByRecursion (λ l. meets_any (canvas_of t.canvas ∷ []) l ≡ true) (flat (fresh_list t))
-all_meet t h = ?
+all_meet t h = on_canvas (canvas_of t.canvas) (flat (fresh_list t)) (all_on_canvas t h.rooted h.apart)
 
 pub leaves-stamped : (n : ℕ) (xs : Entries Leaf) → leaves (stamped n xs) ≡ xs
 leaves-stamped n nil = refl
