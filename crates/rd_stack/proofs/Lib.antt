@@ -4,3 +4,7 @@ pub mod Filters
 pub mod Joined
 pub mod ByLevel
 pub mod Going
+pub mod Sums
+pub mod Paths
+pub mod Weights
+pub mod Lines
