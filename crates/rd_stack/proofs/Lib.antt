@@ -8,3 +8,4 @@ pub mod Sums
 pub mod Paths
 pub mod Weights
 pub mod Lines
+pub mod Takes
