@@ -9,3 +9,5 @@ pub mod Paths
 pub mod Weights
 pub mod Lines
 pub mod Takes
+pub mod Once
+pub mod OnCanvas
