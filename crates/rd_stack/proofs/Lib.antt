@@ -7,7 +7,7 @@ pub mod Going
 pub mod Sums
 pub mod Paths
 pub mod Weights
-pub mod Lines
+pub mod InlineLines
 pub mod Takes
-pub mod Once
+pub mod Counted
 pub mod OnCanvas

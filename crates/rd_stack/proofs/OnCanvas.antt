@@ -24,7 +24,7 @@ use Rattle.rd_stack.specs.Fresh.{root_order}
 use Rattle.rd_stack.specs.Laws.{IsOnCanvas}
 use Rattle.rd_stack.proofs.Weights.{Weighs}
 use Rattle.rd_stack.proofs.Takes.{root_fit}
-use Rattle.rd_stack.proofs.Once.{leaves_that, that-join, that-group, that-singly, leaf_weight, all-none, one}
+use Rattle.rd_stack.proofs.Counted.{leaves_that, that-join, that-group, that-singly, leaf_weight, all-none, one}
 
 -- a test of rectangles: has the first a pixel, and does it lie in the second?
 abbrev pub lies_in : Rectangle → Rectangle → Bool

@@ -21,7 +21,7 @@ use Rattle.rd_stack.specs.Fresh.{box, painted, root_order}
 use Rattle.rd_stack.proofs.Paths.{between-path, is_none-path}
 use Rattle.rd_stack.proofs.Sums.{total, total-append}
 use Rattle.rd_stack.proofs.Weights.{Weighs, steps_fit, taken_of, entry_of, parts_of, inline_of}
-use Rattle.rd_stack.proofs.Lines.{painted_box, lines_fit, AreOff, off_below, in_below, in_rest}
+use Rattle.rd_stack.proofs.InlineLines.{painted_box, lines_fit, AreOff, off_below, in_below, in_rest}
 
 -- how a box takes part: a layer that makes a stacking context, one that makes none, a float or atomic inline, any other
 pub data Kind : Type 0 where

@@ -1,7 +1,7 @@
 use Rattle.rd_geom.specs.Canvas.{canvas_of}
 use Rattle.rd_list.specs.Entries.{flat}
 use Rattle.rd_stack.specs.Fresh.{fresh_list}
-use Rattle.rd_stack.proofs.Once.{none_fails}
+use Rattle.rd_stack.proofs.Counted.{none_fails}
 use Rattle.rd_stack.proofs.OnCanvas.{lies_in, on_canvas, none_off}
 use Rattle.rd_stack.proofs.laws.shows_on_canvas.Goals as goal
 

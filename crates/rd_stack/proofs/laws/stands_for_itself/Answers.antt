@@ -9,7 +9,7 @@ use Rattle.rd_item.specs.declared.leaf.Leaf.{Leaf}
 use Rattle.rd_list.specs.Entries.{flat}
 use Rattle.rd_list.specs.Lists.{same_leaf, same_part, routes, groups}
 use Rattle.rd_stack.specs.Fresh.{fresh_list}
-use Rattle.rd_stack.proofs.Once.{pairs_apart, leaf_once, group_once, none_empty, filled}
+use Rattle.rd_stack.proofs.Counted.{pairs_apart, leaf_once, group_once, none_empty, filled}
 use Rattle.rd_stack.proofs.laws.stands_for_itself.Goals as goal
 
 same_part-refl : (p : Part) → same_part p p ≡ true
