@@ -5,7 +5,7 @@ use Rattle.rd_io.specs.Causes.{GainsPart, Rose, Takes}
 use Rattle.serde_json.specs.Data.{Data}
 use Rattle.rd_scene.specs.Scripts.{Script, script_of}
 use Rattle.rd_scene.specs.Reading.{Reads, HasNoReading}
-use Rattle.rd_run.specs.Machine.{IsAllowedText}
+pub use Rattle.rd_run.specs.Machine.{IsAllowedText}
 use Rattle.rd_run.specs.Words.{words_form}
 use Rattle.rd_run.specs.declared.status.Status.{Status}
 use Rattle.rd_run.specs.declared.status.Status.TheVariants.{Done, Usage, NotJson, Form, ReadFault, WriteFault, NoMemory, TooLarge}

@@ -2,6 +2,7 @@
 
 ghost use Rattle.std.specs.Prelude.{◌≡◌, ◌≢◌, ◌⊎◌, ◌↔◌, ℕ, ◌+◌, ◌<◌, ◌≤◌, ◌^◌, List, IfOk, IfSome, IsErrOf, OnErr, OnOk, IsOk, None, map, string_bytes, length};
 ghost use Rattle.std.specs.Io.KnownBytes.{Appends, Keeps, IsAtEnd};
+ghost use Rattle.rd_geom.specs.Canvas.{IsCanvas};
 ghost use Rattle.rd_io.specs.Causes.{Rose, GainsPart};
 ghost use Rattle.rd_scene.specs.Scripts as scripts;
 ghost use Rattle.rd_scene.specs.Planting.{Plants};
@@ -33,7 +34,8 @@ fn answer_one<O: Sink, B: Ledger>(
     out: &mut O,
     looks: &mut Steps<B>,
 ) -> Result<(), Status>
-    requires { display.old.paints < 2 ^ 40 }
+    requires few { display.old.paints < 2 ^ 40 }
+    requires canvas { IsCanvas tree.now.canvas }
     ensures all { OnOk result ((s : State) → Shows tree.now display.old s → (t : State) × (text : List ℕ) × Step s command.now text t × Shows tree.now display.new t × Appends (O.written out.old) (O.written out.new) text) }
     ensures part { IsErrOf result Status.WriteFault → (s : State) → Shows tree.now display.old s → (t : State) × (text : List ℕ) × Step s command.now text t × Shows tree.now display.new t × GainsPart (O.written out.old) (O.written out.new) text }
     ensures none { IsErrOf result Status.NoMemory → Keeps (O.written out.old) (O.written out.new) }
@@ -63,6 +65,7 @@ fn answer_all<O: Sink, B: Ledger>(
 ) -> Result<(), Status>
     requires none { display.old.paints ≡ 0 }
     requires few { length commands.now ≤ 1000000 }
+    requires canvas { IsCanvas tree.now.canvas }
     ensures all { OnOk result ((s : State) → Shows tree.now display.old s → AnswersAll s commands.now (O.written out.old) (O.written out.new)) }
     ensures part { OnErr result ((s : State) → Shows tree.now display.old s → AnswersPart s commands.now (O.written out.old) (O.written out.new)) }
     ensures only { OnErr result (IsErrOf result Status.WriteFault ⊎ IsErrOf result Status.NoMemory) }
