@@ -18,7 +18,10 @@ use Rattle.rd_run.proofs.Pixels.{whole_canvas}
 
 on_canvas : (canvas : Rectangle) (ls : List Leaf) → All (IsOnCanvas canvas) ls → AllByRecursion (λ l. meets_any (canvas ∷ []) l ≡ true) ls
 on_canvas canvas [] h = tt
-on_canvas canvas (l ∷ ls) h = (?, on_canvas canvas ls (λ k d m. h (suc k) d (omega arith)))
+on_canvas canvas (l ∷ ls) h = (seen (h 0 l (omega arith)), on_canvas canvas ls (λ k d m. h (suc k) d (omega arith)))
+  where
+    seen : IsOnCanvas canvas l → meets_any (canvas ∷ []) l ≡ true
+    seen o = let m = o.meets in grind arith
 
 -- every leaf is on the canvas
 pub all_meet : (t : Document) → IsSound t → AllByRecursion (λ l. meets_any (canvas_of t.canvas ∷ []) l ≡ true) (flat (fresh_list t))

@@ -9,7 +9,7 @@ ghost use Rattle.rd_scene.specs.Planting.{Plants};
 ghost use Rattle.rd_run.specs.Answered.{AnswersAll, AnswersPart};
 ghost use Rattle.rd_run.specs.Display.{Shows, IsSound};
 ghost use Rattle.rd_run.specs.Endings as ends;
-ghost use Rattle.rd_run.specs.Machine.{State, Step, start};
+ghost use Rattle.rd_run.specs.Machine.{State, Step};
 ghost use Rattle.rd_run.specs.Words.{words_form};
 
 use crate::display::Display;
@@ -92,14 +92,35 @@ fn answer<O: Sink, B: Ledger>(
     ensures later { O.faults out.old ≤ O.faults out.new }
     ensures cause { result ≡ Status.WriteFault → Rose (O.faults out.old) (O.faults out.new) }
 {
+    let commands = &script.commands;
     let tree: Tree<B> = match plant(alloc, script) {
         Ok(tree) => tree,
         Err(_) => return Status::NoMemory,
     };
     let mut display = Display::new(alloc);
-    match answer_all(alloc, &tree, &mut display, &script.commands, out, looks) {
+    match answer_all(alloc, &tree, &mut display, commands, out, looks) {
         Ok(()) => Status::Done,
         Err(status) => status,
+    }
+}
+
+/// Answers the script that the bytes are.
+fn answer_bytes<O: Sink, B: Ledger>(
+    alloc: Global,
+    bytes: &[u8],
+    out: &mut O,
+    looks: &mut Steps<B>,
+) -> Status
+    ensures written { ends.HasWritten bytes.now (O.written out.old) (O.written out.new) result }
+    ensures cause { ends.MayFollow bytes.now (Rose (O.faults out.old) (O.faults out.new)) result }
+    ensures still { ends.WritesNothing result → looks.new ≡ looks.old }
+    ensures later { O.faults out.old ≤ O.faults out.new }
+{
+    match read(alloc, bytes) {
+        Ok(script) => answer(alloc, &script, out, looks),
+        Err(SceneFault::NotJson) => Status::NotJson,
+        Err(SceneFault::Form) => Status::Form,
+        Err(SceneFault::NoMemory) => Status::NoMemory,
     }
 }
 
@@ -109,19 +130,20 @@ fn replay<S: Source, O: Sink, B: Ledger>(
     source: &mut S,
     out: &mut O,
     looks: &mut Steps<B>,
-) -> Status {
+) -> Status
+    ensures written { IfSome (S.left source.old) (λ bytes. ends.HasWritten bytes (O.written out.old) (O.written out.new) result) }
+    ensures nothing { ends.WritesNothing result → Keeps (O.written out.old) (O.written out.new) × (looks.new ≡ looks.old) }
+    ensures cause { IfSome (S.left source.old) (λ bytes. ends.MayReplay bytes (Rose (S.faults source.old) (S.faults source.new)) (Rose (O.faults out.old) (O.faults out.new)) result) }
+    ensures shown { ends.ShowsCause (S.left source.old) (S.left source.new) (S.faults source.old) (S.faults source.new) (O.faults out.old) (O.faults out.new) result }
+    ensures words { result ≢ Status.Usage }
+{
     let bytes = match read_all(alloc, source, MOST) {
         Ok(bytes) => bytes,
         Err(ReadAll::Fault) => return Status::ReadFault,
         Err(ReadAll::TooLarge) => return Status::TooLarge,
         Err(ReadAll::NoMemory) => return Status::NoMemory,
     };
-    match read(alloc, &bytes) {
-        Ok(script) => answer(alloc, &script, out, looks),
-        Err(SceneFault::NotJson) => Status::NotJson,
-        Err(SceneFault::Form) => Status::Form,
-        Err(SceneFault::NoMemory) => Status::NoMemory,
-    }
+    answer_bytes(alloc, &bytes, out, looks)
 }
 
 /// Does what the words ask for.
@@ -131,7 +153,13 @@ fn serve<S: Source, O: Sink, B: Ledger>(
     source: &mut S,
     out: &mut O,
     looks: &mut Steps<B>,
-) -> Status {
+) -> Status
+    ensures written { IfSome (S.left source.old) (λ bytes. ends.HasWritten bytes (O.written out.old) (O.written out.new) result) }
+    ensures nothing { ends.WritesNothing result → Keeps (O.written out.old) (O.written out.new) × (looks.new ≡ looks.old) }
+    ensures cause { IfSome (S.left source.old) (λ bytes. ends.MayEnd (map string_bytes words.now) bytes (Rose (S.faults source.old) (S.faults source.new)) (Rose (O.faults out.old) (O.faults out.new)) result) }
+    ensures shown { ends.ShowsCause (S.left source.old) (S.left source.new) (S.faults source.old) (S.faults source.new) (O.faults out.old) (O.faults out.new) result }
+    ensures usage { (result ≡ Status.Usage) ↔ (words_form (map string_bytes words.now) ≡ None) }
+{
     if is_replay(words) {
         replay(alloc, source, out, looks)
     } else {
@@ -152,6 +180,25 @@ pub fn run<S: Source, O: Sink, E: Sink, A: Ledger, B: Ledger>(
     made: &mut Steps<A>,
     looks: &mut Steps<B>,
 ) -> u8
+    // What is written: all of an allowed text of the script, or a front of one, or nothing.
+    ensures written { (s : Status) → result ≡ ends.number s → IfSome (S.left source.old) (λ bytes. ends.HasWritten bytes (O.written out.old) (O.written out.new) s) }
+    ensures nothing { (s : Status) → result ≡ ends.number s → ends.WritesNothing s → Keeps (O.written out.old) (O.written out.new) × (looks.new ≡ looks.old) }
+    ensures made { made.new ≡ made.old }
+
+    // Why it ends so.
+    ensures cause { (s : Status) → result ≡ ends.number s → IfSome (S.left source.old) (λ bytes.
+        ends.MayEnd (map string_bytes words.now) bytes (Rose (S.faults source.old) (S.faults source.new)) (Rose (O.faults out.old) (O.faults out.new)) s) }
+    ensures shown { (s : Status) → result ≡ ends.number s →
+        ends.ShowsCause (S.left source.old) (S.left source.new) (S.faults source.old) (S.faults source.new) (O.faults out.old) (O.faults out.new) s }
+    ensures usage { (result ≡ ends.number Status.Usage) ↔ (words_form (map string_bytes words.now) ≡ None) }
+
+    // A script is answered, unless memory or a stream fails.
+    ensures complete { IfSome (S.left source.old) (λ bytes. (s : scripts.Script) → ends.IsInput (map string_bytes words.now) bytes → ends.IsScriptText bytes s
+        → ¬ (Rose (S.faults source.old) (S.faults source.new)) → ¬ (Rose (O.faults out.old) (O.faults out.new))
+        → (result ≡ ends.number Status.Done) ⊎ (result ≡ ends.number Status.NoMemory)) }
+
+    // The line on standard error.
+    ensures line { (s : Status) × (result ≡ ends.number s) × ends.Tells (E.written err.old) (E.written err.new) (Rose (E.faults err.old) (E.faults err.new)) s }
 {
     let status = serve(alloc, words, source, out, looks);
     match write_all(err, status.line().as_bytes()) {
