@@ -1,8 +1,8 @@
-use Rattle.std.proofs.Common.{◌≡◌, ℕ, zero, suc, ◌+◌, ◌-◌, ◌<◌, ◌≤◌, ◌≢◌, ◌⊎◌, inl, inr, List, [], ◌∷◌, map, set, get_or, length, Vec, vec_len, vec_capacity, IsFalse, arith, refl, sym, ◌∙◌, ap, subst, rules, below_more, get_or-set_other, get_or-set_same}
+use Rattle.std.proofs.Common.{◌≡◌, ℕ, zero, suc, ℤ, pos, ◌+◌, ◌-◌, ◌<◌, ◌≤◌, ◌≢◌, ◌⊎◌, inl, inr, List, [], ◌∷◌, map, set, get_or, length, Vec, vec_len, vec_capacity, IsFalse, arith, refl, sym, ◌∙◌, ap, subst, rules, below_more, get_or-set_other, get_or-set_same}
 use Rattle.std.proofs.lemmas.List.{map-set, length-map, get_or-map}
 use Rattle.std.specs.declared.alloc.Global.{Global}
 use Rattle.rd_geom.specs.declared.span.Span.{Span}
-use Rattle.rd_area.specs.Rows.{Joins, row_meets}
+use Rattle.rd_area.specs.Rows.{IsRising, Joins, row_meets}
 use Rattle.rd_area.specs.Sound.{spans_of}
 use Rattle.rd_area.specs.Room.{room_at}
 
@@ -75,3 +75,6 @@ meets_more vs i v from span h e not_it below y a b =
     (λ k l g. below k g l)
     (λ g. rw (at_place (λ r. r.items) [] vs i v h e) not_it)
     y b a
+
+pub rises_at : (vs : List Row) (i : ℕ) (v : Row) (w : ℤ) → i < length vs → v ≡ get_or vs i v → ((y : ℕ) → IsRising (pos 0) w (get_or (spans_of vs) y [])) → IsRising (pos 0) w v.items
+rises_at vs i v w h e r = subst (λ ss. IsRising (pos 0) w ss) (at_place (λ r. r.items) [] vs i v h e) (r i)
