@@ -1,13 +1,13 @@
-use Rattle.std.proofs.Common.{◌≡◌, ℕ, zero, suc, ℤ, pos, negsuc, ◌+ℤ◌, ◌-ℤ◌, ◌≤ℤ◌, ◌<ℤ◌, ◌<◌, ◌≤◌, ◌⊎◌, inl, inr, Bool, true, false, ◌&&◌, ◌||◌, IsTrue, IsFalse, List, [], ◌∷◌, get_or, length, arith, refl, sym, ◌∙◌, ap, subst, rules, ⊎_elim}
-use Rattle.std.specs.Prelude.{int_lt, int_le, if◌then◌else◌}
+use Rattle.std.proofs.Common.{◌≡◌, ℕ, zero, suc, ℤ, pos, negsuc, ◌-ℤ◌, ◌≤ℤ◌, ◌<◌, ◌≤◌, ◌⊎◌, inl, inr, Bool, true, false, ◌&&◌, ◌||◌, IsTrue, IsFalse, List, [], get_or, length, arith, refl, sym, ◌∙◌, ap, subst, ⊎_elim}
+use Rattle.std.specs.Prelude.{int_lt, if◌then◌else◌}
 use Rattle.std.specs.Int.{int_max, int_min}
 use Rattle.std.proofs.lemmas.Int.{ints, clamps}
 use Rattle.rd_geom.specs.Plane.{Rectangle, right, bottom, holds_pixel, is_among, has_none, between, common, no_pixels, hull_of, around, IsWithin}
 use Rattle.rd_geom.specs.Canvas.{IsCanvas, canvas_of}
-use Rattle.rd_geom.specs.Areas.{Region, in_span, in_spans, spans_at, in_area}
+use Rattle.rd_geom.specs.Areas.{in_span, in_spans, spans_at}
 use Rattle.rd_geom.specs.declared.rect.Size.{Size}
 use Rattle.rd_geom.specs.declared.span.Span.{Span}
-use Rattle.rd_geom.proofs.Pixels.{common_pixels, both_true, left_of, right_of}
+use Rattle.rd_geom.proofs.Pixels.{common_pixels, both_true, right_of}
 use Rattle.rd_area.specs.Rows.{IsRising, Joins, SharesColumn, row_meets}
 use Rattle.rd_area.specs.Sound.{IsOn, IsSound}
 use Rattle.rd_area.specs.Sharing.{SharesPixel}
@@ -34,9 +34,10 @@ none_or false b f = refl
 -- what lies between edges on the canvas is on it
 between_on : (l t r b : ℤ) (size : Size) → IsCanvas size → pos 0 ≤ℤ l → pos 0 ≤ℤ t → r ≤ℤ size.w → b ≤ℤ size.h → IsOn (between l t r b) size
 between_on l t r b size c left top right bottom =
-    elim (int_lt l r && int_lt t b) as (λ v. IsOn (if v then record { x = l; y = t; w = r -ℤ l; h = b -ℤ t } else no_pixels) size)
-    [ true ↦ record { left = omega (arith, ints); top = omega (arith, ints); right = omega (arith, ints); bottom = omega (arith, ints) }
-    | false ↦ record { left = omega (arith, ints); top = omega (arith, ints); right = omega (arith, ints); bottom = omega (arith, ints) } ]
+    elim (int_lt l r && int_lt t b) as (λ v. IsOn (if v then record { x = l; y = t; w = r -ℤ l; h = b -ℤ t } else no_pixels) size) [
+      | true ↦ record { left = omega (arith, ints); top = omega (arith, ints); right = omega (arith, ints); bottom = omega (arith, ints) }
+      | false ↦ record { left = omega (arith, ints); top = omega (arith, ints); right = omega (arith, ints); bottom = omega (arith, ints) }
+    ]
 
 pub common_on_left : (a b : Rectangle) (size : Size) → IsCanvas size → IsOn a size → IsOn (common a b) size
 common_on_left a b size c o =
@@ -61,9 +62,10 @@ around_on a b size c o p =
 
 pub hull_on : (a b : Rectangle) (size : Size) → IsCanvas size → IsOn a size → IsOn b size → IsOn (hull_of a b) size
 hull_on a b size c o p =
-    elim (has_none a) as (λ u. IsOn (if u then (if has_none b then no_pixels else b) else (if has_none b then a else around a b)) size)
-    [ true ↦ elim (has_none b) as (λ v. IsOn (if v then no_pixels else b) size) [ true ↦ none_on size c | false ↦ p ]
-    | false ↦ elim (has_none b) as (λ v. IsOn (if v then a else around a b) size) [ true ↦ o | false ↦ around_on a b size c o p ] ]
+    elim (has_none a) as (λ u. IsOn (if u then (if has_none b then no_pixels else b) else (if has_none b then a else around a b)) size) [
+      | true ↦ elim (has_none b) as (λ v. IsOn (if v then no_pixels else b) size) [ true ↦ none_on size c | false ↦ p ]
+      | false ↦ elim (has_none b) as (λ v. IsOn (if v then a else around a b) size) [ true ↦ o | false ↦ around_on a b size c o p ]
+    ]
 
 -- the rows and columns of a rectangle on the canvas
 pub record IsBlock (s : Rectangle) (from to : ℕ) (span : Span) : Type 0 where
@@ -168,8 +170,8 @@ not_shared size used r rows from to span i k none x (pos n) h p =
     let c : IsTrue (holds_pixel (common used r) x (pos n)) = shares_in size used r rows i x (pos n) h p in
     ⊎_elim
     (λ w. let s : IsTrue (in_span span x) = subst (λ b. IsTrue b) (in_block (common used r) from to span x n k w.0 w.1) c in
-        let m : row_meets (get_or rows n []) span ≡ true = shares_meets (get_or rows n []) span x h s in
-        clash (row_meets (get_or rows n []) span) m (none n w.0 w.1))
+    let m : row_meets (get_or rows n []) span ≡ true = shares_meets (get_or rows n []) span x h s in
+    clash (row_meets (get_or rows n []) span) m (none n w.0 w.1))
     (λ o. clash (holds_pixel (common used r) x (pos n)) c (outside_block (common used r) from to span x n k o))
     (split from to n)
 

@@ -1,9 +1,9 @@
-use Rattle.std.proofs.Common.{◌≡◌, pos, ◌≤ℤ◌, length, vec_len, arith, refl, rules, ap, ◌∙◌, sym}
+use Rattle.std.proofs.Common.{◌≡◌, length, vec_len, arith, rules, ap, ◌∙◌}
 use Rattle.std.proofs.lemmas.Int.{ints}
 use Rattle.std.proofs.lemmas.List.{length-map}
 use Rattle.rd_geom.specs.Plane.{common}
 use Rattle.rd_geom.specs.Canvas.{canvas_of}
-use Rattle.rd_area.specs.Sound.{IsOn, IsSound, spans_of}
+use Rattle.rd_area.specs.Sound.{IsOn, spans_of}
 use Rattle.rd_area.proofs.Pixels.{IsBlock, IsGrown, canvas_on, common_on_right, grown_from, grown_sound, grown_pixels}
 use Rattle.rd_area.proofs.area.Area.add.Goals as goal
 

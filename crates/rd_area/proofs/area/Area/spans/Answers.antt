@@ -1,4 +1,4 @@
-use Rattle.std.proofs.Common.{◌≡◌, to_z, of_z, w32}
+use Rattle.std.proofs.Common.{to_z, of_z, w32}
 use Rattle.std.specs.Prelude.{nat_abs}
 use Rattle.rd_area.proofs.Spans.{rises_at}
 use Rattle.rd_area.proofs.area.Area.spans.Goals as goal
