@@ -1,7 +1,8 @@
 //! Rectangles of pixels as sets of pixels.
 
-ghost use Rattle.std.specs.Prelude.{◌≡◌, ℕ, ℤ, pos, ◌+ℤ◌, ◌≤ℤ◌, ◌↔◌, IfSome, IfNone, IsTrue, ◌&&◌, int_le, int_lt, Bool};
-ghost use Rattle.rd_geom.specs.Plane.{Rectangle, common, has_none, holds_pixel, right, bottom, IsPlaced, between, int_low, inset_by, grown};
+ghost use Rattle.std.specs.Prelude.{◌≡◌, ℕ, ℤ, pos, ◌+ℤ◌, ◌-ℤ◌, ◌≤ℤ◌, ◌↔◌, IfSome, IfNone, IsTrue, ◌&&◌, int_le, int_lt, Bool};
+ghost use Rattle.rd_geom.specs.Plane as plane;
+ghost use Rattle.rd_geom.specs.Plane.{Rectangle, common, IsWithin, SharesPixel, around, hull_of, has_none, holds_pixel, right, bottom, IsPlaced, between, int_low, inset_by, grown};
 ghost use Rattle.std.specs.Int.{int_max, int_min};
 
 use std::marker::Model;
@@ -51,6 +52,23 @@ pub struct Sides {
     pub right: u16,
     pub bottom: u16,
     pub left: u16,
+}
+
+impl Size {
+    ghost use Rattle.rd_geom.specs.Canvas.{IsCanvas, canvas_of};
+
+    /// The rectangle of a canvas of this size, which is from 1 to 4,096 pixels wide and high (CSS 2.2 section 10.1).
+    pub fn rect(&self) -> Rect
+        requires { IsCanvas self.now }
+        ensures { result ≡ canvas_of self.now }
+    {
+        Rect {
+            x: 0,
+            y: 0,
+            w: self.w,
+            h: self.h,
+        }
+    }
 }
 
 impl Rect {
@@ -174,12 +192,47 @@ fn bottom_of(r: Rect) -> i32
 
 /// The common pixels of both, or `Rect::EMPTY`.
 pub fn meet(a: Rect, b: Rect) -> Rect
-    ensures { result ≡ common a b }
+    ensures value { result ≡ common a b }
+    ensures pixels { (x y : ℤ) → holds_pixel result x y ≡ (holds_pixel a x y && holds_pixel b x y) }
 {
     let left = larger(a.x(), b.x());
     let top = larger(a.y(), b.y());
     let right = smaller(right_of(a), right_of(b));
     let bottom = smaller(bottom_of(a), bottom_of(b));
+    spanning(left, top, right, bottom)
+}
+
+/// Have the two a common pixel?
+pub fn meets(a: Rect, b: Rect) -> bool
+    ensures value { result ≡ plane.meets a b }
+    ensures pixel { IsTrue result ↔ SharesPixel a b }
+{
+    !meet(a, b).is_empty()
+}
+
+/// The least rectangle that holds the pixels of both, or `Rect::EMPTY` where there are none.
+pub fn hull(a: Rect, b: Rect) -> Rect
+    ensures value { result ≡ hull_of a b }
+    ensures first { IsWithin a result }
+    ensures second { IsWithin b result }
+    ensures least { (r : Rectangle) → IsWithin a r → IsWithin b r → IsWithin result r }
+{
+    match (a.is_empty(), b.is_empty()) {
+        (true, true) => Rect::EMPTY,
+        (true, false) => b,
+        (false, true) => a,
+        (false, false) => enclosing(a, b),
+    }
+}
+
+/// From the first column and row of either to the last of either.
+fn enclosing(a: Rect, b: Rect) -> Rect
+    ensures { result ≡ around a b }
+{
+    let left = smaller(a.x(), b.x());
+    let top = smaller(a.y(), b.y());
+    let right = larger(right_of(a), right_of(b));
+    let bottom = larger(bottom_of(a), bottom_of(b));
     spanning(left, top, right, bottom)
 }
 
@@ -199,7 +252,10 @@ fn is_within(from: i32, to: i32, at: i32) -> bool
 
 /// What the four widths leave of a rectangle, or `Rect::EMPTY` (CSS 2.2 section 8.1).
 pub fn inset(r: Rect, s: Sides) -> Rect
-    ensures { result ≡ inset_by r s.top s.right s.bottom s.left }
+    ensures value { result ≡ inset_by r s.top s.right s.bottom s.left }
+
+    // A pixel is left where those by the four widths away from it are in the rectangle.
+    ensures pixels { (x y : ℤ) → holds_pixel result x y ≡ (holds_pixel r (x -ℤ pos s.left) (y -ℤ pos s.top) && holds_pixel r (x +ℤ pos s.right) (y +ℤ pos s.bottom)) }
 {
     let left = r.x() + s.left as i32;
     let top = r.y() + s.top as i32;

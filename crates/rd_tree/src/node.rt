@@ -7,11 +7,11 @@ use rd_style::Style;
 
 /// What a box is, but for its place.
 #[derive(Drop)]
-pub(crate) struct Item {
-    pub(crate) id: Id,
-    pub(crate) rect: Rect,
-    pub(crate) style: Style,
-    pub(crate) touched: bool,
+pub struct Item {
+    pub id: Id,
+    pub rect: Rect,
+    pub style: Style,
+    pub touched: bool,
 }
 
 /// The neighbours of a box.

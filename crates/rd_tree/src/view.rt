@@ -10,6 +10,7 @@ use rd_keys::BoxKey;
 use rd_style::Style;
 
 /// What a look at a box gives.
+#[derive(Drop)]
 pub struct BoxView<'a> {
     /// The box.
     pub key: BoxKey,

@@ -1,9 +1,11 @@
 use Rattle.std.proofs.Common.{◌≡◌, arith, pos, ◌+ℤ◌, ◌-ℤ◌, FitsSigned, w32, to_z, ◌∙◌, refl}
 use Rattle.std.proofs.lemmas.Int.{ints, to_z-of_z}
+use Rattle.rd_geom.specs.Plane.{inset_by}
+use Rattle.rd_geom.proofs.Pixels.{inset_pixels}
 use Rattle.rd_geom.proofs.rect.inset.Goals as goal
 
-pub returns : goal.returns
-returns c =
+pub returns-clause-value : goal.returns-clause-value
+returns-clause-value c =
     let fx : FitsSigned w32 c.x.result = omega (arith, ints) in
     let fy : FitsSigned w32 c.y.result = omega (arith, ints) in
     let fr : FitsSigned w32 c.right_of.result = omega (arith, ints) in
@@ -18,3 +20,8 @@ returns c =
     let sb : FitsSigned w32 (c.bottom_of.result -ℤ pos c.args.s.bottom) = omega (arith, ints) in
     let e = simp (to_z-of_z, l, t, r, b) at c.spanning.ensures in
     e ∙ rw (c.x.ensures.value, c.y.ensures.value, c.right_of.ensures.value, c.bottom_of.ensures.value) refl
+
+pub returns-clause-pixels : goal.returns-clause-pixels
+returns-clause-pixels c =
+    let e : c.spanning.result ≡ inset_by c.args.r c.args.s.top c.args.s.right c.args.s.bottom c.args.s.left = returns-clause-value c in
+    rw e (inset_pixels c.args.r c.args.s.top c.args.s.right c.args.s.bottom c.args.s.left)

@@ -1,0 +1,36 @@
+use Rattle.std.proofs.Common.{arith, FitsSigned, w32, ◌∙◌, refl}
+use Rattle.std.proofs.lemmas.Int.{ints, clamps, to_z-of_z}
+use Rattle.rd_geom.proofs.rect.enclosing.Goals as goal
+
+pub spanning-requires-clause-from_left : goal.spanning-requires-clause-from_left
+spanning-requires-clause-from_left c = omega (arith, ints, clamps, c.smaller-left.ensures)
+
+pub spanning-requires-clause-from_top : goal.spanning-requires-clause-from_top
+spanning-requires-clause-from_top c = omega (arith, ints, clamps, c.smaller-top.ensures)
+
+pub spanning-requires-clause-to_right : goal.spanning-requires-clause-to_right
+spanning-requires-clause-to_right c = omega (arith, ints, clamps, c.larger-right.ensures)
+
+pub spanning-requires-clause-to_bottom : goal.spanning-requires-clause-to_bottom
+spanning-requires-clause-to_bottom c = omega (arith, ints, clamps, c.larger-bottom.ensures)
+
+pub returns : goal.returns
+returns c =
+    let fax : FitsSigned w32 c.x.result = omega (arith, ints) in
+    let fbx : FitsSigned w32 c.x-2.result = omega (arith, ints) in
+    let fay : FitsSigned w32 c.y.result = omega (arith, ints) in
+    let fby : FitsSigned w32 c.y-2.result = omega (arith, ints) in
+    let far : FitsSigned w32 c.right_of.result = omega (arith, ints) in
+    let fbr : FitsSigned w32 c.right_of-2.result = omega (arith, ints) in
+    let fab : FitsSigned w32 c.bottom_of.result = omega (arith, ints) in
+    let fbb : FitsSigned w32 c.bottom_of-2.result = omega (arith, ints) in
+    let fl : FitsSigned w32 c.smaller-left.result = omega (arith, ints, clamps, c.smaller-left.ensures) in
+    let ft : FitsSigned w32 c.smaller-top.result = omega (arith, ints, clamps, c.smaller-top.ensures) in
+    let fr : FitsSigned w32 c.larger-right.result = omega (arith, ints, clamps, c.larger-right.ensures) in
+    let fb : FitsSigned w32 c.larger-bottom.result = omega (arith, ints, clamps, c.larger-bottom.ensures) in
+    let e = simp to_z-of_z at c.spanning.ensures in
+    let el = simp to_z-of_z at c.smaller-left.ensures in
+    let et = simp to_z-of_z at c.smaller-top.ensures in
+    let er = simp to_z-of_z at c.larger-right.ensures in
+    let eb = simp to_z-of_z at c.larger-bottom.ensures in
+    e ∙ rw (el, et, er, eb, c.x.ensures.value, c.x-2.ensures.value, c.y.ensures.value, c.y-2.ensures.value, c.right_of.ensures.value, c.right_of-2.ensures.value, c.bottom_of.ensures.value, c.bottom_of-2.ensures.value) refl

@@ -1,0 +1,35 @@
+use Rattle.std.specs.Prelude.{ℕ, zero, suc, ℤ, pos, negsuc, ◌+◌, Bool, false, ◌&&◌, ◌||◌, if◌then◌else◌, int_le, int_lt, List, [], ◌∷◌, get_or, sum_by, unsigned_abs}
+use Rattle.rd_geom.specs.declared.rect.Size.{Size}
+use Rattle.rd_geom.specs.declared.span.Span.{Span}
+
+-- this project's own choice: an area is the size of its canvas and, for each row of it, spans of columns
+pub record Region : Type 0 where
+  pub size : Size
+  pub rows : List (List Span)
+
+-- this project's own choice: is column x in a span?
+abbrev pub in_span : Span → ℤ → Bool
+in_span s x = int_le s.x0 x && int_lt x s.x1
+
+-- this project's own choice: is column x in one of the spans?
+abbrev pub in_spans : List Span → ℤ → Bool
+in_spans [] x = false
+in_spans (s ∷ ss) x = in_span s x || in_spans ss x
+
+-- this project's own choice: the spans of row y; none above or below the canvas
+abbrev pub spans_at : List (List Span) → ℤ → List Span
+spans_at rows (pos y) = get_or rows y []
+spans_at rows (negsuc y) = []
+
+-- this project's own choice: is the pixel in column x and row y in the area?
+abbrev pub in_area : Region → ℤ → ℤ → Bool
+in_area a x y = in_spans (spans_at a.rows y) x
+
+-- this project's own choice: how many of the first n columns are in the spans
+unfoldable pub columns_in : List Span → ℕ → ℕ
+columns_in ss zero = 0
+columns_in ss (suc n) = (if in_spans ss (pos n) then 1 else 0) + columns_in ss n
+
+-- this project's own choice: how many pixels of the canvas are in the area
+abbrev pub count_of : Region → ℕ
+count_of a = sum_by (λ ss. columns_in ss (unsigned_abs a.size.w)) a.rows

@@ -1,0 +1,5 @@
+pub mod Joins
+pub mod Sizes
+pub mod Onward
+pub mod LastOwner
+pub mod Leafy

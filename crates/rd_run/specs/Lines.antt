@@ -1,0 +1,81 @@
+-- The bytes of the lines that are written. This project's own format.
+use Rattle.std.specs.Prelude.{ℕ, ◌+◌, ◌/◌, ◌%◌, ℤ, List, [], ◌∷◌, ◌++◌, length, codes, decimal, Bool, true, false, if◌then◌else◌}
+use Rattle.std.specs.Fmt.{signed_decimal, digit_glyph}
+use Rattle.rd_geom.specs.Plane.{Rectangle}
+use Rattle.rd_geom.specs.declared.color.Color.{Color}
+use Rattle.rd_keys.specs.Keys.{BoxKey}
+use Rattle.rd_keys.specs.declared.entry.Part.{Part}
+use Rattle.rd_keys.specs.declared.entry.Part.TheVariants.{Back, Border, Content, Outline}
+use Rattle.rd_item.specs.declared.leaf.Leaf.{Leaf}
+use Rattle.rd_list.specs.Entries.{Entries, nil, leaf, group, flat}
+use Rattle.rd_tree.specs.Document.{Boxes}
+use Rattle.rd_run.specs.Names.{id_of}
+
+-- An item of a kept list: a leaf, and the number of the paint that made it.
+pub record KeptItem : Type 0 where
+  pub of : Leaf
+  pub made : ℕ
+
+-- words with a space between two, and a newline
+abbrev pub line : List (List ℕ) → List ℕ
+line [] = 10 ∷ []
+line (w ∷ []) = w ++ 10 ∷ []
+line (w ∷ v ∷ ws) = w ++ 32 ∷ line (v ∷ ws)
+
+-- a byte in two lower-case hexadecimal digits
+abbrev pub hex : ℕ → List ℕ
+hex n = digit_glyph false (n / 16) ∷ digit_glyph false (n % 16) ∷ []
+
+-- red, green, blue, alpha
+unfoldable pub color_text : Color → List ℕ
+color_text c = hex c.r ++ hex c.g ++ hex c.b ++ hex c.a
+
+abbrev pub part_text : Part → List ℕ
+part_text Back = codes "back"
+part_text Border = codes "border"
+part_text Content = codes "content"
+part_text Outline = codes "outline"
+
+-- whether a box takes pointer hits
+abbrev pub pointer_text : Bool → List ℕ
+pointer_text true = codes "auto"
+pointer_text false = codes "none"
+
+-- four words: x, y, w, h
+unfoldable pub rect_text : Rectangle → List ℕ
+rect_text r = signed_decimal r.x ++ (32 ∷ signed_decimal r.y ++ (32 ∷ signed_decimal r.w ++ (32 ∷ signed_decimal r.h)))
+
+-- the visible rectangle, the outer and the inner one of the shape
+unfoldable pub shape_text : Leaf → List ℕ
+shape_text l = rect_text l.visible ++ (32 ∷ (rect_text l.shape.outer ++ (32 ∷ rect_text l.shape.inner)))
+
+-- what a paint writes: its number, the items it made, the others, and the pixels of its area
+abbrev pub paint_line : ℕ → ℕ → ℕ → ℕ → List ℕ
+paint_line number built kept area =
+    line (codes "paint" ∷ decimal number ∷ codes "built" ∷ decimal built ∷ codes "kept" ∷ decimal kept ∷ codes "area" ∷ decimal area ∷ [])
+
+-- how many leaves and groups stand directly in a list
+abbrev pub width : {L : Type 0} → Entries L → ℕ
+width nil = 0
+width (leaf i rest) = width rest + 1
+width (group k opacity inner rest) = width rest + 1
+
+module _ (boxes : Boxes) where
+  abbrev pub item_line : ℕ → KeptItem → List ℕ
+  item_line depth i =
+      line (codes "item" ∷ decimal depth ∷ id_of i.of.owner boxes ∷ part_text i.of.part
+          ∷ shape_text i.of ∷ color_text i.of.color ∷ pointer_text i.of.hits ∷ decimal i.made ∷ [])
+
+  abbrev pub group_line : ℕ → BoxKey → ℕ → ℕ → List ℕ
+  group_line depth k opacity entries =
+      line (codes "group" ∷ decimal depth ∷ id_of k boxes ∷ decimal opacity ∷ decimal entries ∷ [])
+
+  -- a line for each entry in order, those of a group after the group's own
+  abbrev pub lines : ℕ → Entries KeptItem → List ℕ
+  lines depth nil = []
+  lines depth (leaf i rest) = item_line depth i ++ lines depth rest
+  lines depth (group k opacity inner rest) =
+      group_line depth k opacity (width inner) ++ lines (depth + 1) inner ++ lines depth rest
+
+  abbrev pub dump_lines : Entries KeptItem → List ℕ
+  dump_lines kept = line (codes "dump" ∷ decimal (length (flat kept)) ∷ []) ++ lines 0 kept

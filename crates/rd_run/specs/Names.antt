@@ -1,0 +1,10 @@
+-- Ids of boxes, as they are written.
+use Rattle.std.specs.Prelude.{ℕ, List, []}
+use Rattle.std.specs.Option.{option_map_or}
+use Rattle.rd_keys.specs.Keys.{BoxKey}
+use Rattle.rd_tree.specs.Document as document
+use Rattle.rd_tree.specs.Document.{Boxes}
+
+-- the id of the box with this key; nothing where there is no such box
+abbrev pub id_of : BoxKey → Boxes → List ℕ
+id_of k boxes = option_map_or (λ i. i) (document.id_of k boxes) []

@@ -1,0 +1,129 @@
+-- Which ids a forest has once a box is added.
+use Rattle.std.proofs.Common.{◌≡◌, ℕ, Bool, true, false, ◌||◌, ◌&&◌, cond, List, refl, sym, ◌∙◌, ap, Option, Some, None, is_some, option_and_then, bytes_eq}
+use Rattle.rd_keys.specs.Keys.{same_key}
+use Rattle.rd_keys.proofs.Keys.{same_key-refl}
+use Rattle.rd_tree.proofs.Standing.{from_left, from_right}
+use Rattle.rd_tree.specs.declared.node.Item.{Item}
+use Rattle.rd_tree.specs.Forest.{Forest, empty, tree, has, children, under, ◌▷◌}
+use Rattle.rd_tree.specs.Document.{BoxKey, Boxes, named, or_else, with_child}
+use Rattle.rd_scene.specs.declared.script.SceneBox.{SceneBox}
+use Rattle.rd_scene.specs.Planting.{parent_in}
+
+abbrev pub is_named : List ℕ → Boxes → Bool
+is_named i f = is_some (named i f)
+
+some_or_else : (a b : Option BoxKey) → is_some (or_else a b) ≡ (is_some a || is_some b)
+some_or_else None b = refl
+some_or_else (Some k) b = refl
+
+named_tree : (i : List ℕ) (k : BoxKey) (d : Item) (below rest : Boxes) →
+    is_named i (tree k d below rest) ≡ (bytes_eq d.id i || (is_named i below || is_named i rest))
+named_tree i k d below rest =
+    elim (bytes_eq d.id i) as (λ b. is_some (cond b (Some k) (or_else (named i below) (named i rest))) ≡ (b || (is_named i below || is_named i rest))) [
+      | true ↦ refl
+      | false ↦ some_or_else (named i below) (named i rest)
+    ]
+
+swap : (i b r : Bool) → (i || (b || r)) ≡ ((i || r) || b)
+swap true b r = refl
+swap false true true = refl
+swap false true false = refl
+swap false false true = refl
+swap false false false = refl
+
+sort : (i o c p e : Bool) → (i || ((o || c) || (p || e))) ≡ ((i || (o || p)) || (c || e))
+sort true o c p e = refl
+sort false true c p e = refl
+sort false false true true e = refl
+sort false false true false e = refl
+sort false false false true e = refl
+sort false false false false e = refl
+
+both : (h k g : Bool) → ((h && g) || (k && g)) ≡ ((h || k) && g)
+both true true true = refl
+both true true false = refl
+both true false true = refl
+both true false false = refl
+both false k g = refl
+
+named_join : (i : List ℕ) (f g : Boxes) → is_named i (f ▷ g) ≡ (is_named i f || is_named i g)
+named_join i empty g = refl
+named_join i (tree k d below rest) g =
+    named_tree i k d below (rest ▷ g) ∙ ap (λ b. bytes_eq d.id i || (is_named i below || b)) (named_join i rest g)
+    ∙ regroup (bytes_eq d.id i) (is_named i below) (is_named i rest) (is_named i g) ∙ ap (λ b. b || is_named i g) (sym (named_tree i k d below rest))
+  where
+    regroup : (a b c e : Bool) → (a || (b || (c || e))) ≡ ((a || (b || c)) || e)
+    regroup true b c e = refl
+    regroup false true c e = refl
+    regroup false false c e = refl
+
+-- the ids that stand elsewhere than below p
+outside : List ℕ → BoxKey → Boxes → Bool
+outside i p empty = false
+outside i p (tree k d below rest) =
+    cond (same_key p k) (bytes_eq d.id i || is_named i rest) (bytes_eq d.id i || (outside i p below || outside i p rest))
+
+named_children : (i : List ℕ) (p : BoxKey) (f : Boxes) → is_named i f ≡ (outside i p f || is_named i (children same_key p f))
+unfolding outside
+named_children i p empty = refl
+named_children i p (tree k d below rest) =
+    named_tree i k d below rest ∙
+    elim (same_key p k) as (λ b. (bytes_eq d.id i || (is_named i below || is_named i rest))
+    ≡ (cond b (bytes_eq d.id i || is_named i rest) (bytes_eq d.id i || (outside i p below || outside i p rest))
+    || is_named i (cond b below (children same_key p below ▷ children same_key p rest)))) [
+      | true ↦ swap (bytes_eq d.id i) (is_named i below) (is_named i rest)
+      | false ↦ rw (named_children i p below, named_children i p rest, named_join i (children same_key p below) (children same_key p rest))
+          (sort (bytes_eq d.id i) (outside i p below) (is_named i (children same_key p below)) (outside i p rest) (is_named i (children same_key p rest)))
+    ]
+
+named_under : (i : List ℕ) (p : BoxKey) (g f : Boxes) → is_named i (under same_key p g f) ≡ (outside i p f || (has same_key p f && is_named i g))
+unfolding outside
+named_under i p g empty = refl
+named_under i p g (tree k d below rest) =
+    elim (same_key p k) as (λ b. is_named i (cond b (tree k d g rest) (tree k d (under same_key p g below) (under same_key p g rest)))
+    ≡ (cond b (bytes_eq d.id i || is_named i rest) (bytes_eq d.id i || (outside i p below || outside i p rest))
+    || ((b || (has same_key p below || has same_key p rest)) && is_named i g))) [
+      | true ↦ named_tree i k d g rest ∙ swap (bytes_eq d.id i) (is_named i g) (is_named i rest)
+      | false ↦ named_tree i k d (under same_key p g below) (under same_key p g rest)
+          ∙ rw (named_under i p g below, named_under i p g rest)
+          (sort (bytes_eq d.id i) (outside i p below) (has same_key p below && is_named i g) (outside i p rest) (has same_key p rest && is_named i g)
+          ∙ ap (λ b. (bytes_eq d.id i || (outside i p below || outside i p rest)) || b) (both (has same_key p below) (has same_key p rest) (is_named i g)))
+    ]
+
+-- Once a box is added, its id is there besides those of before.
+pub named_added : (i : List ℕ) (p k : BoxKey) (d : Item) (f : Boxes) → has same_key p f ≡ true →
+    is_named i (with_child p None k d f) ≡ (is_named i f || bytes_eq d.id i)
+named_added i p k d f there =
+    named_under i p (children same_key p f ▷ tree k d empty empty) f
+    ∙ rw (there, named_join i (children same_key p f) (tree k d empty empty), named_tree i k d empty empty, named_children i p f) (last (outside i p f) (is_named i (children same_key p f)) (bytes_eq d.id i))
+  where
+    last : (o c b : Bool) → (o || (c || (b || false))) ≡ ((o || c) || b)
+    last true c b = refl
+    last false true b = refl
+    last false false true = refl
+    last false false false = refl
+
+there_first : (i : List ℕ) (k j : BoxKey) (d : Item) (below rest : Boxes) → (named i below ≡ Some k → has same_key k below ≡ true)
+    → (named i rest ≡ Some k → has same_key k rest ≡ true) → named i (tree j d below rest) ≡ Some k → has same_key k (tree j d below rest) ≡ true
+there_first i k j d below rest down on h = by (bytes_eq d.id i) h
+  where
+    deeper : (o : Option BoxKey) → named i below ≡ o → or_else o (named i rest) ≡ Some k → (has same_key k below || has same_key k rest) ≡ true
+    deeper None e h = from_right (has same_key k below) (has same_key k rest) (on h)
+    deeper (Some l) e h = from_left (has same_key k below) (has same_key k rest) (down (e ∙ h))
+
+    by : (b : Bool) → cond b (Some j) (or_else (named i below) (named i rest)) ≡ Some k → (same_key k j || (has same_key k below || has same_key k rest)) ≡ true
+    by true h = from_left (same_key k j) (has same_key k below || has same_key k rest) (let e : j ≡ k = cc in rw e (same_key-refl k))
+    by false h = from_right (same_key k j) (has same_key k below || has same_key k rest) (deeper (named i below) refl h)
+
+-- a box with an id is in the forest
+pub named_there : (i : List ℕ) (k : BoxKey) (f : Boxes) → named i f ≡ Some k → has same_key k f ≡ true
+named_there i k empty h = cc
+named_there i k (tree j d below rest) h = there_first i k j d below rest (named_there i k below) (named_there i k rest) h
+
+-- the parent of a box, where the forest has one
+pub parent_there : (f : Boxes) (b : SceneBox) (k : BoxKey) → parent_in f b ≡ Some k → has same_key k f ≡ true
+parent_there f b k h = by b.parent h
+  where
+    by : (p : Option (List ℕ)) → option_and_then (λ i. named i f) p ≡ Some k → has same_key k f ≡ true
+    by None h = cc
+    by (Some i) h = named_there i k f h

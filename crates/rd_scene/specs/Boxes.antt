@@ -1,0 +1,38 @@
+-- Boxes as a script writes them. The members are this project's own choice.
+use Rattle.std.specs.Prelude.{ℕ, Bool, ◌&&◌, ◌||◌, ◌==◌, nat_le, if◌then◌else◌, List, [], ◌∷◌, codes, length, Option, Some, None, is_some}
+use Rattle.std.specs.List.{list_all}
+use Rattle.serde_json.specs.Data.{Data}
+use Rattle.serde_json.specs.Find.{get, as_str, as_object, as_null}
+use Rattle.rd_style.specs.Changes.{plain}
+use Rattle.rd_scene.specs.declared.script.SceneBox.{SceneBox}
+use Rattle.rd_scene.specs.Members.{◌>>=◌, only_if, has_only, optional}
+use Rattle.rd_scene.specs.Rects.{rect_of}
+use Rattle.rd_scene.specs.Styles.{style_of}
+
+-- an ASCII letter, a digit, `_`, `-`, `.` or `:`
+abbrev pub is_id_byte : ℕ → Bool
+is_id_byte c =
+    (nat_le 48 c && nat_le c 57) || (nat_le 65 c && nat_le c 90) || (nat_le 97 c && nat_le c 122)
+    || (c == 95) || (c == 45) || (c == 46) || (c == 58)
+
+-- 1 to 64 of these
+abbrev pub is_id : List ℕ → Bool
+is_id w = nat_le 1 (length w) && nat_le (length w) 64 && list_all is_id_byte w
+
+abbrev pub id_of : Data → Option (List ℕ)
+id_of d = as_str d >>= λ w. only_if (is_id w) (Some w)
+
+-- `null` for a box without a parent, or the parent's id
+abbrev pub parent_of : Data → Option (Option (List ℕ))
+parent_of d = if is_some (as_null d) then Some None else (id_of d >>= λ w. Some (Some w))
+
+-- a box object, whose style may be absent
+unfoldable pub box_of : Data → Option SceneBox
+box_of d = do
+  ms ← as_object d
+  id ← (get (codes "id") d >>= id_of)
+  parent ← (get (codes "parent") d >>= parent_of)
+  rect ← (get (codes "rect") d >>= rect_of)
+  style ← optional plain style_of (get (codes "style") d)
+  only_if (has_only (codes "id" ∷ codes "parent" ∷ codes "rect" ∷ codes "style" ∷ []) ms)
+      (Some (record { id = id; parent = parent; rect = rect; style = style }))

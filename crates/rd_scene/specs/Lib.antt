@@ -1,0 +1,10 @@
+pub mod Boxes
+pub mod Colors
+pub mod Commands
+pub mod Members
+pub mod Order
+pub mod Planting
+pub mod Reading
+pub mod Rects
+pub mod Scripts
+pub mod Styles

@@ -1,0 +1,35 @@
+-- Which boxes may follow which. This project's own choice: a parent stands before its children, and a tree has at most
+-- 256 levels.
+use Rattle.std.specs.Prelude.{ℕ, ◌+◌, Bool, true, false, ◌&&◌, nat_lt, if◌then◌else◌, List, [], ◌∷◌, bytes_eq, Option, Some, None, is_none, unwrap_or, option_and_then}
+use Rattle.rd_scene.specs.declared.script.SceneBox.{SceneBox}
+
+-- The depth of the box with this id among these, the latest first: 1, or one more than its parent's. None has no such box.
+abbrev pub depth_of : List ℕ → List SceneBox → Option ℕ
+depth_of id [] = None
+depth_of id (b ∷ before) =
+    if bytes_eq b.id id then Some (unwrap_or (option_and_then (λ p. depth_of p before) b.parent) 0 + 1) else depth_of id before
+
+-- the depth of a box with this parent after these boxes
+abbrev pub depth_below : List SceneBox → Option (List ℕ) → ℕ
+depth_below before parent = unwrap_or (option_and_then (λ p. depth_of p before) parent) 0 + 1
+
+-- Does no box stand before?
+abbrev pub is_first : List SceneBox → Bool
+is_first [] = true
+is_first (b ∷ before) = false
+
+-- a depth that leaves room for a level below it
+abbrev pub has_room : Option ℕ → Bool
+has_room None = false
+has_room (Some depth) = nat_lt depth 256
+
+-- The first box has no parent; any other one has a parent before it, with at most 255 levels down to that.
+abbrev pub has_place : List SceneBox → Option (List ℕ) → Bool
+has_place [] parent = is_none parent
+has_place (b ∷ before) None = false
+has_place (b ∷ before) (Some p) = has_room (depth_of p (b ∷ before))
+
+-- After the boxes before, the latest first, each box has an id of its own and a place.
+abbrev pub are_in_order : List SceneBox → List SceneBox → Bool
+are_in_order before [] = true
+are_in_order before (b ∷ bs) = is_none (depth_of b.id before) && has_place before b.parent && are_in_order (b ∷ before) bs

@@ -1,0 +1,71 @@
+//! Colours as a script writes them (CSS Color 3 section 4).
+
+ghost use Rattle.std.specs.Prelude.{◌≡◌};
+ghost use Rattle.serde_json.specs.View.{view};
+ghost use Rattle.rd_scene.specs.Colors as spec;
+
+use rd_geom::Color;
+use serde_json::Value;
+
+const TRANSPARENT: Color = Color {
+    r: 0,
+    g: 0,
+    b: 0,
+    a: 0,
+};
+
+fn hex_digit(c: u8) -> Option<u8>
+    ensures { result ≡ spec.hex_digit c }
+{
+    match c {
+        b'0'..=b'9' => Some(c - b'0'),
+        b'a'..=b'f' => Some(c - b'a' + 10),
+        b'A'..=b'F' => Some(c - b'A' + 10),
+        _ => None,
+    }
+}
+
+#[tactic(auto, unfolding(crate::specs::Colors::hex_byte))]
+fn hex_byte(c: u8, d: u8) -> Option<u8>
+    ensures { result ≡ spec.hex_byte c d }
+{
+    let high = hex_digit(c)?;
+    let low = hex_digit(d)?;
+    Some(16 * high + low)
+}
+
+#[tactic(auto, unfolding(crate::specs::Colors::rgb))]
+fn rgb(c: u8, d: u8, e: u8, f: u8, g: u8, h: u8, a: u8) -> Option<Color>
+    ensures { result ≡ spec.rgb c d e f g h a }
+{
+    let r = hex_byte(c, d)?;
+    let green = hex_byte(e, f)?;
+    let b = hex_byte(g, h)?;
+    Some(Color { r, g: green, b, a })
+}
+
+#[tactic(auto, unfolding(crate::specs::Colors::hashed))]
+fn hashed(word: &[u8]) -> Option<Color>
+    ensures { result ≡ spec.hashed word.now }
+{
+    match word {
+        [b'#', c, d, e, f, g, h] => rgb(*c, *d, *e, *f, *g, *h, 255),
+        [b'#', c, d, e, f, g, h, i, j] => {
+            let a = hex_byte(*i, *j)?;
+            rgb(*c, *d, *e, *f, *g, *h, a)
+        }
+        _ => None,
+    }
+}
+
+/// `transparent`, or `#` and six or eight digits.
+pub(crate) fn color_of(v: &Value) -> Option<Color>
+    ensures { result ≡ spec.color_of (view v.now) }
+{
+    let word = v.as_str()?;
+    if word == "transparent" {
+        Some(TRANSPARENT)
+    } else {
+        hashed(word.as_bytes())
+    }
+}

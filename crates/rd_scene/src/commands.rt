@@ -1,0 +1,53 @@
+//! Commands as a script writes them.
+
+ghost use Rattle.std.specs.Prelude.{◌≡◌, length, IfOk, vec_len};
+ghost use Rattle.serde_json.specs.View.{view, items_view};
+ghost use Rattle.rd_scene.specs.Commands as spec;
+ghost use Rattle.rd_scene.specs.Members.{each};
+ghost use Rattle.rd_scene.specs.Reading.{Gives};
+
+use crate::fault::SceneFault;
+use crate::members::{has_only, member};
+use crate::script::Command;
+use serde_json::Value;
+use std::alloc::Global;
+
+fn command_named(word: &str) -> Option<Command>
+    ensures { result ≡ spec.command_named word.now }
+{
+    match word {
+        "paint" => Some(Command::Paint),
+        "dump" => Some(Command::Dump),
+        _ => None,
+    }
+}
+
+#[tactic(auto, unfolding(crate::specs::Commands::command_of))]
+fn command_of(v: &Value) -> Option<Command>
+    ensures { result ≡ spec.command_of (view v.now) }
+{
+    let members = v.as_object()?;
+    let word = member(v, "do")?;
+    let word = word.as_str()?;
+    let command = command_named(word)?;
+    if has_only(members, &["do"]) {
+        Some(command)
+    } else {
+        None
+    }
+}
+
+/// The commands of an array.
+pub(crate) fn commands_of(alloc: Global, list: &[Value]) -> Result<Vec<Command>, SceneFault>
+    ensures value { Gives (λ v. v.items) result (each spec.command_of (items_view list.now)) }
+    ensures len { IfOk result (λ v. vec_len v ≡ length list.now) }
+{
+    let mut commands = Vec::new(alloc);
+    for v in list {
+        let Some(command) = command_of(v) else {
+            return Err(SceneFault::Form);
+        };
+        commands.push(command)?;
+    }
+    Ok(commands)
+}

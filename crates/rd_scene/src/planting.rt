@@ -1,0 +1,80 @@
+//! The tree of a script.
+
+ghost use Rattle.std.specs.Prelude.{◌≡◌, ◌<◌, true, [], ◌∷◌, length, All, IfOk, OnOk, None, IsSome};
+ghost use Rattle.rd_tree.specs.Document.{HasRoom, named};
+ghost use Rattle.rd_scene.specs.Order.{are_in_order};
+ghost use Rattle.rd_scene.specs.Planting as spec;
+ghost use Rattle.rd_scene.specs.Planting.{IsAlone, Adds, AddsAll, Plants};
+ghost use Rattle.rd_scene.specs.Scripts.{FitsBox};
+
+use crate::script::{SceneBox, Script};
+use rd_geom::NoMemory;
+use rd_tree::{BoxKey, Id, IdFault, Tree};
+use std::alloc::Global;
+use std::sync::ledger::Ledger;
+
+fn copy_of(alloc: Global, id: &Id) -> Result<Id, NoMemory>
+    ensures { IfOk result (λ i. i ≡ id.now) }
+{
+    match Id::new(alloc, id.text()) {
+        Ok(id) => Ok(id),
+        Err(IdFault::Form) => unreachable!(),
+        Err(IdFault::NoMemory) => Err(NoMemory),
+    }
+}
+
+/// The parent of the box in the tree.
+fn parent_key<B: Ledger>(tree: &Tree<B>, b: &SceneBox) -> Option<BoxKey>
+    ensures { result ≡ spec.parent_in tree.now.boxes b.now }
+{
+    let id = b.parent.as_ref()?;
+    tree.find(id)
+}
+
+/// A box more, as the last child of its parent.
+#[tactic(auto, using(crate::proofs::Names::parent_there))]
+fn add<B: Ledger>(tree: &mut Tree<B>, b: &SceneBox) -> Result<(), NoMemory>
+    requires parent { IsSome (spec.parent_in tree.old.boxes b.now) }
+    requires new_id { named b.now.id tree.old.boxes ≡ None }
+    requires room { HasRoom tree.old }
+    requires fits { FitsBox b.now }
+    ensures { OnOk result (Adds b.now tree.old tree.new) }
+{
+    let Some(parent) = parent_key(tree, b) else {
+        unreachable!()
+    };
+    tree.insert(parent, None, &b.id, b.rect, b.style)?;
+    Ok(())
+}
+
+/// These boxes more, in turn, in a tree of the first box alone.
+fn add_all<B: Ledger>(
+    tree: &mut Tree<B>,
+    first: &SceneBox,
+    rest: &[SceneBox],
+) -> Result<(), NoMemory>
+    requires alone { IsAlone first.now tree.old }
+    requires order { are_in_order (first.now ∷ []) rest.now ≡ true }
+    requires most { length rest.now < 20000 }
+    requires fits { All FitsBox rest.now }
+    ensures { OnOk result (AddsAll rest.now tree.old tree.new) }
+{
+    for b in rest {
+        add(tree, b)?;
+    }
+    Ok(())
+}
+
+/// The tree of the script's boxes: the first is the root, and each other the last child of its parent at that point. Every
+/// box is touched. The script stays.
+pub fn plant<B: Ledger>(alloc: Global, script: &Script) -> Result<Tree<B>, NoMemory>
+    ensures { IfOk result (λ t. Plants script.now t) }
+{
+    let [first, rest @ ..] = script.boxes.as_slice() else {
+        unreachable!()
+    };
+    let id = copy_of(alloc, &first.id)?;
+    let mut tree = Tree::new(alloc, script.canvas, id, first.rect, first.style)?;
+    add_all(&mut tree, first, rest)?;
+    Ok(tree)
+}

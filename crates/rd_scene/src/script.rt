@@ -1,0 +1,44 @@
+//! What a script holds.
+
+use rd_geom::{Rect, Size};
+use rd_style::Style;
+use rd_tree::Id;
+use std::marker::Model;
+
+/// A box of a scene: its id, its parent's id (none for the root), its border box in canvas pixels and its style.
+#[derive(Drop)]
+pub struct SceneBox {
+    pub id: Id,
+    pub parent: Option<Id>,
+    pub rect: Rect,
+    pub style: Style,
+}
+
+/// What is done to a scene.
+#[derive(Debug, Drop)]
+pub enum Command {
+    /// Paints what changed.
+    Paint,
+    /// Writes out the display list.
+    Dump,
+}
+
+/// A scene and what is done to it. Contracts see a script that keeps the rules of the format: a canvas of 1 to 4,096
+/// pixels each way; 1 to 20,000 boxes with ids of their own, each after its parent and at most 256 deep, within the limits
+/// of rectangles and widths; at most 1,000,000 commands.
+#[derive(Drop)]
+pub struct Script {
+    pub canvas: Size,
+    pub boxes: Vec<SceneBox>,
+    pub commands: Vec<Command>,
+}
+
+impl Model for Script {
+    ghost use Rattle.rd_scene.specs.Scripts as spec;
+
+    ghost Value = { spec.Script };
+
+    ghost view = { λ s. record { canvas = s.canvas; boxes = s.boxes.items; commands = s.commands.items } };
+
+    ghost invariant = { λ s. spec.IsScript (record { canvas = s.canvas; boxes = s.boxes.items; commands = s.commands.items }) };
+}

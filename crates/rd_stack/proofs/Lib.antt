@@ -1,0 +1,14 @@
+pub mod Slices
+pub mod Twelve
+pub mod Filters
+pub mod Joined
+pub mod ByLevel
+pub mod Totals
+pub mod Once
+pub mod Between
+pub mod Measures
+pub mod Owners
+pub mod Lines
+pub mod Shares
+pub mod Itself
+pub mod Going

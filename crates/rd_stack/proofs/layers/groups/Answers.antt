@@ -1,0 +1,18 @@
+use Rattle.std.proofs.Common.{◌≡◌, take, map, sym}
+use Rattle.std.specs.Prelude.{filter}
+use Rattle.rd_list.specs.Entries.{◌▷◌, each}
+use Rattle.rd_stack.specs.Seen.{spot}
+use Rattle.rd_stack.specs.Seen.{seen, looked}
+use Rattle.rd_stack.specs.Painting as painting
+use Rattle.rd_keys.specs.declared.entry.Part.TheVariants as parts
+use Rattle.rd_list.proofs.Joins.{join-nil}
+use Rattle.rd_list.proofs.Onward.{each_more, all_more}
+use Rattle.rd_stack.proofs.layers.groups.Goals as goal
+
+pub loop-x-init : goal.loop-x-init
+loop-x-init c = sym (join-nil _)
+
+pub loop-x-preserved : goal.loop-x-preserved
+loop-x-preserved c =
+    all_more looked painting.grouped c.args.xs.now c.loop-x.x-index c.x-item.result _ _ _
+    c.loop-x-test.true c.x-item.is c.loop-x.invariant c.in_ok-group.ensures

@@ -1,0 +1,21 @@
+use Rattle.std.proofs.Common.{◌≡◌, ◌∙◌, sym, refl, ap, map, Vec, Global}
+use Rattle.std.specs.Borrow.{Bor}
+use Rattle.rd_stack.specs.Seen.{spot, seen, looked}
+use Rattle.rd_stack.specs.Painting as painting
+use Rattle.rd_stack.specs.Tests as tests
+use Rattle.rd_stack.proofs.Filters.{filter_more, filter_past}
+use Rattle.rd_stack.proofs.layers.zeros.Goals as goal
+use Rattle.rd_stack.proofs.layers.zeros.Goals.{then-is_zero+in_ok-push, else-is_zero}
+
+pub loop-x-preserved : goal.loop-x-preserved
+loop-x-preserved c =
+    elim c.if-is_zero.branch [
+      | then-is_zero+in_ok-push w ↦
+          ap (λ (v : Vec _ _). map looked v.items) w.all-is
+          ∙ filter_more seen looked (tests.is_layer_of painting.is_zero (spot c.args.e.now)) c.args.below.now c.loop-x.x-index c.x-item.result _ c.loop-x.all.items w.push.new.self.items
+              c.loop-x-test.true c.x-item.is refl (sym c.is_zero.ensures ∙ w.if-is_zero.true) c.loop-x.invariant w.in_ok-push.ensures.items
+      | else-is_zero w ↦
+          ap (λ (v : Vec _ _). map looked v.items) w.all-is
+          ∙ filter_past seen looked (tests.is_layer_of painting.is_zero (spot c.args.e.now)) c.args.below.now c.loop-x.x-index c.x-item.result c.loop-x.all.items
+              c.loop-x-test.true c.x-item.is (sym c.is_zero.ensures ∙ w.if-is_zero.false) c.loop-x.invariant
+    ]

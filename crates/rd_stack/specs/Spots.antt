@@ -1,0 +1,87 @@
+-- Boxes where they stand, and how they take part in painting.
+use Rattle.std.specs.Prelude.{ℕ, ◌+◌, ◌-◌, Bool, true, false, not, ◌&&◌, ◌||◌, List, [], ◌∷◌, length, take}
+use Rattle.std.specs.List.{list_all, list_any}
+use Rattle.rd_geom.specs.Plane.{Rectangle, IsPlaced, grown}
+use Rattle.rd_style.specs.declared.styles.Style.{Style}
+use Rattle.rd_style.specs.declared.kinds.Class.{Class}
+use Rattle.rd_style.specs.declared.kinds.Class.TheVariants.{Layer, Float, Atom, Block, Inline}
+use Rattle.rd_style.specs.Boxes.{class, real}
+use Rattle.rd_keys.specs.Keys.{BoxKey, same_key}
+
+-- CSS 2.2 section 8.1: a box by its name, its border box and its style
+pub record BoxData : Type 0 where
+  pub key : BoxKey
+  pub rect : Rectangle
+  pub style : Style
+
+-- its outline is within the limits of rectangles
+abbrev pub HasRoom : BoxData → Type 0
+HasRoom b = IsPlaced (grown b.rect b.style.outline_width)
+
+-- This project's own form: a box with the boxes above it, from its parent up to the root.
+pub record Spot : Type 0 where
+  pub above : List BoxData
+  pub here : BoxData
+
+abbrev pub is_none : List BoxData → Bool
+is_none [] = true
+is_none (b ∷ bs) = false
+
+abbrev pub is_root : Spot → Bool
+is_root x = is_none x.above
+
+-- CSS 2.2 section 9.9.1: whether a box makes a stacking context
+abbrev pub is_context : Spot → Bool
+is_context x = real x.here.style (is_root x)
+
+abbrev pub class_of : Spot → Class
+class_of x = class x.here.style (is_root x)
+
+abbrev pub is_class : Class → Class → Bool
+is_class Layer Layer = true
+is_class Float Float = true
+is_class Atom Atom = true
+is_class Block Block = true
+is_class Inline Inline = true
+is_class _ _ = false
+
+-- Is its class the given one?
+abbrev pub is : Class → Spot → Bool
+is c x = is_class c (class_of x)
+
+-- Of a box that is not the root: a block or an inline box, that is, no layer, float or atomic inline.
+abbrev pub is_plain : BoxData → Bool
+is_plain b = is_class Block (class b.style false) || is_class Inline (class b.style false)
+
+abbrev pub is_inline : BoxData → Bool
+is_inline b = is_class Inline (class b.style false)
+
+abbrev pub is_no_context : BoxData → Bool
+is_no_context b = not (real b.style false)
+
+-- the boxes strictly between e and a box x below it, from x up
+abbrev pub between : Spot → Spot → List BoxData
+between e x = take (length x.above - (length e.above + 1)) x.above
+
+-- Does x stand below c?
+abbrev pub is_below : Spot → Spot → Bool
+is_below c x = list_any (λ b. same_key b.key c.here.key) x.above
+
+-- CSS 2.2 Appendix E.2: a box below e is local to it where no layer, float or atomic inline stands strictly between.
+abbrev pub is_local : Spot → Spot → Bool
+is_local e x = list_all is_plain (between e x)
+
+-- CSS 2.2 Appendix E.2: the layers of e have no stacking context strictly between.
+abbrev pub is_layer : Spot → Spot → Bool
+is_layer e x = is Layer x && list_all is_no_context (between e x)
+
+abbrev pub is_all_inline : Spot → Spot → Bool
+is_all_inline c x = list_all is_inline (between c x)
+
+-- an inline box or an atomic inline
+abbrev pub flows : Spot → Bool
+flows x = is Inline x || is Atom x
+
+-- CSS 2.2 Appendix E.2: x is in the line of c, a box that e paints, where only inline boxes stand strictly between.
+abbrev pub is_in_line : Spot → Spot → Spot → Bool
+is_in_line e c x = is_local e x && flows x && is_below c x && is_all_inline c x

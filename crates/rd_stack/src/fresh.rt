@@ -1,0 +1,138 @@
+//! The fresh list of a tree, by looks at its boxes.
+ghost use Rattle.std.specs.Prelude.{◌≡◌, IfOk, MatchOption, map, ◌∷◌, ◌++◌};
+ghost use Rattle.rd_geom.specs.Canvas.{IsCanvas};
+ghost use Rattle.rd_keys.specs.Keys.{same_key};
+ghost use Rattle.rd_tree.specs.Forest.{empty, from, from_some};
+ghost use Rattle.rd_stack.specs.Seen.{seen};
+ghost use Rattle.rd_stack.specs.Fresh as spec;
+ghost use Rattle.rd_stack.specs.Painting as painting;
+ghost use Rattle.rd_stack.specs.Looks.{Onward};
+
+use crate::layers::group;
+use crate::painted::Painted;
+use crate::spot::{BoxData, Spot};
+use crate::steps::steps;
+use rd_geom::{NoMemory, Rect, Steps};
+use rd_keys::BoxKey;
+use rd_list::PlainList;
+use rd_tree::Tree;
+use std::alloc::Global;
+use std::sync::ledger::Ledger;
+
+/// A box on top of those above it.
+fn under(alloc: Global, b: &BoxData, above: &[BoxData]) -> Result<Vec<BoxData>, NoMemory>
+    ensures { IfOk result (λ v. v.items ≡ b.now ∷ above.now) }
+{
+    let mut all = Vec::new(alloc);
+    all.push(*b)?;
+    all.extend_from_slice(above)?;
+    Ok(all)
+}
+
+/// What a walk needs of a box.
+struct Looked {
+    here: BoxData,
+    first_child: Option<BoxKey>,
+    next_sibling: Option<BoxKey>,
+}
+
+fn look_at<B: Ledger>(tree: &Tree<B>, key: BoxKey, looks: &mut Steps<B>) -> Option<Looked>
+    ensures { MatchOption result (from same_key key tree.now.boxes ≡ empty) (λ s. Onward tree.now.boxes key s.here s.first_child s.next_sibling) }
+{
+    match tree.look(key, looks) {
+        Some(view) => Some(Looked {
+            here: BoxData::new(view.key, view.rect, *view.style),
+            first_child: view.first_child,
+            next_sibling: view.next_sibling,
+        }),
+        None => None,
+    }
+}
+
+/// A box with all that it paints, from what the boxes below it paint.
+fn paint_over(
+    alloc: Global,
+    canvas: &Rect,
+    above: &[BoxData],
+    here: &BoxData,
+    below: &[Painted],
+) -> Result<Painted, NoMemory>
+    ensures { IfOk result (λ p. seen p ≡ record { at = record { above = above.now; here = here.now }; order = painting.steps canvas.now (record { above = above.now; here = here.now }) (map seen below.now) }) }
+{
+    let at = Spot {
+        above: above.to_vec(alloc)?,
+        here: *here,
+    };
+    let order = steps(alloc, canvas, &at, below)?;
+    Ok(Painted { at, order })
+}
+
+/// A box and those below it in tree order, each with all that it paints.
+#[cycle(paint)]
+fn paint_one<B: Ledger>(
+    alloc: Global,
+    tree: &Tree<B>,
+    canvas: &Rect,
+    above: &[BoxData],
+    here: &BoxData,
+    first_child: Option<BoxKey>,
+    looks: &mut Steps<B>,
+) -> Result<Vec<Painted>, NoMemory>
+    ensures { IfOk result (λ v. map seen v.items ≡ spec.with_below canvas.now above.now here.now (spec.painted canvas.now (here.now ∷ above.now) (from_some same_key first_child tree.now.boxes))) }
+{
+    let path = under(alloc, here, above)?;
+    let mut below = paint_all(alloc, tree, canvas, &path, first_child, looks)?;
+    let painted = paint_over(alloc, canvas, above, here, &below)?;
+    let mut all = Vec::new(alloc);
+    all.push(painted)?;
+    all.append(&mut below)?;
+    Ok(all)
+}
+
+/// A box, its later siblings, and all below them in tree order, each with all that it paints.
+#[cycle(paint)]
+fn paint_all<B: Ledger>(
+    alloc: Global,
+    tree: &Tree<B>,
+    canvas: &Rect,
+    above: &[BoxData],
+    first: Option<BoxKey>,
+    looks: &mut Steps<B>,
+) -> Result<Vec<Painted>, NoMemory>
+    ensures { IfOk result (λ v. map seen v.items ≡ spec.painted canvas.now above.now (from_some same_key first tree.now.boxes)) }
+{
+    let mut all = Vec::new(alloc);
+    let mut next = first;
+    while let Some(key) = next {
+        let Looked {
+            here,
+            first_child,
+            next_sibling,
+        } = match look_at(tree, key, looks) {
+            Some(looked) => looked,
+            None => break,
+        };
+        let mut painted = paint_one(alloc, tree, canvas, above, &here, first_child, looks)?;
+        all.append(&mut painted)?;
+        next = next_sibling;
+    }
+    Ok(all)
+}
+
+/// What a tree of boxes paints, from bottom to top (CSS 2.2 Appendix E).
+pub fn fresh_list<B: Ledger>(
+    alloc: Global,
+    tree: &Tree<B>,
+    looks: &mut Steps<B>,
+) -> Result<PlainList, NoMemory>
+    requires { IsCanvas tree.now.canvas }
+    ensures { IfOk result (λ list. list ≡ spec.fresh_list tree.now) }
+{
+    let canvas = tree.canvas().rect();
+    let painted = paint_all(alloc, tree, &canvas, &[], Some(tree.root()), looks)?;
+    let mut out = PlainList::new(alloc);
+    if let Some(root) = painted.first() {
+        group(alloc, &mut out, root)?;
+    }
+    Ok(out)
+}

@@ -1,0 +1,15 @@
+//! The painting order of a tree of boxes (CSS 2.2 Appendix E).
+//!
+//! The plain program computes the fresh list of a tree by filters over the boxes below each box; it is slow and stays as what faster ones are compared with.
+#![tactic(auto)]
+
+mod clip;
+mod flow;
+mod fresh;
+mod layers;
+mod painted;
+mod parts;
+mod spot;
+mod steps;
+
+pub use fresh::fresh_list;
