@@ -14,7 +14,7 @@ use Rattle.rd_keys.proofs.Keys.{same_key-sound, same_key-refl}
 use Rattle.rd_tree.specs.declared.node.Node as inner
 use Rattle.rd_tree.specs.Forest.{empty, tree, has, children, IsPlaceIn}
 use Rattle.rd_tree.specs.Links.{Node, ends_of, left_of, grafted}
-use Rattle.rd_tree.specs.Limits.{FitsRect, Fits}
+use Rattle.rd_style.specs.Limits.{FitsRect, Fits}
 use Rattle.rd_tree.specs.Document.{BoxKey, Item, Boxes, Slot, named, with_child, with_taken}
 use Rattle.rd_tree.specs.Linked.{plain, linked, Relinks, IsTree, seen, marks, item_at, IsIndexed, AddsText, EachFits, IsSound}
 use Rattle.rd_tree.proofs.Marks.{marks-enters}

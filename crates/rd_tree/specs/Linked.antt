@@ -10,7 +10,7 @@ use Rattle.rd_tree.specs.declared.node.Node as inner
 use Rattle.rd_tree.specs.Forest.{size, has, IsApart}
 use Rattle.rd_tree.specs.Links.{Node, Stands, read}
 use Rattle.rd_tree.specs.Document.{BoxKey, Item, Boxes, Slot}
-use Rattle.rd_tree.specs.Limits.{FitsRect, Fits}
+use Rattle.rd_style.specs.Limits.{FitsRect, Fits}
 use Rattle.rd_tree.specs.Shown.{Shown}
 
 abbrev pub plain : inner.Node → Node BoxKey Item
