@@ -1,12 +1,12 @@
 -- A slot is taken, and what is seen once it is filled.
-use Rattle.std.proofs.Common.{◌≡◌, ◌≢◌, refl, ap, ◌∙◌, sym, subst, ℕ, zero, suc, ◌||◌, ◌+◌, ◌<◌, ◌≤◌, ◌==◌, Bool, true, false, cond, arith, List, [], ◌∷◌, ◌++◌, length, map, count_by, ◌⊎◌, inl, inr, length-append}
+use Rattle.std.proofs.Common.{◌≡◌, refl, ap, ◌∙◌, sym, subst, ℕ, suc, ◌||◌, ◌+◌, ◌<◌, ◌≤◌, ◌==◌, true, false, arith, List, [], ◌∷◌, ◌++◌, length, map, count_by, ◌⊎◌, inl, inr, length-append}
 use Rattle.std.specs.Prelude.{Option, Some, None, IsSome, is_some, slice_index_or, slice_index, slice_set, nat_lt}
 use Rattle.std.specs.Prelude.{Result, Ok, Err, OnOk}
 use Rattle.std.specs.Result.{is_err}
 use Rattle.std.proofs.lemmas.Grind.{common_steps}
 use Rattle.std.proofs.lemmas.List.{get_or_append_left}
 use Rattle.std.proofs.lemmas.List.Sums.{sum_by-append, sum_by-cons}
-use Rattle.std.proofs.Math.Seq.{get_or-append_seam, get_or-append_right}
+use Rattle.std.proofs.Math.Seq.{get_or-append_seam}
 use Rattle.slab.specs.Slab.{Slab, get, Updates}
 use Rattle.rd_keys.specs.declared.arena.Place as inner
 use Rattle.rd_keys.specs.declared.arena.State.{State}
@@ -14,7 +14,7 @@ use Rattle.rd_keys.specs.declared.arena.State.TheVariants.{Free, Held, Retired}
 use Rattle.rd_keys.specs.Arena.{Arena, Slot, unmade, slot_at, live, retired, occupied, is_taken, IsUsed, with_slot, Enters}
 use Rattle.rd_keys.specs.Inside.{unmade_place, place_at, held_place, is_retired, is_held, held_at, seen_slot, seen_slots, IsSound, Takes}
 use Rattle.rd_keys.proofs.Slots.{cases, seen_at, seen_change}
-use Rattle.rd_keys.proofs.Filling.{bit, Ready, filled, live_seen, retired_seen}
+use Rattle.rd_keys.proofs.Filling.{bit, Ready}
 
 set_last : {A : Type 0} (xs : List A) (a b : A) → slice_set (xs ++ a ∷ []) (length xs) b ≡ xs ++ b ∷ []
 set_last [] a b = refl

@@ -1,4 +1,4 @@
-use Rattle.std.proofs.Common.{◌≡◌, ◌+◌, ◌∙◌, sym, ap}
+use Rattle.std.proofs.Common.{◌+◌, ◌∙◌, sym, ap}
 use Rattle.std.specs.Prelude.{vec_capacity}
 use Rattle.rd_keys.proofs.Filling.{live_seen, retired_seen}
 use Rattle.rd_keys.proofs.Taking.{occupied_seen}
