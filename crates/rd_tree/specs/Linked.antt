@@ -74,3 +74,17 @@ seen a root = read a.limit (linked a) (Some root)
 -- what a node shows of its box
 abbrev pub shown_of : BoxKey → Bool → inner.Node → Shown
 shown_of k is_root n = record { key = k; rect = n.item.rect; style = n.item.style; is_root = is_root; first_child = n.links.first; next_sibling = n.links.next; touched = n.item.touched }
+
+-- the boxes that the links tell from one on: it, those below it, and its later siblings with theirs
+abbrev pub seen_from : Arena inner.Node → Option BoxKey → Boxes
+seen_from a first = read a.limit (linked a) first
+
+-- From this one on the links stand for boxes.
+pub record IsRead (a : Arena inner.Node) (first : Option BoxKey) : Type 0 where
+  pub boxes : Boxes
+  pub up : Option BoxKey
+  pub prev : Option BoxKey
+  pub last : Option BoxKey
+  pub stands : Stands (linked a) up prev boxes first last None
+  pub apart : IsApart same_key boxes
+  pub small : size boxes ≤ a.limit
