@@ -5,7 +5,9 @@
 
 mod hits;
 
+mod pixels;
 mod plain;
 
 pub use hits::hit;
+pub use pixels::pixel;
 pub use plain::{PlainEntry, PlainList};

@@ -6,7 +6,8 @@ use Rattle.rd_item.specs.declared.leaf.Leaf.{Leaf}
 use Rattle.rd_list.specs.Entries.{Entries, nil, leaf, group, flat}
 use Rattle.rd_list.specs.Lists.{StandsFor, same_leaf}
 use Rattle.rd_tree.specs.Document.{Document}
-use Rattle.rd_stack.specs.Fresh.{canvas_of, fresh_list}
+use Rattle.rd_geom.specs.Canvas.{canvas_of}
+use Rattle.rd_stack.specs.Fresh.{fresh_list}
 use Rattle.rd_scene.specs.Scripts.{Script}
 use Rattle.rd_scene.specs.declared.script.Command.{Command}
 use Rattle.rd_scene.specs.declared.script.Command.TheVariants.{Paint, Dump}
@@ -34,7 +35,7 @@ leaves (group k opacity inner rest) = group k opacity (leaves inner) (leaves res
 
 -- The invalid area, as rectangles: for now every paint paints the whole canvas.
 abbrev pub invalid_area : State → List Rectangle
-invalid_area s = canvas_of s.tree ∷ []
+invalid_area s = canvas_of s.tree.canvas ∷ []
 
 -- does a leaf meet one of these rectangles?
 abbrev pub meets_any : List Rectangle → Leaf → Bool
@@ -73,7 +74,7 @@ pub record Paints (old : State) (text : List ℕ) (new : State) : Type 0 where
   pub stands : StandsFor (leaves new.kept) (fresh_list old.tree)
   pub numbers : AllByRecursion (λ i. i.made ≡ made_after old i.of) (flat new.kept)
   pub settled : new ≡ record { tree = old.tree; last = Some old.tree; pending = false; paints = old.paints + 1; kept = new.kept }
-  pub told : text ≡ paint_line (old.paints + 1) (built old) (kept_on old) (pixels_in (canvas_of old.tree) (invalid_area old))
+  pub told : text ≡ paint_line (old.paints + 1) (built old) (kept_on old) (pixels_in (canvas_of old.tree.canvas) (invalid_area old))
 
 -- a pending list is painted first
 abbrev pub Settles : Bool → State → List ℕ → State → Type 0

@@ -1,6 +1,7 @@
 //! What is displayed between two commands.
 
 ghost use Rattle.std.specs.Prelude.{◌≡◌, ℕ, ◌+◌, ◌*◌, ◌<◌, ◌≤◌, ◌^◌, IfOk, OnErr, string_bytes, unsigned_abs, true};
+ghost use Rattle.rd_geom.specs.Canvas.{IsCanvas};
 ghost use Rattle.rd_list.specs.Entries.{nil};
 ghost use Rattle.rd_run.specs.Machine.{State, Step, Paints, Settles};
 ghost use Rattle.rd_run.specs.Display.{Shows, Answers};
@@ -46,7 +47,8 @@ impl Display {
         tree: &Tree<B>,
         looks: &mut Steps<B>,
     ) -> Result<String, AllocError>
-        requires { self.old.paints < 2 ^ 40 }
+        requires few { self.old.paints < 2 ^ 40 }
+        requires canvas { IsCanvas tree.now.canvas }
         ensures ok { IfOk result (λ text. (s : State) → Shows tree.now self.old s → Answers Paints s (string_bytes text) tree.now self.new) }
         ensures err { OnErr result (self.new ≡ self.old) }
         ensures count { self.new.paints ≤ self.old.paints + 1 }
@@ -67,7 +69,8 @@ impl Display {
         tree: &Tree<B>,
         looks: &mut Steps<B>,
     ) -> Result<String, AllocError>
-        requires { self.old.paints < 2 ^ 40 }
+        requires few { self.old.paints < 2 ^ 40 }
+        requires canvas { IsCanvas tree.now.canvas }
         ensures ok { IfOk result (λ text. (s : State) → Shows tree.now self.old s → Answers (Settles self.old.pending) s (string_bytes text) tree.now self.new) }
         ensures err { OnErr result (self.new ≡ self.old) }
         ensures count { self.new.paints ≤ self.old.paints + 1 }
@@ -87,7 +90,8 @@ impl Display {
         command: &Command,
         looks: &mut Steps<B>,
     ) -> Result<String, AllocError>
-        requires { self.old.paints < 2 ^ 40 }
+        requires few { self.old.paints < 2 ^ 40 }
+        requires canvas { IsCanvas tree.now.canvas }
         ensures ok { IfOk result (λ text. (s : State) → Shows tree.now self.old s → Answers (λ old t new. Step old command.now t new) s (string_bytes text) tree.now self.new) }
         ensures count { self.new.paints ≤ self.old.paints + 1 }
     {

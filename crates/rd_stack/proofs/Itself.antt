@@ -319,7 +319,7 @@ once_each empty h = λ j. omega arith
 once_each (tree k d c n) h = λ j. one_of_three j k c n h.0 h.1 h.2 (once_each c h.3 j) (once_each n h.4 j)
 
 -- what the whole painting order counts by a measure
-fresh_least : (t : Document) → IsRooted t → forest.IsApart same_key t.boxes → (n : Entries Leaf → ℕ) (own : BoxData → ℕ) → IsMeasure (canvas_of t.canvas) n own
+pub fresh_least : (t : Document) → IsRooted t → forest.IsApart same_key t.boxes → (n : Entries Leaf → ℕ) (own : BoxData → ℕ) → IsMeasure (canvas_of t.canvas) n own
     → n (fresh_list t) ≤ all kind own t.boxes
 fresh_least t r h n own m =
     let d : Item = r.0 in
@@ -338,7 +338,7 @@ fresh_least t r h n own m =
         let entry = m.entry_least (record { at = top; order = steps (canvas_of t.canvas) top (painted (canvas_of t.canvas) (box t.root d ∷ []) below) }) in
         rw e (omega (arith, walk, entry))
 
-none_at_all : (f : Boxes) → all kind (λ b. 0) f ≡ 0
+pub none_at_all : (f : Boxes) → all kind (λ b. 0) f ≡ 0
 none_at_all empty = refl
 none_at_all (tree k d c n) = omega (arith, none_at_all c, none_at_all n)
 

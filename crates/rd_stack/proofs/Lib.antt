@@ -11,3 +11,12 @@ pub mod Owners
 pub mod Lines
 pub mod Shares
 pub mod Itself
+pub mod Going
+pub mod Sums
+pub mod Paths
+pub mod Weights
+pub mod InlineLines
+pub mod Takes
+pub mod Counted
+pub mod OnCanvas
+pub mod Visible

@@ -6,7 +6,8 @@ use Rattle.rd_keys.specs.Keys.{BoxKey}
 use Rattle.rd_item.specs.declared.leaf.Leaf.{Leaf}
 use Rattle.rd_list.specs.Entries.{Entries, nil}
 use Rattle.rd_tree.specs.Forest.{empty, tree}
-use Rattle.rd_tree.specs.Document.{Item, Boxes, Document}
+use Rattle.rd_tree.specs.declared.node.Item.{Item}
+use Rattle.rd_tree.specs.Document.{Boxes, Document}
 use Rattle.rd_stack.specs.Spots.{BoxData, Spot}
 use Rattle.rd_stack.specs.Painting.{Painted, steps, grouped}
 

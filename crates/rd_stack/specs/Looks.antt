@@ -2,7 +2,8 @@
 use Rattle.std.specs.Prelude.{◌≡◌, Option}
 use Rattle.rd_keys.specs.Keys.{BoxKey, same_key}
 use Rattle.rd_tree.specs.Forest.{tree, from, from_some}
-use Rattle.rd_tree.specs.Document.{Item, Boxes}
+use Rattle.rd_tree.specs.declared.node.Item.{Item}
+use Rattle.rd_tree.specs.Document.{Boxes}
 use Rattle.rd_stack.specs.Spots.{BoxData}
 use Rattle.rd_stack.specs.Fresh.{box}
 

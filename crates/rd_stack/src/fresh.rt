@@ -15,7 +15,7 @@ use crate::steps::steps;
 use rd_geom::{NoMemory, Rect, Steps};
 use rd_keys::BoxKey;
 use rd_list::PlainList;
-use rd_tree::{BoxView, Tree};
+use rd_tree::Tree;
 use std::alloc::Global;
 use std::sync::ledger::Ledger;
 
@@ -40,17 +40,10 @@ fn look_at<B: Ledger>(tree: &Tree<B>, key: BoxKey, looks: &mut Steps<B>) -> Opti
     ensures { MatchOption result (from same_key key tree.now.boxes ≡ empty) (λ s. Onward tree.now.boxes key s.here s.first_child s.next_sibling) }
 {
     match tree.look(key, looks) {
-        Some(BoxView {
-            key,
-            rect,
-            style,
-            first_child,
-            next_sibling,
-            ..
-        }) => Some(Looked {
-            here: BoxData::new(key, rect, *style),
-            first_child,
-            next_sibling,
+        Some(view) => Some(Looked {
+            here: BoxData::new(view.key, view.rect, *view.style),
+            first_child: view.first_child,
+            next_sibling: view.next_sibling,
         }),
         None => None,
     }

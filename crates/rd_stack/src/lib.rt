@@ -6,6 +6,7 @@
 mod clip;
 mod flow;
 mod fresh;
+pub mod laws;
 mod layers;
 mod painted;
 mod parts;

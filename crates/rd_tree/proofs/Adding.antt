@@ -8,7 +8,8 @@ use Rattle.std.proofs.lemmas.Map.Text.{hash_map_updates_text}
 use Rattle.std.specs.Str.{bytes_eq}
 use Rattle.std.proofs.lemmas.Grind.{common_steps}
 use Rattle.rd_keys.specs.Keys.{same_key}
-use Rattle.rd_keys.specs.Arena.{Arena, value, occupied, Stored}
+use Rattle.rd_keys.specs.Arena.{Arena, value, live, retired, occupied, Enters}
+use Rattle.rd_keys.proofs.Calls.{value-before, live-enters, limit-enters}
 use Rattle.rd_keys.proofs.Keys.{same_key-sound, same_key-refl}
 use Rattle.rd_tree.specs.declared.node.Node as inner
 use Rattle.rd_tree.specs.Forest.{empty, tree, has, children, IsPlaceIn}
@@ -82,12 +83,12 @@ indexed_added k d old new ids0 ids1 more free none adds x = record { named = nam
 pub grow_sound : {Y S : Type 0} (a0 a1 a2 : Arena inner.Node) (root p k : BoxKey) (before : Option BoxKey) (d : Item) (ids0 ids1 : HashMap (String Y) BoxKey S) →
     IsSound a0 root ids0 → occupied a0 < 20000 → has same_key p (seen a0 root) ≡ true → IsPlaceIn same_key before (children same_key p (seen a0 root)) → named d.id (seen a0 root) ≡ None →
     FitsRect d.rect → Fits d.style → value a0 k.slot k.generation ≡ None →
-    Stored a0 a1 k.slot k.generation (fresh d p (left_of (linked a0) (ends_of (linked a0 p)).1 before) before) → occupied a1 ≡ occupied a0 + 1 → AddsText d.id k ids0 ids1 →
+    Enters a0 a1 k.slot k.generation (fresh d p (left_of (linked a0) (ends_of (linked a0 p)).1 before) before) → live a1 ≡ live a0 + 1 → retired a1 ≡ retired a0 → AddsText d.id k ids0 ids1 →
     Relinks a1 a2 (grafted same_key p k (left_of (linked a0) (ends_of (linked a0 p)).1 before) before (ends_of (linked a0 p)).0 (ends_of (linked a0 p)).1 (linked a1)) →
     IsSound a2 root ids1 × GrownTree a0 a2 root p k before d × (occupied a2 ≡ occupied a0 + 1)
-grow_sound a0 a1 a2 root p k before d ids0 ids1 s room m place new_id r st free stored more adds r2 =
+grow_sound a0 a1 a2 root p k before d ids0 ids1 s room m place new_id r st free stored more still adds r2 =
     let room2 : occupied a0 < a0.limit = rw s.limit room in
-    let g : GrownTree a0 a2 root p k before d = grow_tree a0 a1 a2 root p k before d s.tree room2 m place free stored more r2 in
+    let g : GrownTree a0 a2 root p k before d = grow_tree a0 a1 a2 root p k before d s.tree room2 m place free stored more still r2 in
     let v : Option BoxKey = left_of (linked a0) (ends_of (linked a0 p)).1 before in
     let items : AddsItem k d (item_at a0) (item_at a2) = items_grown a0 a1 a2 p k (fresh d p v before) v before (ends_of (linked a0 p)).0 (ends_of (linked a0 p)).1 stored r2 in
     let dead : item_at a0 k ≡ None = ap (λ o. option_map (λ n. n.item) (option_map plain o)) free in (
@@ -95,19 +96,19 @@ grow_sound a0 a1 a2 root p k before d ids0 ids1 s room m place new_id r st free 
         tree = g.is;
         indexed = indexed_added k d (item_at a0) (item_at a2) ids0 ids1 items dead (named_seen a0 root ids0 d.id s ∙ new_id) adds s.indexed;
         fits = fits_added k d (item_at a0) (item_at a2) items r st s.fits;
-        limit = r2.limit ∙ (stored.limit ∙ s.limit);
+        limit = r2.limit ∙ (limit-enters a0 a1 k.slot k.generation (fresh d p v before) stored ∙ s.limit);
       },
       g,
-      r2.same_count ∙ more,
+      omega (arith, r2.same_live, r2.same_retired, more, still),
     )
 
 -- The first box came in.
 pub planted_sound : {Y S : Type 0} (a0 a1 : Arena inner.Node) (k : BoxKey) (d : Item) (ids0 ids1 : HashMap (String Y) BoxKey S) →
-    a0.held ≡ [] → a0.limit ≡ 20000 → FitsRect d.rect → Fits d.style → Stored a0 a1 k.slot k.generation (alone d) → occupied a1 ≡ occupied a0 + 1 →
+    a0.slots ≡ [] → a0.limit ≡ 20000 → FitsRect d.rect → Fits d.style → Enters a0 a1 k.slot k.generation (alone d) → live a1 ≡ live a0 + 1 → retired a1 ≡ retired a0 →
     ((i : List ℕ) → get_by_text ids0 i ≡ None) → AddsText d.id k ids0 ids1 →
     IsSound a1 k ids1 × (seen a1 k ≡ tree k d empty empty)
-planted_sound a0 a1 k d ids0 ids1 none limit r st stored more no_id adds =
-    let t : (t : IsTree a1 k) × (seen a1 k ≡ tree k d empty empty) = planted a0 a1 k d none (rw limit (omega arith)) stored more in
+planted_sound a0 a1 k d ids0 ids1 none limit r st stored more still no_id adds =
+    let t : (t : IsTree a1 k) × (seen a1 k ≡ tree k d empty empty) = planted a0 a1 k d none (rw limit (omega arith)) stored more still in
     let nothing : (j : BoxKey) → item_at a0 j ≡ None = λ j. ap (λ o. option_map (λ n. n.item) (option_map plain o)) (no_value a0 j.slot j.generation none) in
     let items : AddsItem k d (item_at a0) (item_at a1) = λ j. ap (option_map (λ n. n.item)) (linked_put a0 a1 k (alone d) stored j) ∙ kept (same_key k j) (linked a0 j) in
     let x : IsIndexed (item_at a0) ids0 = record { named = λ j e h. cc (h, nothing j); live = λ i j h. cc (h, no_id i) } in (
@@ -115,7 +116,7 @@ planted_sound a0 a1 k d ids0 ids1 none limit r st stored more no_id adds =
         tree = t.0;
         indexed = indexed_added k d (item_at a0) (item_at a1) ids0 ids1 items (nothing k) (no_id d.id) adds x;
         fits = fits_added k d (item_at a0) (item_at a1) items r st (λ j e h. cc (h, nothing j));
-        limit = stored.limit ∙ limit;
+        limit = limit-enters a0 a1 k.slot k.generation (alone d) stored ∙ limit;
       },
       t.1,
     ) where
@@ -144,15 +145,16 @@ no_text ids e i = ap (lookup (λ k. bytes_eq i (string_bytes k))) e
 -- The same, as the code knows it.
 pub grown_so : {Y S : Type 0} (a0 a1 a2 : Arena inner.Node) (root p k : BoxKey) (before : Option BoxKey) (d : Item) (ids0 ids1 : HashMap (String Y) BoxKey S) (i : List ℕ) (v : Option BoxKey) (ends : Option BoxKey × Option BoxKey) →
     IsSound a0 root ids0 → occupied a0 < 20000 → has same_key p (seen a0 root) ≡ true → IsPlaceIn same_key before (children same_key p (seen a0 root)) → named d.id (seen a0 root) ≡ None →
-    FitsRect d.rect → Fits d.style → i ≡ d.id → v ≡ left_of (linked a0) ends.1 before → ends ≡ ends_of (linked a0 p) → value a0 k.slot k.generation ≡ None →
-    Stored a0 a1 k.slot k.generation (fresh (record d { id = i }) p v before) → occupied a1 ≡ occupied a0 + 1 → AddsText i k ids0 ids1 →
+    FitsRect d.rect → Fits d.style → i ≡ d.id → v ≡ left_of (linked a0) ends.1 before → ends ≡ ends_of (linked a0 p) →
+    Enters a0 a1 k.slot k.generation (fresh (record d { id = i }) p v before) → AddsText i k ids0 ids1 →
     Relinks a1 a2 (grafted same_key p k v before ends.0 ends.1 (linked a1)) →
     IsSound a2 root ids1 × GrownTree a0 a2 root p k before d × (occupied a2 ≡ occupied a0 + 1)
-grown_so a0 a1 a2 root p k before d ids0 ids1 i v ends s room m place new_id r st same_id left ends_are free stored more adds links =
-    let s1 : Stored a0 a1 k.slot k.generation (fresh d p v before) = subst (λ j. Stored a0 a1 k.slot k.generation (fresh (record d { id = j }) p v before)) same_id stored in
+grown_so a0 a1 a2 root p k before d ids0 ids1 i v ends s room m place new_id r st same_id left ends_are stored adds links =
+    let s1 : Enters a0 a1 k.slot k.generation (fresh d p v before) = subst (λ j. Enters a0 a1 k.slot k.generation (fresh (record d { id = j }) p v before)) same_id stored in
     let v2 : v ≡ left_of (linked a0) (ends_of (linked a0 p)).1 before = left ∙ ap (λ o. left_of (linked a0) o.1 before) ends_are in
-    let s2 : Stored a0 a1 k.slot k.generation (fresh d p (left_of (linked a0) (ends_of (linked a0 p)).1 before) before) = subst (λ w. Stored a0 a1 k.slot k.generation (fresh d p w before)) v2 s1 in
+    let s2 : Enters a0 a1 k.slot k.generation (fresh d p (left_of (linked a0) (ends_of (linked a0 p)).1 before) before) = subst (λ w. Enters a0 a1 k.slot k.generation (fresh d p w before)) v2 s1 in
     let r1 : Relinks a1 a2 (grafted same_key p k v before (ends_of (linked a0 p)).0 (ends_of (linked a0 p)).1 (linked a1)) = subst (λ o. Relinks a1 a2 (grafted same_key p k v before o.0 o.1 (linked a1))) ends_are links in
     let r2 : Relinks a1 a2 (grafted same_key p k (left_of (linked a0) (ends_of (linked a0 p)).1 before) before (ends_of (linked a0 p)).0 (ends_of (linked a0 p)).1 (linked a1)) =
     subst (λ w. Relinks a1 a2 (grafted same_key p k w before (ends_of (linked a0 p)).0 (ends_of (linked a0 p)).1 (linked a1))) v2 r1 in
-    grow_sound a0 a1 a2 root p k before d ids0 ids1 s room m place new_id r st free s2 more (subst (λ j. AddsText j k ids0 ids1) same_id adds) r2
+    let counts : (live a1 ≡ live a0 + 1) × (retired a1 ≡ retired a0) = live-enters a0 a1 k.slot k.generation (fresh (record d { id = i }) p v before) stored in
+    grow_sound a0 a1 a2 root p k before d ids0 ids1 s room m place new_id r st (value-before a0 a1 k.slot k.generation (fresh (record d { id = i }) p v before) stored) s2 counts.0 counts.1 (subst (λ j. AddsText j k ids0 ids1) same_id adds) r2

@@ -2,7 +2,7 @@
 use Rattle.std.proofs.Common.{◌≡◌, refl, ap, ◌∙◌, sym, subst, Bool, true, false, cond, inl, inr}
 use Rattle.std.specs.Prelude.{Option, Some, None, option_map}
 use Rattle.rd_keys.specs.Keys.{same_key}
-use Rattle.rd_keys.specs.Arena.{Arena, value, Stored}
+use Rattle.rd_keys.specs.Arena.{Arena, value, Enters}
 use Rattle.rd_tree.specs.declared.node.Node as inner
 use Rattle.rd_tree.specs.Links.{Node, edit, edit_if, with_next, with_prev, with_ends, but, grafted}
 use Rattle.rd_tree.specs.Document.{BoxKey, Item}
@@ -32,7 +32,7 @@ module _ {K D : Type 0} (same : K → K → Bool) where
 
 -- the items once one more is stored and linked
 pub items_grown : (a0 a1 a2 : Arena inner.Node) (p k : BoxKey) (x : inner.Node) (v m first last : Option BoxKey) →
-    Stored a0 a1 k.slot k.generation x → Relinks a1 a2 (grafted same_key p k v m first last (linked a1)) →
+    Enters a0 a1 k.slot k.generation x → Relinks a1 a2 (grafted same_key p k v m first last (linked a1)) →
     (j : BoxKey) → item_at a2 j ≡ cond (same_key k j) (Some x.item) (item_at a0 j)
 items_grown a0 a1 a2 p k x v m first last s r j =
     ap (option_map (λ n. n.item)) (r.links j) ∙ (items-grafted same_key p k v m first last (linked a1) j ∙ (ap (option_map (λ n. n.item)) (linked_put a0 a1 k x s j) ∙ kept (same_key k j) (linked a0 j))) where

@@ -4,7 +4,7 @@ use Rattle.std.specs.HashMap.{HashMap, get_by_text}
 use Rattle.std.specs.Prelude.{String}
 use Rattle.std.specs.Str.{bytes_eq}
 use Rattle.rd_keys.specs.Keys.{same_key}
-use Rattle.rd_keys.specs.Arena.{Arena, value, occupied}
+use Rattle.rd_keys.specs.Arena.{Arena, value, live, retired, occupied}
 use Rattle.rd_tree.specs.declared.node.Node as inner
 use Rattle.rd_tree.specs.Forest.{size, has, IsApart}
 use Rattle.rd_tree.specs.Links.{Node, Stands, read}
@@ -18,10 +18,11 @@ plain n = record { item = n.item; up = n.links.up; prev = n.links.prev; first = 
 abbrev pub linked : Arena inner.Node → BoxKey → Option (Node BoxKey Item)
 linked a k = option_map plain (value a k.slot k.generation)
 
--- The nodes are linked so, and are as many, in the same slots.
+-- The nodes are linked so, under the same keys.
 pub record Relinks (old new : Arena inner.Node) (at : BoxKey → Option (Node BoxKey Item)) : Type 0 where
   pub links : (j : BoxKey) → linked new j ≡ at j
-  pub same_count : occupied new ≡ occupied old
+  pub same_live : live new ≡ live old
+  pub same_retired : retired new ≡ retired old
   pub limit : new.limit ≡ old.limit
 
 -- The nodes are linked as this forest, and no box is outside it.
@@ -29,7 +30,7 @@ pub record IsLinked (a : Arena inner.Node) (root : BoxKey) (f : Boxes) : Type 0 
   pub stands : Stands (linked a) None None f (Some root) (Some root) None
   pub apart : IsApart same_key f
   pub inside : (k : BoxKey) → is_some (linked a k) ≡ true → has same_key k f ≡ true
-  pub counted : size f ≤ occupied a
+  pub counted : size f ≡ live a
 
 pub record IsTree (a : Arena inner.Node) (root : BoxKey) : Type 0 where
   pub boxes : Boxes

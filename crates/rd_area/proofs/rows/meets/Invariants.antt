@@ -1,0 +1,7 @@
+use Rattle.std.proofs.Common.{◌≡◌, ℕ, ◌<◌, ◌≤◌, [], get_or, IsFalse}
+use Rattle.rd_area.specs.Rows.{row_meets}
+use Rattle.rd_area.specs.Sound.{spans_of}
+use Rattle.rd_area.proofs.rows.meets.Given as goal
+
+abbrev pub invariant-loop-y : goal.invariant-loop-y
+invariant-loop-y l = (y : ℕ) → l.from ≤ y → y < l.y → IsFalse (row_meets (get_or (spans_of l.rows.items) y []) l.span)

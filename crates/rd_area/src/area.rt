@@ -1,0 +1,130 @@
+//! A set of pixels of a canvas.
+
+ghost use Rattle.std.specs.Prelude.{◌≡◌, ℕ, ℤ, pos, ◌+ℤ◌, ◌≤ℤ◌, ◌||◌, ◌↔◌, IfOk, OnOk, OnErr, IsTrue, IsFalse, Bool, false};
+ghost use Rattle.rd_geom.specs.Plane.{common, right, bottom, holds_pixel, has_none};
+ghost use Rattle.rd_geom.specs.Canvas.{IsCanvas, canvas_of};
+ghost use Rattle.rd_geom.specs.Areas.{in_area, in_spans, spans_at, count_of};
+ghost use Rattle.rd_area.specs.Rows.{IsRising};
+ghost use Rattle.rd_area.specs.Sharing.{SharesPixel};
+
+use crate::{row, rows};
+use rd_geom::{NoMemory, Rect, Size, Span, hull, meet};
+use std::alloc::Global;
+use std::marker::Model;
+
+/// A set of pixels of a canvas, as spans for each of its rows.
+#[derive(Drop)]
+pub struct Area {
+    size: Size,
+
+    /// No pixel of the area is outside.
+    used: Rect,
+    rows: Vec<Vec<Span>>,
+}
+
+impl Model for Area {
+    ghost use Rattle.rd_geom.specs.Areas.{Region};
+    ghost use Rattle.rd_area.specs.Sound.{spans_of, IsSound};
+
+    ghost Value = { Region };
+
+    ghost view = { λ a. record { size = a.size; rows = spans_of a.rows.items } };
+
+    ghost invariant = { λ a. IsSound a.size a.used (spans_of a.rows.items) };
+}
+
+/// The columns of a rectangle.
+fn columns(r: Rect) -> Span
+    ensures { result ≡ record { x0 = r.x; x1 = right r } }
+{
+    Span {
+        x0: r.x(),
+        x1: r.x() + r.w(),
+    }
+}
+
+/// The rows of a rectangle, from the first up to the one after the last.
+fn rows_of(r: Rect) -> (usize, usize)
+    requires { pos 0 ≤ℤ r.y }
+    ensures first { pos result.0 ≡ r.y }
+    ensures last { pos result.1 ≡ bottom r }
+{
+    (r.y() as usize, (r.y() + r.h()) as usize)
+}
+
+impl Area {
+    /// No pixel of a canvas of this size, which is from 1 to 4,096 pixels wide and high.
+    pub fn none(alloc: Global, size: Size) -> Result<Area, NoMemory>
+        requires { IsCanvas size }
+        ensures size { IfOk result (λ a. a.size ≡ size) }
+        ensures pixels { IfOk result (λ a. (x y : ℤ) → in_area a x y ≡ false) }
+    {
+        let rows = rows::empty_rows(alloc, size.h as usize)?;
+        Ok(Area {
+            size,
+            used: Rect::EMPTY,
+            rows,
+        })
+    }
+
+    /// Every pixel of a canvas of this size, which is from 1 to 4,096 pixels wide and high.
+    pub fn whole(alloc: Global, size: Size) -> Result<Area, NoMemory>
+        requires { IsCanvas size }
+        ensures size { IfOk result (λ a. a.size ≡ size) }
+        ensures pixels { IfOk result (λ a. (x y : ℤ) → in_area a x y ≡ holds_pixel (canvas_of size) x y) }
+    {
+        let mut area = Area::none(alloc, size)?;
+        area.add(size.rect())?;
+        Ok(area)
+    }
+
+    /// The pixels of the rectangle that are on the canvas join. Without memory the area stays as it was.
+    pub fn add(&mut self, r: Rect) -> Result<(), NoMemory>
+        ensures size { OnOk result (self.new.size ≡ self.old.size) }
+        ensures pixels { OnOk result ((x y : ℤ) → in_area self.new x y ≡ (holds_pixel (common r (canvas_of self.old.size)) x y || in_area self.old x y)) }
+        ensures refused { OnErr result (self.new ≡ self.old) }
+    {
+        let seen = meet(r, self.size.rect());
+        if seen.is_empty() {
+            return Ok(());
+        }
+        let (from, to) = rows_of(seen);
+        rows::reserve(&mut self.rows, from, to)?;
+        rows::join(&mut self.rows, from, to, columns(seen));
+        self.used = hull(self.used, seen);
+        Ok(())
+    }
+
+    /// Is a pixel of the rectangle in the area?
+    pub fn meets(&self, r: Rect) -> bool
+        ensures { IsTrue result ↔ SharesPixel self.now r }
+    {
+        let seen = meet(self.used, r);
+        if seen.is_empty() {
+            return false;
+        }
+        let (from, to) = rows_of(seen);
+        rows::meets(&self.rows, from, to, columns(seen))
+    }
+
+    /// Is the pixel in column `x` and row `y` in the area?
+    pub fn holds(&self, x: i32, y: i32) -> bool
+        ensures { result ≡ in_area self.now x y }
+    {
+        row::holds(self.spans(y), x)
+    }
+
+    /// The pixels of row `y` as rising spans, which neither touch nor are empty; none for a row off the canvas.
+    pub fn spans(&self, y: i32) -> &[Span]
+        ensures value { result.now ≡ spans_at self.now.rows y }
+        ensures rising { IsRising (pos 0) self.now.size.w result.now }
+    {
+        if y < 0 {
+            return &[];
+        }
+        match self.rows.get(y as usize) {
+            Some(row) => row,
+            None => &[],
+        }
+    }
+}

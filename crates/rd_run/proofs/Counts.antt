@@ -1,0 +1,62 @@
+-- Lines and counts of lists that are put one on another.
+use Rattle.std.proofs.Common.{◌≡◌, ℕ, ◌+◌, ◌≤◌, ◌<◌, List, [], ◌∷◌, ◌++◌, length, get_or, take, refl, sym, ◌∙◌, ap, arith, length-append, append_assoc, append-nil}
+use Rattle.std.proofs.lemmas.List.{take_more}
+use Rattle.rd_item.specs.declared.leaf.Leaf as item
+use Rattle.rd_list.specs.Entries.{Entries, nil, leaf, group, ◌▷◌, flat}
+use Rattle.rd_list.specs.Listed.{listed}
+use Rattle.rd_list.specs.declared.plain.PlainEntry.{PlainEntry}
+use Rattle.rd_list.specs.declared.plain.PlainEntry.TheVariants.{Leaf, Group}
+use Rattle.rd_list.proofs.Joins.{listed-append, flat-join}
+use Rattle.rd_tree.specs.Document.{Boxes}
+use Rattle.rd_run.specs.Lines.{KeptItem, item_line, group_line, lines, width}
+use Rattle.rd_run.specs.Display.{stamped}
+
+pub width-stamped : (n : ℕ) (xs : Entries item.Leaf) → width (stamped n xs) ≡ width xs
+width-stamped n nil = refl
+width-stamped n (leaf l rest) = ap (λ m. m + 1) (width-stamped n rest)
+width-stamped n (group k o inner rest) = ap (λ m. m + 1) (width-stamped n rest)
+
+pub width-listed : (es : List PlainEntry) → width (listed es) ≡ length es
+width-listed [] = refl
+width-listed (Leaf l ∷ es) = omega (arith, width-listed es)
+width-listed (Group k o inner ∷ es) = omega (arith, width-listed es)
+
+pub length-stamped : (n : ℕ) (xs : Entries item.Leaf) → length (flat (stamped n xs)) ≡ length (flat xs)
+length-stamped n nil = refl
+length-stamped n (leaf l rest) = omega (arith, length-stamped n rest)
+length-stamped n (group k o inner rest) =
+    length-append (flat (stamped n inner)) _ ∙ omega (arith, length-stamped n inner, length-stamped n rest, length-append (flat inner) (flat rest))
+
+stamped-join : (n : ℕ) (xs ys : Entries item.Leaf) → stamped n (xs ▷ ys) ≡ stamped n xs ▷ stamped n ys
+stamped-join n nil ys = refl
+stamped-join n (leaf l xs) ys = ap (leaf (record { of = l; made = n })) (stamped-join n xs ys)
+stamped-join n (group k o inner xs) ys = ap (group k o (stamped n inner)) (stamped-join n xs ys)
+
+lines-join : (t : Boxes) (d : ℕ) (xs ys : Entries KeptItem) → lines t d (xs ▷ ys) ≡ lines t d xs ++ lines t d ys
+lines-join t d nil ys = refl
+lines-join t d (leaf i xs) ys =
+    ap (λ z. item_line t d i ++ z) (lines-join t d xs ys) ∙ sym (append_assoc (item_line t d i) (lines t d xs) (lines t d ys))
+lines-join t d (group k o inner xs) ys =
+    let front : List ℕ = group_line t d k o (width inner) ++ lines t (d + 1) inner in
+    ap (λ z. front ++ z) (lines-join t d xs ys) ∙ sym (append_assoc front (lines t d xs) (lines t d ys))
+
+-- one more entry's lines
+pub lines_more : (t : Boxes) (d n : ℕ) (es : List PlainEntry) (i : ℕ) (x : PlainEntry) (begun before after : List ℕ) → i < length es → x ≡ get_or es i x
+    → before ≡ begun ++ lines t d (stamped n (listed (take i es))) → after ≡ before ++ lines t d (stamped n (listed (x ∷ [])))
+    → after ≡ begun ++ lines t d (stamped n (listed (take (i + 1) es)))
+lines_more t d n es i x begun before after h e p q =
+    let more : listed (take (i + 1) es) ≡ listed (take i es) ▷ listed (x ∷ []) = rw (take_more es i x h, ← e) (listed-append (take i es) (x ∷ [])) in
+    let split : lines t d (stamped n (listed (take (i + 1) es))) ≡ lines t d (stamped n (listed (take i es))) ++ lines t d (stamped n (listed (x ∷ []))) =
+        ap (λ z. lines t d (stamped n z)) more ∙ ap (lines t d) (stamped-join n (listed (take i es)) (listed (x ∷ []))) ∙ lines-join t d (stamped n (listed (take i es))) (stamped n (listed (x ∷ []))) in
+    q ∙ ap (λ z. z ++ lines t d (stamped n (listed (x ∷ [])))) p
+      ∙ append_assoc begun (lines t d (stamped n (listed (take i es)))) (lines t d (stamped n (listed (x ∷ []))))
+      ∙ ap (λ z. begun ++ z) (sym split)
+
+-- and one more entry's leaves
+pub count_more : (es : List PlainEntry) (i : ℕ) (x : PlainEntry) → i < length es → x ≡ get_or es i x
+    → length (flat (listed (take (i + 1) es))) ≡ length (flat (listed (take i es))) + length (flat (listed (x ∷ [])))
+count_more es i x h e =
+    let more : listed (take (i + 1) es) ≡ listed (take i es) ▷ listed (x ∷ []) = rw (take_more es i x h, ← e) (listed-append (take i es) (x ∷ [])) in
+    ap (λ z. length (flat z)) more ∙ ap length (flat-join (listed (take i es)) (listed (x ∷ []))) ∙ length-append (flat (listed (take i es))) (flat (listed (x ∷ [])))
+
+pub ruleset counting = (width-stamped, width-listed, length-stamped, append_assoc, append-nil)

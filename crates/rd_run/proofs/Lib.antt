@@ -1,0 +1,4 @@
+pub mod Counts
+pub mod Pixels
+pub mod Painting
+pub mod Runs

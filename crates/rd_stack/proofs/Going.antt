@@ -1,0 +1,86 @@
+-- What a look at a box tells of the walk over a tree.
+use Rattle.std.proofs.Common.{◌≡◌, refl, ap, ◌∙◌, sym, subst, Bool, true, false, inl, inr, ℕ, ◌<◌, ◌≤◌, ◌+◌, arith, List, [], ◌∷◌, ◌++◌, append_assoc, map}
+use Rattle.std.specs.Prelude.{Option, Some, None}
+use Rattle.rd_geom.specs.Plane.{Rectangle, IsPlaced, grown}
+use Rattle.rd_style.specs.declared.styles.Style.{Style}
+use Rattle.rd_style.specs.Limits.{FitsRect, Fits}
+use Rattle.rd_style.proofs.Room.{grown_is_placed}
+use Rattle.rd_keys.specs.Keys.{BoxKey, same_key}
+use Rattle.rd_tree.specs.Forest.{Forest, empty, tree, has, from, from_some, size, IsApart}
+use Rattle.rd_tree.specs.declared.node.Item.{Item}
+use Rattle.rd_tree.specs.Document.{Boxes, AllFit}
+use Rattle.rd_tree.specs.Shown.{Shown, shown}
+use Rattle.rd_tree.proofs.Looking as looking
+use Rattle.rd_tree.proofs.Standing.{cases}
+use Rattle.rd_stack.specs.Spots.{BoxData}
+use Rattle.rd_stack.specs.Fresh.{box, painted, with_below}
+use Rattle.rd_stack.specs.Painting.{Painted}
+use Rattle.rd_stack.specs.Looks.{Onward}
+
+fit_from : (k : BoxKey) (f : Boxes) → AllFit f → AllFit (from same_key k f)
+fit_from k empty a = tt
+fit_from k (tree j d below rest) a =
+    elim (cases (same_key k j)) [
+      | inl e ↦ rw e a
+      | inr e ↦ elim (cases (has same_key k below)) [ inl u ↦ rw (e, u) (fit_from k below a.2) | inr u ↦ rw (e, u) (fit_from k rest a.3) ]
+    ]
+
+placed_as : (q : Rectangle) (s : Style) (r : Rectangle) (t : Style) → q ≡ r → s ≡ t → FitsRect r → Fits t → IsPlaced (grown q s.outline_width)
+placed_as q s r t e h f g = rw (e, h) (grown_is_placed r t.outline_width f g.outline)
+
+-- the box that is looked at has room for its outline
+pub placed : (root : BoxKey) (f : Boxes) (k : BoxKey) (v : Shown) → IsApart same_key f → AllFit f → Some v ≡ shown root (from same_key k f) → IsPlaced (grown v.rect v.style.outline_width)
+placed root f k v a l h =
+    let w = looking.onward root f k v a h in
+    let fits : AllFit (tree k w.item w.below w.rest) = subst AllFit w.is (fit_from k f l) in
+    placed_as v.rect v.style w.item.rect w.item.style w.rect w.style fits.0 fits.1
+
+pub onward : (root : BoxKey) (f : Boxes) (k : BoxKey) (v : Shown) (here : BoxData) → IsApart same_key f → Some v ≡ shown root (from same_key k f) → here ≡ record { key = v.key; rect = v.rect; style = v.style }
+    → Onward f k here v.first_child v.next_sibling
+onward root f k v here a h e =
+    let w = looking.onward root f k v a h in
+    record {
+      item = w.item;
+      below = w.below;
+      rest = w.rest;
+      is = w.is;
+      data_is = e ∙ data_of v w.item k w.key w.rect w.style;
+      child = w.child;
+      next = w.next;
+    }
+  where
+    data_of : (v : Shown) (d : Item) (k : BoxKey) → v.key ≡ k → v.rect ≡ d.rect → v.style ≡ d.style → record { key = v.key; rect = v.rect; style = v.style } ≡ box k d
+    data_of v d k p q r =
+        let mk : BoxKey → Rectangle → Style → BoxData = λ x y z. record { key = x; rect = y; style = z } in
+        ap (λ x. mk x v.rect v.style) p ∙ (ap (λ y. mk k y v.style) q ∙ ap (mk k d.rect) r)
+
+pub smaller_child : (f : Boxes) (k : BoxKey) (here : BoxData) (c n : Option BoxKey) → Onward f k here c n → size (from_some same_key c f) < size (from same_key k f)
+smaller_child f k here c n w = rw (w.is, w.child) (omega arith)
+
+pub smaller_next : (f : Boxes) (k : BoxKey) (here : BoxData) (c n : Option BoxKey) → Onward f k here c n → size (from_some same_key n f) < size (from same_key k f)
+smaller_next f k here c n w = rw (w.is, w.next) (omega arith)
+
+module _ (canvas : Rectangle) where
+  -- one sibling more is painted
+  pub painted_more : (f : Boxes) (above : List BoxData) (k : BoxKey) (here : BoxData) (c n : Option BoxKey) (before after one whole : List Painted) → Onward f k here c n
+      → before ++ painted canvas above (from same_key k f) ≡ whole → one ≡ with_below canvas above here (painted canvas (here ∷ above) (from_some same_key c f)) → after ≡ before ++ one
+      → after ++ painted canvas above (from_some same_key n f) ≡ whole
+  painted_more f above k here c n before after one whole w b o e =
+      let all : painted canvas above (from same_key k f) ≡ one ++ painted canvas above (from_some same_key n f) = rw (w.is, o, w.data_is, w.child, w.next) refl in
+      rw (e, ← b, all) (append_assoc before one (painted canvas above (from_some same_key n f)))
+
+  pub none_painted : (above : List BoxData) (f : Boxes) (before whole : List Painted) → before ++ painted canvas above f ≡ whole → f ≡ empty → before ≡ whole
+  none_painted above f before whole b e = sym (append_nil before) ∙ (ap (λ g. before ++ painted canvas above g) (sym e) ∙ b)
+    where
+      append_nil : (xs : List Painted) → xs ++ [] ≡ xs
+      append_nil [] = refl
+      append_nil (x ∷ xs) = ap (λ zs. x ∷ zs) (append_nil xs)
+
+  -- what the loop over siblings keeps
+  pub go_on : (f : Boxes) (above : List BoxData) (o : Option BoxKey) (k : BoxKey) (here : BoxData) (c n : Option BoxKey) (m : ℕ) (before after one whole : List Painted) → Onward f k here c n → o ≡ Some k
+      → (size (from_some same_key o f) ≤ m) × (before ++ painted canvas above (from_some same_key o f) ≡ whole)
+      → one ≡ with_below canvas above here (painted canvas (here ∷ above) (from_some same_key c f)) → after ≡ before ++ one
+      → (size (from_some same_key n f) ≤ m) × (after ++ painted canvas above (from_some same_key n f) ≡ whole)
+  go_on f above o k here c n m before after one whole w e i p q =
+      let here_is = subst (λ x. (size (from_some same_key x f) ≤ m) × (before ++ painted canvas above (from_some same_key x f) ≡ whole)) e i in
+      (omega (arith, smaller_next f k here c n w, here_is.0), painted_more f above k here c n before after one whole w here_is.1 p q)
