@@ -33,5 +33,5 @@ loop-b-preserved g c =
       names = rw more (names_more c.loop-b.tree.boxes c.add.new.tree.boxes before b adds.0 adds.1 c.loop-b.invariant.names
           (parent_there c.loop-b.tree.boxes b adds.0 adds.2) (ap (λ t. t.boxes) adds.4));
       order = rw more s.others;
-      taken = rw (ap (λ t. t.taken) adds.4, c.loop-b.invariant.taken) (omega arith);
+      taken = rw (adds.5, c.loop-b.invariant.taken) (omega arith);
     }
