@@ -172,7 +172,7 @@ fn the_base_scene_is_dumped_in_tree_order(rt: HostRuntime) -> Result<(), Fail> {
 fn each_bad_run_has_its_status_and_its_line(rt: HostRuntime) -> Result<(), Fail> {
     let alloc = rt.alloc();
     let usage =
-        "usage: rd_cli replay | rd_cli render | rd_cli storm --seed N --boxes N --edits N\n";
+        b"usage: rd_cli replay | rd_cli render | rd_cli storm --seed N --boxes N --edits N\n";
     let base = BASE.as_bytes();
     let translucent = FOUR_LAYERS.replace(
         alloc,
@@ -181,21 +181,21 @@ fn each_bad_run_has_its_status_and_its_line(rt: HostRuntime) -> Result<(), Fail>
     )?;
     let mut translucent = translucent;
     translucent.push_str("]}")?;
-    let cases: [(&[&str], &[u8], &[u64], &[u64], u8, &str); 8] = [
+    let cases: [(&[&str], &[u8], &[u64], &[u64], u8, &[u8]); 8] = [
         (&[], base, &[], &[], 1, usage),
         (&["replay", "--seed", "1"], base, &[], &[], 1, usage),
         (&["paint"], base, &[], &[], 1, usage),
-        (&["replay"], base, &[0], &[], 4, "read fault\n"),
-        (&["replay"], b"{\"vers", &[], &[], 2, "not json\n"),
-        (&["replay"], b"{}", &[], &[], 3, "form\n"),
-        (&["replay"], translucent.as_bytes(), &[], &[], 3, "form\n"),
-        (&["replay"], base, &[], &[0], 5, "write fault\n"),
+        (&["replay"], base, &[0], &[], 4, b"read fault\n"),
+        (&["replay"], b"{\"vers", &[], &[], 2, b"not json\n"),
+        (&["replay"], b"{}", &[], &[], 3, b"form\n"),
+        (&["replay"], translucent.as_bytes(), &[], &[], 3, b"form\n"),
+        (&["replay"], base, &[], &[0], 5, b"write fault\n"),
     ];
-    for (words, input, reads, writes, status, line) in cases {
+    for (i, (words, input, reads, writes, status, line)) in cases.into_iter().enumerate() {
         let bad = run_over(alloc, words, Vec::from_slice(alloc, input)?, reads, writes)?;
-        assert_eq!(rt; bad.status, status, "with {line}");
-        assert_eq!(rt; bad.out.as_str(), "", "with {line}");
-        assert_eq!(rt; bad.err.as_str(), line);
+        assert_eq!(rt; bad.status, status, "in case {i}");
+        assert!(rt; bad.out.is_empty(), "in case {i}");
+        assert!(rt; bad.err.as_bytes() == line, "in case {i}");
     }
     Ok(())
 }
