@@ -30,4 +30,3 @@ pub listed-append : (xs ys : List PlainEntry) → listed (xs ++ ys) ≡ listed x
 listed-append [] ys = refl
 listed-append (entry.Leaf l ∷ xs) ys = ap (leaf l) (listed-append xs ys)
 listed-append (entry.Group k o inner ∷ xs) ys = ap (group k o inner) (listed-append xs ys)
-

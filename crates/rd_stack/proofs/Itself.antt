@@ -60,7 +60,7 @@ some_found : (j : BoxKey) (above : List BoxData) (f : Boxes) → 1 ≤ all kind 
 some_found j above empty h = absurd (omega arith)
 some_found j above (tree k d c n) h =
     elim (same_key j k) as (λ v. 1 ≤ cond v 1 0 + all kind (hits j) c + all kind (hits j) n
-        → (x : Spot) × (cond v (Some (record { above = above; here = box k d })) (or_else (find j (box k d ∷ above) c) (find j above n)) ≡ Some x)) [
+    → (x : Spot) × (cond v (Some (record { above = above; here = box k d })) (or_else (find j (box k d ∷ above) c) (find j above n)) ≡ Some x)) [
       | true ↦ λ e. (record { above = above; here = box k d }, refl)
       | false ↦ λ e. one_of (find j (box k d ∷ above) c) (find j above n) (all kind (hits j) c)
           (λ z. none_found j (box k d ∷ above) c z) (λ l. some_found j (box k d ∷ above) c l) (λ z. some_found j above n (omega arith))
@@ -71,16 +71,17 @@ known_below : (look : BoxKey → Option Spot) (above : List BoxData) (f : Boxes)
     → ((j : BoxKey) → 1 ≤ all kind (hits j) f → look j ≡ find j above f) → AreKnownBelow look above f
 known_below look above empty once h = tt
 known_below look above (tree k d c n) once h =
-    let mine : hits k (box k d) ≡ 1 = rw (same_key-refl k) refl in
-    (h k (omega arith) ∙ rw (same_key-refl k) refl,
-     known_below look (box k d ∷ above) c (λ j. omega (arith, once j)) (λ j l.
-       let q = some_found j (box k d ∷ above) c l in
-       let other : same_key j k ≡ false = not_here j (same_key j k) refl (omega (arith, once j)) in
-       h j (omega arith) ∙ rw (other, q.1) refl),
-     known_below look above n (λ j. omega (arith, once j)) (λ j l.
-       let none = none_found j (box k d ∷ above) c (omega (arith, once j)) in
-       let other : same_key j k ≡ false = not_here j (same_key j k) refl (omega (arith, once j)) in
-       h j (omega arith) ∙ rw (other, none) refl))
+    let mine : hits k (box k d) ≡ 1 = rw (same_key-refl k) refl in (
+      h k (omega arith) ∙ rw (same_key-refl k) refl,
+      known_below look (box k d ∷ above) c (λ j. omega (arith, once j)) (λ j l.
+          let q = some_found j (box k d ∷ above) c l in
+          let other : same_key j k ≡ false = not_here j (same_key j k) refl (omega (arith, once j)) in
+          h j (omega arith) ∙ rw (other, q.1) refl),
+      known_below look above n (λ j. omega (arith, once j)) (λ j l.
+          let none = none_found j (box k d ∷ above) c (omega (arith, once j)) in
+          let other : same_key j k ≡ false = not_here j (same_key j k) refl (omega (arith, once j)) in
+          h j (omega arith) ∙ rw (other, none) refl),
+    )
   where
     not_here : (j : BoxKey) (v : Bool) → same_key j k ≡ v → cond (same_key j k) 1 0 ≤ 0 → v ≡ false
     not_here j true e l = absurd (omega (arith, rw e at l))
@@ -149,7 +150,13 @@ module _ (canvas : Rectangle) where
   shown_part x q None = tt
   shown_part x q (Some s) =
       elim (has_none (common s.0.outer (clip_of canvas x))) as (λ v. IsPartOf x q (cond v None (Some (record {
-          owner = x.here.key; part = q; visible = common s.0.outer (clip_of canvas x); shape = s.0; color = s.1; hits = takes_hits x.here.style.pointer })))) [
+        owner = x.here.key;
+        part = q;
+        visible = common s.0.outer (clip_of canvas x);
+        shape = s.0;
+        color = s.1;
+        hits = takes_hits x.here.style.pointer;
+      })))) [
         | true ↦ tt
         | false ↦ (refl, refl)
       ]
@@ -186,8 +193,15 @@ module _ (canvas : Rectangle) where
     where
       few : (x : Spot) → parts canvas (leaves_of j p) x ≤ hits j x.here
       few x =
-          omega (arith, leaves-join j p (paint canvas Back x) (paint canvas Border x), paint_least j p x Back, paint_least j p x Border, paint_least j p x Content, paint_least j p x Outline,
-            one_part (same_key j x.here.key) p)
+          omega (
+            arith,
+            leaves-join j p (paint canvas Back x) (paint canvas Border x),
+            paint_least j p x Back,
+            paint_least j p x Border,
+            paint_least j p x Content,
+            paint_least j p x Outline,
+            one_part (same_key j x.here.key) p,
+          )
 
   no_groups : (j : BoxKey) (o : Option Leaf) → groups_of j (singly o) ≡ 0
   no_groups j None = refl
@@ -210,8 +224,14 @@ module _ (canvas : Rectangle) where
     where
       none : (x : Spot) → parts canvas (groups_of j) x ≡ 0
       none x =
-          omega (arith, groups_of-join j (paint canvas Back x) (paint canvas Border x), no_groups j (leaf_of canvas x Back), no_groups j (leaf_of canvas x Border),
-            no_groups j (leaf_of canvas x Content), no_groups j (leaf_of canvas x Outline))
+          omega (
+            arith,
+            groups_of-join j (paint canvas Back x) (paint canvas Border x),
+            no_groups j (leaf_of canvas x Back),
+            no_groups j (leaf_of canvas x Border),
+            no_groups j (leaf_of canvas x Content),
+            no_groups j (leaf_of canvas x Outline),
+          )
 
   none_empty : (o : Option Leaf) → empty_groups (singly o) ≡ 0
   none_empty None = refl
@@ -241,8 +261,14 @@ module _ (canvas : Rectangle) where
     where
       none : (x : Spot) → parts canvas empty_groups x ≡ 0
       none x =
-          omega (arith, empty-join (paint canvas Back x) (paint canvas Border x), none_empty (leaf_of canvas x Back), none_empty (leaf_of canvas x Border),
-            none_empty (leaf_of canvas x Content), none_empty (leaf_of canvas x Outline))
+          omega (
+            arith,
+            empty-join (paint canvas Back x) (paint canvas Border x),
+            none_empty (leaf_of canvas x Back),
+            none_empty (leaf_of canvas x Border),
+            none_empty (leaf_of canvas x Content),
+            none_empty (leaf_of canvas x Outline),
+          )
 
 -- ---- from counts to pairs
 
@@ -346,7 +372,7 @@ pub stands_for_itself : (t : Document) → IsRooted t → forest.IsApart same_ke
 stands_for_itself t r h = record {
   leaves = IsPermutation-refl _;
   once = apart same_leaf (flat (fresh_list t)) same_leaf-refl
-    (λ l. omega (arith, fresh_least t r h (leaves_of l.owner l.part) (hits l.owner) (leaf_measure (canvas_of t.canvas) l.owner l.part), once_each t.boxes h l.owner));
+      (λ l. omega (arith, fresh_least t r h (leaves_of l.owner l.part) (hits l.owner) (leaf_measure (canvas_of t.canvas) l.owner l.part), once_each t.boxes h l.owner));
   grouped = apart same_key (groups (fresh_list t)) same_key-refl (λ j. omega (arith, fresh_least t r h (groups_of j) (hits j) (group_measure (canvas_of t.canvas) j), once_each t.boxes h j));
   filled = filled (fresh_list t) (omega (arith, fresh_least t r h empty_groups (λ b. 0) (empty_measure (canvas_of t.canvas)), none_at_all t.boxes));
   ordered = λ a b p q m. refl;

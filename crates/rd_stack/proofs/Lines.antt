@@ -73,9 +73,11 @@ module _ (look : BoxKey → Option Spot) (canvas : Rectangle) (n : Entries Leaf 
       most : (b : Bool) (v : ℕ) → cond b v 0 ≤ v
       most true v = omega arith
       most false v = omega arith
+
       none : (b : Bool) {k : ℕ} → cond b 0 0 ≤ k
       none true = omega arith
       none false = omega arith
+
       no_local : (b : Bool) (v : ℕ) {k : ℕ} → cond (b && false) v 0 ≤ k
       no_local true v = omega arith
       no_local false v = omega arith
@@ -88,7 +90,7 @@ module _ (look : BoxKey → Option Spot) (canvas : Rectangle) (n : Entries Leaf 
         let o : Option BoxKey = owner (length e.above) x.at.above in
         let w : ℕ = flowing e x in
         let rest : total (λ c. cond (is_local e c.at && is Block c.at) (held e c.at x) 0) below ≤ total (λ c. cond (is_owned o c.at.here.key) w 0) below =
-            total-least (λ c. cond (is_local e c.at && is Block c.at) (held e c.at x) 0) (λ c. cond (is_owned o c.at.here.key) w 0) below (each_block below all) in
+        total-least (λ c. cond (is_local e c.at && is Block c.at) (held e c.at x) 0) (λ c. cond (is_owned o c.at.here.key) w 0) below (each_block below all) in
         omega (arith, at_most o w e below apart, by_context e x h p, rest)
       where
         each_block : (cs : List Painted) → AllByRecursion (IsPlaced look e) cs
@@ -100,7 +102,7 @@ module _ (look : BoxKey → Option Spot) (canvas : Rectangle) (n : Entries Leaf 
         → lined canvas n e below e + total (λ c. lined canvas n e below c.at) (blocks_of canvas n e below) ≤ all_lined canvas n e below
     lines_least e below h all apart =
         let blocks : total (λ c. lined canvas n e below c.at) (blocks_of canvas n e below) ≡ total (λ c. total (λ x. cond (is_local e c.at && is Block c.at) (held e c.at x) 0) below) below =
-            of_local canvas n own m (λ c. is Block c.at) (λ c. lined canvas n e below c.at) e below ∙ inward below in
+        of_local canvas n own m (λ c. is Block c.at) (λ c. lined canvas n e below c.at) e below ∙ inward below in
         let swapped = total_swap (λ c x. cond (is_local e c.at && is Block c.at) (held e c.at x) 0) below below in
         let joined = total-sum (held e e) (λ x. total (λ c. cond (is_local e c.at && is Block c.at) (held e c.at x) 0) below) below in
         let most = total-least (λ x. held e e x + total (λ c. cond (is_local e c.at && is Block c.at) (held e c.at x) 0) below) (flowing e) below (each_box below all) in
@@ -110,6 +112,7 @@ module _ (look : BoxKey → Option Spot) (canvas : Rectangle) (n : Entries Leaf 
             ≡ total (λ c. total (λ x. cond (is_local e c.at && is Block c.at) (held e c.at x) 0) below) cs
         inward [] = refl
         inward (c ∷ cs) = omega (arith, inward cs, total_when (is_local e c.at && is Block c.at) (held e c.at) below)
+
         each_box : (xs : List Painted) → AllByRecursion (IsPlaced look e) xs
             → AllByRecursion (λ x. held e e x + total (λ c. cond (is_local e c.at && is Block c.at) (held e c.at x) 0) below ≤ flowing e x) xs
         each_box [] q = tt

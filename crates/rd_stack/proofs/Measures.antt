@@ -90,18 +90,18 @@ module _ (canvas : Rectangle) (n : Entries Leaf → ℕ) where
     -- the twelve lists, each counted
     n-steps : (e : Spot) (below : List Painted)
         → n (steps canvas e below)
-          ≡ n (when (is_root e) (paint canvas Back e))
-          + (n (when (is_blocky e) (when (not (is_root e)) (paint canvas Back e) ▷ paint canvas Border e))
-          + (n (when (is_context e) (each grouped (by_level (filter is_negative (layers_of e below)))))
-          + (n (each (λ x. back_border canvas x.at) (blocks_of e below))
-          + (n (each (λ x. x.order) (of_class Float (local_boxes e below)))
-          + (n (when (not (is_blocky e)) (back_border canvas e ▷ flow canvas e below e))
-          + (n (when (is_blocky e) (flow canvas e below e))
-          + (n (each (λ x. flow canvas e below x.at) (blocks_of e below))
-          + (n (when (is_context e) (each grouped (filter is_zero (layers_of e below))))
-          + (n (when (is_context e) (each grouped (by_level (filter is_positive (layers_of e below)))))
-          + (n (paint canvas Outline e)
-          + n (each (λ x. paint canvas Outline x.at) (filter (λ x. is Block x.at || is Inline x.at) (local_boxes e below)))))))))))))
+        ≡ n (when (is_root e) (paint canvas Back e))
+        + (n (when (is_blocky e) (when (not (is_root e)) (paint canvas Back e) ▷ paint canvas Border e))
+        + (n (when (is_context e) (each grouped (by_level (filter is_negative (layers_of e below)))))
+        + (n (each (λ x. back_border canvas x.at) (blocks_of e below))
+        + (n (each (λ x. x.order) (of_class Float (local_boxes e below)))
+        + (n (when (not (is_blocky e)) (back_border canvas e ▷ flow canvas e below e))
+        + (n (when (is_blocky e) (flow canvas e below e))
+        + (n (each (λ x. flow canvas e below x.at) (blocks_of e below))
+        + (n (when (is_context e) (each grouped (filter is_zero (layers_of e below))))
+        + (n (when (is_context e) (each grouped (by_level (filter is_positive (layers_of e below)))))
+        + (n (paint canvas Outline e)
+        + n (each (λ x. paint canvas Outline x.at) (filter (λ x. is Block x.at || is Inline x.at) (local_boxes e below)))))))))))))
     unfolding steps
     n-steps e below = simp m.joined
 
@@ -127,19 +127,27 @@ module _ (canvas : Rectangle) (n : Entries Leaf → ℕ) where
 
     layers_least : (e : Spot) (below : List Painted)
         → n (when (is_context e) (each grouped (by_level (filter is_negative (layers_of e below)))))
-          + (n (when (is_context e) (each grouped (filter is_zero (layers_of e below))))
-          + n (when (is_context e) (each grouped (by_level (filter is_positive (layers_of e below))))))
-          ≤ total (λ x. cond (is_context e && is_layer e x.at) (n (grouped x)) 0) below
+        + (n (when (is_context e) (each grouped (filter is_zero (layers_of e below))))
+        + n (when (is_context e) (each grouped (by_level (filter is_positive (layers_of e below))))))
+        ≤ total (λ x. cond (is_context e && is_layer e x.at) (n (grouped x)) 0) below
     layers_least e below =
-        rw (← both_tests (is_context e) (λ x. is_layer e x.at) (λ x. n (grouped x)) below, ← total-filter (λ x. n (grouped x)) (λ x. is_layer e x.at) below,
-            n-when, n-when, n-when, n-each, n-each, n-each)
+        rw (
+          ← both_tests (is_context e) (λ x. is_layer e x.at) (λ x. n (grouped x)) below,
+          ← total-filter (λ x. n (grouped x)) (λ x. is_layer e x.at) below,
+          n-when,
+          n-when,
+          n-when,
+          n-each,
+          n-each,
+          n-each,
+        )
         (signs (is_context e))
       where
         signs : (b : Bool)
             → cond b (total (λ x. n (grouped x)) (by_level (filter is_negative (layers_of e below)))) 0
-              + (cond b (total (λ x. n (grouped x)) (filter is_zero (layers_of e below))) 0
-              + cond b (total (λ x. n (grouped x)) (by_level (filter is_positive (layers_of e below)))) 0)
-              ≤ cond b (total (λ x. n (grouped x)) (layers_of e below)) 0
+            + (cond b (total (λ x. n (grouped x)) (filter is_zero (layers_of e below))) 0
+            + cond b (total (λ x. n (grouped x)) (by_level (filter is_positive (layers_of e below)))) 0)
+            ≤ cond b (total (λ x. n (grouped x)) (layers_of e below)) 0
         signs true = by_sign (λ x. n (grouped x)) (layers_of e below)
         signs false = omega arith
 
@@ -157,26 +165,26 @@ module _ (canvas : Rectangle) (n : Entries Leaf → ℕ) where
         let backs : ℕ = total (λ x. cond (is_local e x.at && is Block x.at) (n (back_border canvas x.at)) 0) below in
         let contents : ℕ = total (λ x. cond (is_local e x.at && is Block x.at) (n (paint canvas Content x.at)) 0) below in
         let e4 : n (each (λ x. back_border canvas x.at) (blocks_of e below)) ≡ backs =
-            n-each (λ x. back_border canvas x.at) (blocks_of e below) ∙ of_local (λ x. is Block x.at) (λ x. n (back_border canvas x.at)) e below in
+        n-each (λ x. back_border canvas x.at) (blocks_of e below) ∙ of_local (λ x. is Block x.at) (λ x. n (back_border canvas x.at)) e below in
         let e5 : n (each (λ x. x.order) (of_class Float (local_boxes e below))) ≡ total (λ x. cond (is_local e x.at && is Float x.at) (n x.order) 0) below =
-            n-each (λ x. x.order) (of_class Float (local_boxes e below)) ∙ of_local (λ x. is Float x.at) (λ x. n x.order) e below in
+        n-each (λ x. x.order) (of_class Float (local_boxes e below)) ∙ of_local (λ x. is Float x.at) (λ x. n x.order) e below in
         let e8 : n (each (λ x. flow canvas e below x.at) (blocks_of e below)) ≡ contents + total (λ c. lined e below c.at) (blocks_of e below) =
-            n-flows e below (blocks_of e below) ∙ ap (λ k. k + total (λ c. lined e below c.at) (blocks_of e below)) (of_local (λ x. is Block x.at) (λ x. n (paint canvas Content x.at)) e below) in
+        n-flows e below (blocks_of e below) ∙ ap (λ k. k + total (λ c. lined e below c.at) (blocks_of e below)) (of_local (λ x. is Block x.at) (λ x. n (paint canvas Content x.at)) e below) in
         let e12 : n (each (λ x. paint canvas Outline x.at) (filter (λ x. is Block x.at || is Inline x.at) (local_boxes e below)))
-              ≡ total (λ x. cond (is_local e x.at && (is Block x.at || is Inline x.at)) (n (paint canvas Outline x.at)) 0) below =
-            n-each (λ x. paint canvas Outline x.at) (filter (λ x. is Block x.at || is Inline x.at) (local_boxes e below))
-            ∙ of_local (λ x. is Block x.at || is Inline x.at) (λ x. n (paint canvas Outline x.at)) e below in
+        ≡ total (λ x. cond (is_local e x.at && (is Block x.at || is Inline x.at)) (n (paint canvas Outline x.at)) 0) below =
+        n-each (λ x. paint canvas Outline x.at) (filter (λ x. is Block x.at || is Inline x.at) (local_boxes e below))
+        ∙ of_local (λ x. is Block x.at || is Inline x.at) (λ x. n (paint canvas Outline x.at)) e below in
         let own : _ ≡ _ = own_parts (is_root e) (is_blocky e) (paint canvas Back e) (paint canvas Border e) (flow canvas e below e) (root_blocky e) in
         rw (n-steps e below) (omega (arith, own, e4, e5, e8, e12, layers_least e below, n-flow e e below, h, sums e below))
       where
         sums : (e : Spot) (below : List Painted)
             → total (part_of e) below
-              ≡ (total (λ x. cond (is_local e x.at && is Block x.at) (n (back_border canvas x.at)) 0) below
-                + total (λ x. cond (is_local e x.at && is Block x.at) (n (paint canvas Content x.at)) 0) below)
-              + (total (λ x. cond (is_local e x.at && is Float x.at) (n x.order) 0) below
-              + (all_lined e below
-              + (total (λ x. cond (is_local e x.at && (is Block x.at || is Inline x.at)) (n (paint canvas Outline x.at)) 0) below
-              + total (λ x. cond (is_context e && is_layer e x.at) (n (grouped x)) 0) below)))
+            ≡ (total (λ x. cond (is_local e x.at && is Block x.at) (n (back_border canvas x.at)) 0) below
+            + total (λ x. cond (is_local e x.at && is Block x.at) (n (paint canvas Content x.at)) 0) below)
+            + (total (λ x. cond (is_local e x.at && is Float x.at) (n x.order) 0) below
+            + (all_lined e below
+            + (total (λ x. cond (is_local e x.at && (is Block x.at || is Inline x.at)) (n (paint canvas Outline x.at)) 0) below
+            + total (λ x. cond (is_context e && is_layer e x.at) (n (grouped x)) 0) below)))
         sums e [] = refl
         sums e (x ∷ xs) = omega (arith, sums e xs, two (is_local e x.at && is Block x.at) (n (back_border canvas x.at)) (n (paint canvas Content x.at)))
           where

@@ -102,7 +102,7 @@ module _ (look : BoxKey → Option Spot) where
       let a = above_is look c x.above h k p.2 in
       let line_of : list_all is_inline (a.0) ≡ true = subst (λ (bs : List BoxData). list_all is_inline bs ≡ true) (between-path c x (a.0) a.1) p.3 in
       let o : owner (length e.above) x.above ≡ Some c.here.key =
-          ap (owner (length e.above)) a.1 ∙ owner_is (length e.above) (a.0) c.here c.above line_of deep stands in
+      ap (owner (length e.above)) a.1 ∙ owner_is (length e.above) (a.0) c.here c.above line_of deep stands in
       record { flowing = rw (p.0, p.1) refl; owned = rw o (same_key-refl c.here.key) }
 
   -- the same for the context itself

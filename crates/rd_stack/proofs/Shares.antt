@@ -39,7 +39,7 @@ kind b = kind_of (class b.style false) (real b.style false)
 real_stacks : (s : Style) → is_class Layer (class s false) ≡ false → real s false ≡ false
 real_stacks s h =
     elim (stacks s false) as (λ b. is_class Layer (cond b Layer (cond (floats s false) Float (in_flow_class s.display))) ≡ false
-        → is_some (cond b (cond (positioned s) (used_z s s.z) (Some (pos 0))) None) ≡ false) [
+    → is_some (cond b (cond (positioned s) (used_z s s.z) (Some (pos 0))) None) ≡ false) [
       | true ↦ λ no. absurd (let two : true ≡ false = no in cc)
       | false ↦ λ no. refl
     ] h
@@ -56,7 +56,7 @@ part_in cl loc lay ctx bb ct ol w en =
 head : (cl : Class) (rl loc lay ctx : Bool) (bb ct ol w en o : ℕ) (below : Bool → Bool → ℕ)
     → (is_class Layer cl ≡ false → rl ≡ false) → bb + (ct + ol) ≤ o → w ≤ (bb + (ct + ol)) + below rl true → en + (bb + (ct + ol)) ≤ w + o → below false false ≡ 0
     → part_in cl loc lay ctx bb ct ol w en + below (ctx && (not rl && lay)) ((is_class Block cl || is_class Inline cl) && loc)
-      ≤ share (kind_of cl rl) (ctx && lay) loc o below
+    ≤ share (kind_of cl rl) (ctx && lay) loc o below
 head Layer true true true true bb ct ol w en o below nl p wb eb z = omega arith
 head Layer true true true false bb ct ol w en o below nl p wb eb z = omega arith
 head Layer true true false true bb ct ol w en o below nl p wb eb z = omega arith
@@ -137,10 +137,11 @@ module _ (look : BoxKey → Option Spot) (canvas : Rectangle) where
   placed : (f : Boxes) (e : Spot) (p : List BoxData) → AreKnown look (p ++ e.here ∷ e.above) → AreKnownBelow look (p ++ e.here ∷ e.above) f
       → AllByRecursion (IsPlaced look e) (painted canvas (p ++ e.here ∷ e.above) f)
   placed empty e p a kb = tt
-  placed (tree k d c n) e p a kb =
-      (record { found = kb.0; above = a; under = record { path = p; is = refl } },
-       append_all (IsPlaced look e) (painted canvas (box k d ∷ p ++ e.here ∷ e.above) c) (painted canvas (p ++ e.here ∷ e.above) n)
-         (placed c e (box k d ∷ p) (kb.0, a) kb.1) (placed n e p a kb.2))
+  placed (tree k d c n) e p a kb = (
+    record { found = kb.0; above = a; under = record { path = p; is = refl } },
+    append_all (IsPlaced look e) (painted canvas (box k d ∷ p ++ e.here ∷ e.above) c) (painted canvas (p ++ e.here ∷ e.above) n)
+        (placed c e (box k d ∷ p) (kb.0, a) kb.1) (placed n e p a kb.2),
+  )
 
   module _ (n : Entries Leaf → ℕ) (own : BoxData → ℕ) (m : IsMeasure canvas n own) where
     n-inline : (x : Painted) → n (inline_part canvas x) ≡ cond (is Atom x.at) (n x.order) (n (back_border canvas x.at) + n (paint canvas Content x.at))
@@ -152,7 +153,7 @@ module _ (look : BoxKey → Option Spot) (canvas : Rectangle) where
 
     part-is : (e : Spot) (x : Painted) (p : List BoxData) → x.at.above ≡ p ++ e.here ∷ e.above
         → part_of canvas n e x ≡ part_in (class x.at.here.style false) (list_all is_plain p) (list_all is_no_context p) (is_context e)
-            (n (back_border canvas x.at)) (n (paint canvas Content x.at)) (n (paint canvas Outline x.at)) (n x.order) (n (grouped x))
+        (n (back_border canvas x.at)) (n (paint canvas Content x.at)) (n (paint canvas Outline x.at)) (n x.order) (n (grouped x))
     part-is e x p h =
         let cl : class_of x.at ≡ class x.at.here.style false = ap (class x.at.here.style) (under_root e x.at (record { path = p; is = h })) in
         let lo : is_local e x.at ≡ list_all is_plain p = ap (list_all is_plain) (between-path e x.at p h) in
@@ -162,11 +163,11 @@ module _ (look : BoxKey → Option Spot) (canvas : Rectangle) where
         same : (a b : Class) (c d f g : Bool) (i : ℕ) → a ≡ b → c ≡ d → f ≡ g
             → i ≡ cond (is_class Atom a) (n x.order) (n (back_border canvas x.at) + n (paint canvas Content x.at))
             → cond (c && is_class Block a) (n (back_border canvas x.at) + n (paint canvas Content x.at)) 0
-              + (cond (c && is_class Float a) (n x.order) 0
-              + (cond (c && (is_class Inline a || is_class Atom a)) i 0
-              + (cond (c && (is_class Block a || is_class Inline a)) (n (paint canvas Outline x.at)) 0
-              + cond (is_context e && (is_class Layer a && f)) (n (grouped x)) 0)))
-              ≡ part_in b d g (is_context e) (n (back_border canvas x.at)) (n (paint canvas Content x.at)) (n (paint canvas Outline x.at)) (n x.order) (n (grouped x))
+            + (cond (c && is_class Float a) (n x.order) 0
+            + (cond (c && (is_class Inline a || is_class Atom a)) i 0
+            + (cond (c && (is_class Block a || is_class Inline a)) (n (paint canvas Outline x.at)) 0
+            + cond (is_context e && (is_class Layer a && f)) (n (grouped x)) 0)))
+            ≡ part_in b d g (is_context e) (n (back_border canvas x.at)) (n (paint canvas Content x.at)) (n (paint canvas Outline x.at)) (n x.order) (n (grouped x))
         same a b c d f g i p q r s = rw (s, p, q, r) refl
 
     -- what a context paints, from its shares of the boxes below it
@@ -198,12 +199,18 @@ module _ (look : BoxKey → Option Spot) (canvas : Rectangle) where
         let not_root : is_root x ≡ false = under_root e x (record { path = p; is = refl }) in
         let ctx : is_context x ≡ real b.style false = ap (real b.style) not_root in
         let walk : n px.order ≤ (n (back_border canvas x) + (n (paint canvas Content x) + n (paint canvas Outline x))) + taken kind own (real b.style false) true c =
-            omega (arith, own_walk, ap (λ v. taken kind own v true c) ctx) in
+        omega (arith, own_walk, ap (λ v. taken kind own v true c) ctx) in
         let first = head (class b.style false) (real b.style false) (list_all is_plain p) (list_all is_no_context p) (is_context e)
-              (n (back_border canvas x)) (n (paint canvas Content x)) (n (paint canvas Outline x)) (n px.order) (n (grouped px)) (own b) (λ r o. taken kind own r o c)
-              (real_stacks b.style) (m.parts_least x) walk (m.entry_least px) (sums kind own c).none in
-        omega (arith, part-is e px p refl, first, shares_least c e (b ∷ p) (kb.0, a) kb.1 few_c, shares_least next e p a kb.2 few_n,
-          total-append (part_of canvas n e) below (painted canvas above next))
+        (n (back_border canvas x)) (n (paint canvas Content x)) (n (paint canvas Outline x)) (n px.order) (n (grouped px)) (own b) (λ r o. taken kind own r o c)
+        (real_stacks b.style) (m.parts_least x) walk (m.entry_least px) (sums kind own c).none in
+        omega (
+          arith,
+          part-is e px p refl,
+          first,
+          shares_least c e (b ∷ p) (kb.0, a) kb.1 few_c,
+          shares_least next e p a kb.2 few_n,
+          total-append (part_of canvas n e) below (painted canvas above next),
+        )
 
     -- What a context paints is at most the own of its parts and of all boxes below it.
     pub walk_least : (x : Spot) (c : Boxes) → is_context x ≡ true → look x.here.key ≡ Some x → AreKnown look x.above → AreKnownBelow look (x.here ∷ x.above) c

@@ -73,7 +73,13 @@ module _ (canvas : Rectangle) where
   shown_on x q None = tt
   shown_on x q (Some s) =
       elim (has_none (common s.0.outer (clip_of canvas x))) as (λ v. has_none (common s.0.outer (clip_of canvas x)) ≡ v → IsSeenOn canvas (cond v None (Some (record {
-          owner = x.here.key; part = q; visible = common s.0.outer (clip_of canvas x); shape = s.0; color = s.1; hits = takes_hits x.here.style.pointer })))) [
+        owner = x.here.key;
+        part = q;
+        visible = common s.0.outer (clip_of canvas x);
+        shape = s.0;
+        color = s.1;
+        hits = takes_hits x.here.style.pointer;
+      })))) [
         | true ↦ λ e. tt
         | false ↦ λ e. record { some = e; within = λ a b h. chain_within canvas (clipping.containing_chain (clipping.sought x.here.style.position) (entered x.above)) a b (common_right s.0.outer (clip_of canvas x) a b h) }
       ] refl
