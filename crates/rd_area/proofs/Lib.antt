@@ -1,2 +1,4 @@
 pub mod Merging
 pub mod Spans
+pub mod Pixels
+pub mod Counting

@@ -1,8 +1,7 @@
-use Rattle.std.proofs.Common.{◌≡◌, ℕ, zero, suc, ◌+◌, ◌-◌, ◌<◌, ◌≤◌, ◌≢◌, ◌⊎◌, inl, inr, List, [], ◌∷◌, map, set, get_or, length, Vec, vec_len, vec_capacity, IsFalse, arith, refl, sym, ◌∙◌, ap, subst, rules, below_more, get_or-set_other, get_or-set_same}
-use Rattle.std.proofs.lemmas.List.{map-set, length-map, get_or-map}
+use Rattle.std.proofs.Common.{◌≡◌, ℕ, zero, suc, ℤ, pos, ◌+◌, ◌-◌, ◌<◌, ◌≤◌, ◌≢◌, ◌⊎◌, inl, inr, List, [], ◌∷◌, map, set, get_or, length, Vec, vec_len, vec_capacity, IsFalse, arith, refl, sym, ◌∙◌, ap, subst, below_more}
 use Rattle.std.specs.declared.alloc.Global.{Global}
 use Rattle.rd_geom.specs.declared.span.Span.{Span}
-use Rattle.rd_area.specs.Rows.{Joins, row_meets}
+use Rattle.rd_area.specs.Rows.{IsRising, Joins, row_meets}
 use Rattle.rd_area.specs.Sound.{spans_of}
 use Rattle.rd_area.specs.Room.{room_at}
 
@@ -22,7 +21,7 @@ elsewhere f d (v ∷ vs) zero w (suc k) n = refl
 elsewhere f d (v ∷ vs) (suc i) w zero n = refl
 elsewhere f d (v ∷ vs) (suc i) w (suc k) n = elsewhere f d vs i w k (λ e. n (ap suc e))
 
-at_place : {X : Type 0} (f : Row → X) (d : X) (vs : List Row) (i : ℕ) (v : Row) → i < length vs → v ≡ get_or vs i v → get_or (map f vs) i d ≡ f v
+pub at_place : {X : Type 0} (f : Row → X) (d : X) (vs : List Row) (i : ℕ) (v : Row) → i < length vs → v ≡ get_or vs i v → get_or (map f vs) i d ≡ f v
 at_place f d [] i v h e = absurd (omega arith)
 at_place f d (u ∷ us) zero v h e = ap f (sym e)
 at_place f d (u ∷ us) (suc i) v h e = at_place f d us i v (omega arith) e
@@ -64,7 +63,7 @@ joined_more old vs i v w from span h f e j same below y a b =
     below_more (λ k. from ≤ k → Joins (get_or (spans_of old) k []) (get_or (spans_of (set vs i w)) k []) span) i
     (λ k l g. let n : k ≢ i = omega arith in rw (elsewhere (λ r. r.items) [] vs i w k n) (below k g l))
     (λ g. let before : get_or (spans_of old) i [] ≡ v.items = sym (same i (inr (omega arith))) ∙ at_place (λ r. r.items) [] vs i v h e in
-        rw (before, here (λ r. r.items) [] vs i w h) j)
+    rw (before, here (λ r. r.items) [] vs i w h) j)
     y b a
 
 pub meets_more : (vs : List Row) (i : ℕ) (v : Row) (from : ℕ) (span : Span) → i < length vs → v ≡ get_or vs i v → IsFalse (row_meets v.items span)
@@ -75,3 +74,6 @@ meets_more vs i v from span h e not_it below y a b =
     (λ k l g. below k g l)
     (λ g. rw (at_place (λ r. r.items) [] vs i v h e) not_it)
     y b a
+
+pub rises_at : (vs : List Row) (i : ℕ) (v : Row) (w : ℤ) → i < length vs → v ≡ get_or vs i v → ((y : ℕ) → IsRising (pos 0) w (get_or (spans_of vs) y [])) → IsRising (pos 0) w v.items
+rises_at vs i v w h e r = subst (λ ss. IsRising (pos 0) w ss) (at_place (λ r. r.items) [] vs i v h e) (r i)

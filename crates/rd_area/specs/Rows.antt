@@ -1,4 +1,4 @@
-use Rattle.std.specs.Prelude.{◌≡◌, ℕ, ℤ, pos, ◌+ℤ◌, ◌≤ℤ◌, ◌<ℤ◌, Bool, false, ◌||◌, if◌then◌else◌, int_lt, int_le, List, [], ◌∷◌, IsTrue}
+use Rattle.std.specs.Prelude.{◌≡◌, ℤ, pos, ◌+ℤ◌, ◌≤ℤ◌, ◌<ℤ◌, Bool, false, ◌||◌, if◌then◌else◌, int_lt, int_le, List, [], ◌∷◌, IsTrue}
 use Rattle.std.specs.Int.{int_max, int_min}
 use Rattle.rd_geom.specs.Areas.{in_span, in_spans}
 use Rattle.rd_geom.specs.declared.span.Span.{Span}

@@ -114,6 +114,13 @@ impl Area {
         row::holds(self.spans(y), x)
     }
 
+    /// How many pixels of the canvas are in the area.
+    pub fn count(&self) -> u64
+        ensures { result ≡ count_of self.now }
+    {
+        rows::count(&self.rows)
+    }
+
     /// The pixels of row `y` as rising spans, which neither touch nor are empty; none for a row off the canvas.
     pub fn spans(&self, y: i32) -> &[Span]
         ensures value { result.now ≡ spans_at self.now.rows y }

@@ -1,6 +1,6 @@
 //! The spans of one row.
 
-ghost use Rattle.std.specs.Prelude.{◌≡◌, ℕ, ℤ, pos, ◌+◌, ◌<◌, ◌≤◌, ◌≤ℤ◌, ◌<ℤ◌, ◌||◌, ◌++◌, ◌∷◌, [], length, take, drop, vec_len, vec_capacity};
+ghost use Rattle.std.specs.Prelude.{◌≡◌, ℕ, ℤ, pos, ◌+◌, ◌<◌, ◌≤◌, ◌-ℤ◌, ◌≤ℤ◌, ◌<ℤ◌, ◌||◌, ◌++◌, ◌∷◌, [], length, take, drop, vec_len, vec_capacity};
 ghost use Rattle.std.specs.Int.{int_max, int_min};
 ghost use Rattle.rd_geom.specs.Areas.{in_span, in_spans, columns_in};
 ghost use Rattle.rd_geom.specs.declared.span.Span.{Span};
@@ -104,4 +104,27 @@ pub(crate) fn holds(row: &[Span], x: i32) -> bool
         }
     }
     false
+}
+
+/// How many columns are in a row whose spans rise.
+pub(crate) fn count(row: &[Span]) -> u64
+    requires { IsRising (pos 0) (pos 4096) row.now }
+    ensures value { (n : ℕ) → IsRising (pos 0) (pos n) row.now → result ≡ columns_in row.now n }
+    ensures at_most { result ≤ 4097 }
+{
+    let mut count = 0;
+    for s in row {
+        count += width(*s);
+    }
+    count
+}
+
+/// How many columns a span on a canvas has.
+fn width(s: Span) -> u64
+    requires from { pos 0 ≤ℤ s.x0 }
+    requires some { s.x0 <ℤ s.x1 }
+    requires to { s.x1 ≤ℤ pos 4096 }
+    ensures { pos result ≡ s.x1 -ℤ s.x0 }
+{
+    (s.x1 - s.x0) as u64
 }

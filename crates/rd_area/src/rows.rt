@@ -1,8 +1,9 @@
 //! The rows that a rectangle covers.
 
-ghost use Rattle.std.specs.Prelude.{◌≡◌, ℕ, ℤ, pos, ◌+◌, ◌<◌, ◌≤◌, ◌<ℤ◌, ◌⊎◌, List, [], length, get_or, replicate, vec_len, OnOk, IfOk, IsTrue, IsFalse};
+ghost use Rattle.std.specs.Prelude.{◌≡◌, ℕ, ℤ, pos, ◌+◌, ◌<◌, ◌≤◌, ◌<ℤ◌, ◌⊎◌, List, [], length, get_or, replicate, sum_by, vec_len, OnOk, IfOk, IsTrue, IsFalse};
+ghost use Rattle.rd_geom.specs.Areas.{columns_in};
 ghost use Rattle.rd_geom.specs.declared.span.Span.{Span};
-ghost use Rattle.rd_area.specs.Rows.{Joins, row_meets};
+ghost use Rattle.rd_area.specs.Rows.{IsRising, Joins, row_meets};
 ghost use Rattle.rd_area.specs.Sound.{spans_of};
 ghost use Rattle.rd_area.specs.Room.{room_at};
 
@@ -60,4 +61,17 @@ pub(crate) fn meets(rows: &Vec<Vec<Span>>, from: usize, to: usize, span: Span) -
         }
     }
     false
+}
+
+/// How many pixels are in rows whose spans rise.
+pub(crate) fn count(rows: &[Vec<Span>]) -> u64
+    requires rising { (y : ℕ) → IsRising (pos 0) (pos 4096) (get_or (spans_of rows.now) y []) }
+    requires few { length rows.now ≤ 4096 }
+    ensures { (n : ℕ) → ((y : ℕ) → IsRising (pos 0) (pos n) (get_or (spans_of rows.now) y [])) → result ≡ sum_by (λ ss. columns_in ss n) (spans_of rows.now) }
+{
+    let mut count = 0;
+    for row in rows {
+        count += row::count(row);
+    }
+    count
 }

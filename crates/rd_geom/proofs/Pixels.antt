@@ -23,13 +23,13 @@ same_test true false f g = grind arith
 same_test false true f g = grind arith
 same_test false false f g = refl
 
-both_true : (a b : Bool) → IsTrue a → IsTrue b → IsTrue (a && b)
+pub both_true : (a b : Bool) → IsTrue a → IsTrue b → IsTrue (a && b)
 both_true a b p q = grind arith
 
-left_of : (a b : Bool) → IsTrue (a && b) → IsTrue a
+pub left_of : (a b : Bool) → IsTrue (a && b) → IsTrue a
 left_of a b h = grind arith
 
-right_of : (a b : Bool) → IsTrue (a && b) → IsTrue b
+pub right_of : (a b : Bool) → IsTrue (a && b) → IsTrue b
 right_of a b h = grind arith
 
 -- the pixels of what lies between four edges

@@ -1,6 +1,6 @@
 -- A value leaves its slot.
-use Rattle.std.proofs.Common.{◌≡◌, ◌≢◌, refl, ap, ◌∙◌, sym, subst, ℕ, zero, suc, ◌+◌, ◌-◌, ◌<◌, ◌≤◌, ◌==◌, Bool, true, false, cond, arith, List, [], ◌∷◌, ◌++◌, length, count_by, ◌⊎◌, inl, inr, length-append}
-use Rattle.std.specs.Prelude.{Option, Some, None, IsSome, is_some, slice_index_or, slice_index, slice_set, nat_lt}
+use Rattle.std.proofs.Common.{◌≡◌, ◌≢◌, refl, ap, ◌∙◌, sym, subst, ℕ, zero, suc, ◌+◌, ◌-◌, ◌<◌, ◌≤◌, ◌==◌, true, false, arith, List, [], ◌∷◌, ◌++◌, length, count_by, ◌⊎◌, inl, inr, length-append}
+use Rattle.std.specs.Prelude.{Option, Some, None, IsSome, is_some, slice_index, slice_set, nat_lt}
 use Rattle.std.proofs.lemmas.List.{get_or-set_other, get_or-set_same, get_or_append_left}
 use Rattle.std.proofs.lemmas.List.Sums.{sum_by-set}
 use Rattle.std.proofs.Math.ListN.{length-set}
@@ -9,9 +9,9 @@ use Rattle.slab.specs.Slab.{Slab, get, Updates}
 use Rattle.rd_keys.specs.declared.arena.Place as inner
 use Rattle.rd_keys.specs.declared.arena.State.{State}
 use Rattle.rd_keys.specs.declared.arena.State.TheVariants.{Free, Held, Retired}
-use Rattle.rd_keys.specs.Arena.{Arena, Slot, unmade, left}
-use Rattle.rd_keys.specs.Inside.{unmade_place, place_at, held_place, is_retired, is_held, placed, seen_slot, seen_slots, IsSound}
-use Rattle.rd_keys.proofs.Slots.{cases, seen_at, seen_change}
+use Rattle.rd_keys.specs.Arena.{Slot, left}
+use Rattle.rd_keys.specs.Inside.{unmade_place, place_at, held_place, is_retired, is_held, placed, seen_slots, IsSound}
+use Rattle.rd_keys.proofs.Slots.{cases, seen_change}
 use Rattle.rd_keys.proofs.Filling.{bit, at_set}
 
 -- a held slot is made

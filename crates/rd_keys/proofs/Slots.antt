@@ -1,13 +1,11 @@
 -- What is seen of the slots where one of them changed.
-use Rattle.std.proofs.Common.{◌≡◌, ◌≢◌, refl, ap, ◌∙◌, sym, subst, ℕ, zero, suc, ◌+◌, ◌<◌, ◌==◌, Bool, true, false, cond, arith, List, [], ◌∷◌, ◌++◌, length, map, ◌⊎◌, inl, inr}
+use Rattle.std.proofs.Common.{◌≡◌, ◌≢◌, refl, ap, ◌∙◌, sym, subst, ℕ, zero, suc, ◌<◌, ◌==◌, Bool, true, false, cond, arith, List, [], ◌∷◌, length, map, ◌⊎◌, inl, inr}
 use Rattle.std.specs.Prelude.{Option, Some, None, IsSome, slice_index_or, slice_set}
 use Rattle.std.proofs.lemmas.List.{get_or-set_other, get_or-set_same, set-get_or}
 use Rattle.std.proofs.lemmas.Grind.{common_steps}
 use Rattle.std.proofs.Math.ListN.{get_or-map}
 use Rattle.slab.specs.Slab.{Slab, get, Updates, with_value}
 use Rattle.rd_keys.specs.declared.arena.Place as inner
-use Rattle.rd_keys.specs.declared.arena.State.{State}
-use Rattle.rd_keys.specs.declared.arena.State.TheVariants.{Free, Held, Retired}
 use Rattle.rd_keys.specs.Arena.{Slot, unmade, value_in}
 use Rattle.rd_keys.specs.Inside.{unmade_place, place_at, held_place, is_retired, place_of, held_at, seen_slot, seen_slots, IsSound}
 

@@ -1,12 +1,12 @@
 -- A slot is taken, and what is seen once it is filled.
-use Rattle.std.proofs.Common.{◌≡◌, ◌≢◌, refl, ap, ◌∙◌, sym, subst, ℕ, zero, suc, ◌+◌, ◌<◌, ◌≤◌, ◌==◌, Bool, true, false, cond, arith, List, [], ◌∷◌, ◌++◌, length, map, count_by, ◌⊎◌, inl, inr, length-append}
+use Rattle.std.proofs.Common.{◌≡◌, refl, ap, ◌∙◌, sym, subst, ℕ, suc, ◌||◌, ◌+◌, ◌<◌, ◌≤◌, ◌==◌, true, false, arith, List, [], ◌∷◌, ◌++◌, length, map, count_by, ◌⊎◌, inl, inr, length-append}
 use Rattle.std.specs.Prelude.{Option, Some, None, IsSome, is_some, slice_index_or, slice_index, slice_set, nat_lt}
 use Rattle.std.specs.Prelude.{Result, Ok, Err, OnOk}
 use Rattle.std.specs.Result.{is_err}
 use Rattle.std.proofs.lemmas.Grind.{common_steps}
 use Rattle.std.proofs.lemmas.List.{get_or_append_left}
-use Rattle.std.proofs.lemmas.List.Sums.{sum_by-append}
-use Rattle.std.proofs.Math.Seq.{get_or-append_seam, get_or-append_right}
+use Rattle.std.proofs.lemmas.List.Sums.{sum_by-append, sum_by-cons}
+use Rattle.std.proofs.Math.Seq.{get_or-append_seam}
 use Rattle.slab.specs.Slab.{Slab, get, Updates}
 use Rattle.rd_keys.specs.declared.arena.Place as inner
 use Rattle.rd_keys.specs.declared.arena.State.{State}
@@ -14,7 +14,7 @@ use Rattle.rd_keys.specs.declared.arena.State.TheVariants.{Free, Held, Retired}
 use Rattle.rd_keys.specs.Arena.{Arena, Slot, unmade, slot_at, live, retired, occupied, is_taken, IsUsed, with_slot, Enters}
 use Rattle.rd_keys.specs.Inside.{unmade_place, place_at, held_place, is_retired, is_held, held_at, seen_slot, seen_slots, IsSound, Takes}
 use Rattle.rd_keys.proofs.Slots.{cases, seen_at, seen_change}
-use Rattle.rd_keys.proofs.Filling.{bit, Ready, filled, live_seen, retired_seen}
+use Rattle.rd_keys.proofs.Filling.{bit, Ready}
 
 set_last : {A : Type 0} (xs : List A) (a b : A) → slice_set (xs ++ a ∷ []) (length xs) b ≡ xs ++ b ∷ []
 set_last [] a b = refl
@@ -218,11 +218,26 @@ module _ {T : Type 0} where
       subst (λ l. Enters (record { slots = l; first = first; limit = limit }) (record { slots = seen_slots h2 (slice_set slots2 s (record { generation = (place_at slots2 s).generation; state = Held p })); first = first; limit = limit }) s (place_at slots2 s).generation x) e
       (entered h1 h2 slots1 slots2 free1 free2 room1 first limit live retired s p x t r u none)
 
+  -- no slot is both live and retired
+  one_of : (h : Slab T) (t : State) → ((p : ℕ) → held_place t ≡ Some p → IsSome (get h p)) → bit (is_some (held_at h (held_place t)) || is_retired t) ≡ bit (is_some (held_place t)) + bit (is_retired t)
+  one_of h Free k = refl
+  one_of h Retired k = refl
+  one_of h (Held p) k = let i : is_some (get h p) ≡ true = k p refl in rw i refl
+
+  taken_seen : (h : Slab T) (slots : List inner.Place) → ((s p : ℕ) → held_place (place_at slots s).state ≡ Some p → IsSome (get h p)) → count_by is_taken (seen_slots h slots) ≡ count_by is_held slots + count_by (λ s. is_retired s.state) slots
+  taken_seen h [] k = refl
+  taken_seen h (y ∷ ys) k =
+      let r : count_by is_taken (seen_slots h ys) ≡ count_by is_held ys + count_by (λ s. is_retired s.state) ys = taken_seen h ys (λ s p e. k (suc s) p e) in
+      let e : bit (is_some (held_at h (held_place y.state)) || is_retired y.state) ≡ bit (is_some (held_place y.state)) + bit (is_retired y.state) = one_of h y.state (λ p e. k 0 p e) in
+      let a : count_by is_taken (seen_slots h (y ∷ ys)) ≡ bit (is_some (held_at h (held_place y.state)) || is_retired y.state) + count_by is_taken (seen_slots h ys) = sum_by-cons (λ y. bit (is_taken y)) (seen_slot h y) (seen_slots h ys) in
+      let b : count_by is_held (y ∷ ys) ≡ bit (is_some (held_place y.state)) + count_by is_held ys = sum_by-cons (λ s. bit (is_held s)) y ys in
+      let c : count_by (λ s. is_retired s.state) (y ∷ ys) ≡ bit (is_retired y.state) + count_by (λ s. is_retired s.state) ys = sum_by-cons (λ s. bit (is_retired s.state)) y ys in
+      omega (arith, r, e, a, b, c)
+
   pub occupied_seen : (h : Slab T) (slots : List inner.Place) (free : List ℕ) (room first limit live0 retired0 : ℕ) → IsSound h slots free room first limit live0 retired0 → occupied (record { slots = seen_slots h slots; first = first; limit = limit }) ≡ live0 + retired0
   occupied_seen h slots free room first limit live0 retired0 x =
-      let a : count_by (λ y. is_some y.holds) (seen_slots h slots) ≡ count_by is_held slots = live_seen h slots x.holding in
-      let b : count_by (λ y. y.retired) (seen_slots h slots) ≡ count_by (λ s. is_retired s.state) slots = retired_seen h slots in
-      omega (arith, a, b, x.live_is, x.retired_is)
+      let a : count_by is_taken (seen_slots h slots) ≡ count_by is_held slots + count_by (λ s. is_retired s.state) slots = taken_seen h slots x.holding in
+      omega (arith, a, x.live_is, x.retired_is)
 
 -- What holds of an `Ok` holds of what is no error.
 pub on_ok : {A E : Type 0} (r : Result A E) (P : Type 0) → is_err r ≡ false → OnOk r P → P

@@ -7,7 +7,7 @@ use Rattle.rd_geom.specs.Canvas.{canvas_of}
 use Rattle.rd_scene.specs.declared.script.Command.{Command}
 use Rattle.rd_scene.specs.declared.script.Command.TheVariants.{Paint, Dump}
 use Rattle.rd_stack.specs.Fresh.{fresh_list}
-use Rattle.rd_stack.proofs.Itself.{stands_for_itself}
+use Rattle.rd_stack.proofs.Promises.{stands_for_itself}
 use Rattle.rd_run.specs.Answered.{AnswersPart}
 use Rattle.rd_run.specs.Lines.{paint_line}
 use Rattle.rd_run.specs.Machine.{State, Step, Run, Paints, Settles, invalid_area, built, kept_on, pixels_in, dumped}
@@ -37,7 +37,7 @@ paint_goes s h =
     (record { tree = s.tree; last = Some s.tree; pending = false; paints = s.paints + 1; kept = stamped n (fresh_list s.tree) },
      paint_line (s.paints + 1) (built s) (kept_on s) (pixels_in (canvas_of s.tree.canvas) (invalid_area s)),
      record {
-       stands = rw (leaves-stamped) (stands_for_itself s.tree h.rooted h.apart);
+       stands = rw (leaves-stamped) (stands_for_itself s.tree h.apart);
        numbers = made_now s n (fresh_list s.tree) refl (all_meet s.tree h);
        settled = refl;
        told = refl;

@@ -5,9 +5,9 @@
 
 mod display;
 mod lines;
-mod run;
+mod program;
 mod status;
 mod words;
 
-pub use run::run;
+pub use program::run;
 

@@ -1,9 +1,10 @@
 -- Scripts: what they are, and what a JSON value says as one. The limits and the form are this project's own choice.
-use Rattle.std.specs.Prelude.{◌≡◌, ℕ, ◌≤◌, ℤ, pos, ◌≤ℤ◌, true, List, [], ◌∷◌, length, All, codes, Option, Some}
+use Rattle.std.specs.Prelude.{◌≡◌, ◌≤◌, pos, true, List, [], ◌∷◌, length, All, codes, Option, Some}
 use Rattle.serde_json.specs.Data.{Data}
 use Rattle.serde_json.specs.Find.{get, as_object}
 use Rattle.rd_geom.specs.declared.rect.Size.{Size}
-use Rattle.rd_style.specs.Limits.{Fits, FitsRect, IsBetween}
+use Rattle.rd_geom.specs.Canvas.{IsCanvas}
+use Rattle.rd_style.specs.Limits.{Fits, FitsRect}
 use Rattle.rd_scene.specs.declared.script.SceneBox.{SceneBox}
 use Rattle.rd_scene.specs.declared.script.Command.{Command}
 use Rattle.rd_scene.specs.Members.{◌>>=◌, only_if, has_only, from_to, elements, each}
@@ -17,11 +18,6 @@ pub record Script : Type 0 where
   pub canvas : Size
   pub boxes : List SceneBox
   pub commands : List Command
-
--- a canvas has 1 to 4,096 columns and rows
-pub record IsCanvas (s : Size) : Type 0 where
-  pub w : IsBetween (pos 1) s.w (pos 4096)
-  pub h : IsBetween (pos 1) s.h (pos 4096)
 
 -- a box whose rectangle and widths are within the limits
 pub record FitsBox (b : SceneBox) : Type 0 where

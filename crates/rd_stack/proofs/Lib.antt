@@ -3,14 +3,6 @@ pub mod Twelve
 pub mod Filters
 pub mod Joined
 pub mod ByLevel
-pub mod Totals
-pub mod Once
-pub mod Between
-pub mod Measures
-pub mod Owners
-pub mod Lines
-pub mod Shares
-pub mod Itself
 pub mod Going
 pub mod Sums
 pub mod Paths
@@ -19,4 +11,4 @@ pub mod InlineLines
 pub mod Takes
 pub mod Counted
 pub mod OnCanvas
-pub mod Visible
+pub mod Promises

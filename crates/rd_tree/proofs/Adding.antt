@@ -8,15 +8,16 @@ use Rattle.std.proofs.lemmas.Map.Text.{hash_map_updates_text}
 use Rattle.std.specs.Str.{bytes_eq}
 use Rattle.std.proofs.lemmas.Grind.{common_steps}
 use Rattle.rd_keys.specs.Keys.{same_key}
-use Rattle.rd_keys.specs.Arena.{Arena, value, live, retired, occupied, Enters}
-use Rattle.rd_keys.proofs.Calls.{value-before, live-enters, limit-enters}
+use Rattle.rd_keys.specs.Arena.{Arena, value, live, occupied, Enters}
+use Rattle.rd_keys.proofs.Calls.{value-before, live-enters, occupied-enters, limit-enters}
 use Rattle.rd_keys.proofs.Keys.{same_key-sound, same_key-refl}
 use Rattle.rd_tree.specs.declared.node.Node as inner
 use Rattle.rd_tree.specs.Forest.{empty, tree, has, children, IsPlaceIn}
 use Rattle.rd_tree.specs.Links.{Node, ends_of, left_of, grafted}
-use Rattle.rd_tree.specs.Limits.{FitsRect, Fits}
-use Rattle.rd_tree.specs.Document.{BoxKey, Item, Boxes, named, with_child}
-use Rattle.rd_tree.specs.Linked.{plain, linked, Relinks, IsTree, seen, item_at, IsIndexed, AddsText, EachFits, IsSound}
+use Rattle.rd_style.specs.Limits.{FitsRect, Fits}
+use Rattle.rd_tree.specs.Document.{BoxKey, Item, Boxes, Slot, named, with_child, with_taken}
+use Rattle.rd_tree.specs.Linked.{plain, linked, Relinks, IsTree, seen, marks, item_at, IsIndexed, AddsText, EachFits, IsSound}
+use Rattle.rd_tree.proofs.Marks.{marks-enters}
 use Rattle.rd_tree.proofs.Standing.{cases, never}
 use Rattle.rd_tree.proofs.Grow.{fresh, alone, linked_put, GrownTree, grow_tree, planted, no_value}
 use Rattle.rd_tree.proofs.Items.{items_grown}
@@ -83,9 +84,9 @@ indexed_added k d old new ids0 ids1 more free none adds x = record { named = nam
 pub grow_sound : {Y S : Type 0} (a0 a1 a2 : Arena inner.Node) (root p k : BoxKey) (before : Option BoxKey) (d : Item) (ids0 ids1 : HashMap (String Y) BoxKey S) →
     IsSound a0 root ids0 → occupied a0 < 20000 → has same_key p (seen a0 root) ≡ true → IsPlaceIn same_key before (children same_key p (seen a0 root)) → named d.id (seen a0 root) ≡ None →
     FitsRect d.rect → Fits d.style → value a0 k.slot k.generation ≡ None →
-    Enters a0 a1 k.slot k.generation (fresh d p (left_of (linked a0) (ends_of (linked a0 p)).1 before) before) → live a1 ≡ live a0 + 1 → retired a1 ≡ retired a0 → AddsText d.id k ids0 ids1 →
+    Enters a0 a1 k.slot k.generation (fresh d p (left_of (linked a0) (ends_of (linked a0 p)).1 before) before) → live a1 ≡ live a0 + 1 → occupied a1 ≡ occupied a0 + 1 → AddsText d.id k ids0 ids1 →
     Relinks a1 a2 (grafted same_key p k (left_of (linked a0) (ends_of (linked a0 p)).1 before) before (ends_of (linked a0 p)).0 (ends_of (linked a0 p)).1 (linked a1)) →
-    IsSound a2 root ids1 × GrownTree a0 a2 root p k before d × (occupied a2 ≡ occupied a0 + 1)
+    IsSound a2 root ids1 × GrownTree a0 a2 root p k before d × (marks a2 ≡ with_taken (marks a0) k)
 grow_sound a0 a1 a2 root p k before d ids0 ids1 s room m place new_id r st free stored more still adds r2 =
     let room2 : occupied a0 < a0.limit = rw s.limit room in
     let g : GrownTree a0 a2 root p k before d = grow_tree a0 a1 a2 root p k before d s.tree room2 m place free stored more still r2 in
@@ -99,12 +100,12 @@ grow_sound a0 a1 a2 root p k before d ids0 ids1 s room m place new_id r st free 
         limit = r2.limit ∙ (limit-enters a0 a1 k.slot k.generation (fresh d p v before) stored ∙ s.limit);
       },
       g,
-      omega (arith, r2.same_live, r2.same_retired, more, still),
+      r2.same_slots ∙ marks-enters a0 a1 k (fresh d p v before) stored,
     )
 
 -- The first box came in.
 pub planted_sound : {Y S : Type 0} (a0 a1 : Arena inner.Node) (k : BoxKey) (d : Item) (ids0 ids1 : HashMap (String Y) BoxKey S) →
-    a0.slots ≡ [] → a0.limit ≡ 20000 → FitsRect d.rect → Fits d.style → Enters a0 a1 k.slot k.generation (alone d) → live a1 ≡ live a0 + 1 → retired a1 ≡ retired a0 →
+    a0.slots ≡ [] → a0.limit ≡ 20000 → FitsRect d.rect → Fits d.style → Enters a0 a1 k.slot k.generation (alone d) → live a1 ≡ live a0 + 1 → occupied a1 ≡ occupied a0 + 1 →
     ((i : List ℕ) → get_by_text ids0 i ≡ None) → AddsText d.id k ids0 ids1 →
     IsSound a1 k ids1 × (seen a1 k ≡ tree k d empty empty)
 planted_sound a0 a1 k d ids0 ids1 none limit r st stored more still no_id adds =
@@ -148,7 +149,7 @@ pub grown_so : {Y S : Type 0} (a0 a1 a2 : Arena inner.Node) (root p k : BoxKey) 
     FitsRect d.rect → Fits d.style → i ≡ d.id → v ≡ left_of (linked a0) ends.1 before → ends ≡ ends_of (linked a0 p) →
     Enters a0 a1 k.slot k.generation (fresh (record d { id = i }) p v before) → AddsText i k ids0 ids1 →
     Relinks a1 a2 (grafted same_key p k v before ends.0 ends.1 (linked a1)) →
-    IsSound a2 root ids1 × GrownTree a0 a2 root p k before d × (occupied a2 ≡ occupied a0 + 1)
+    IsSound a2 root ids1 × GrownTree a0 a2 root p k before d × (marks a2 ≡ with_taken (marks a0) k)
 grown_so a0 a1 a2 root p k before d ids0 ids1 i v ends s room m place new_id r st same_id left ends_are stored adds links =
     let s1 : Enters a0 a1 k.slot k.generation (fresh d p v before) = subst (λ j. Enters a0 a1 k.slot k.generation (fresh (record d { id = j }) p v before)) same_id stored in
     let v2 : v ≡ left_of (linked a0) (ends_of (linked a0 p)).1 before = left ∙ ap (λ o. left_of (linked a0) o.1 before) ends_are in
@@ -156,5 +157,6 @@ grown_so a0 a1 a2 root p k before d ids0 ids1 i v ends s room m place new_id r s
     let r1 : Relinks a1 a2 (grafted same_key p k v before (ends_of (linked a0 p)).0 (ends_of (linked a0 p)).1 (linked a1)) = subst (λ o. Relinks a1 a2 (grafted same_key p k v before o.0 o.1 (linked a1))) ends_are links in
     let r2 : Relinks a1 a2 (grafted same_key p k (left_of (linked a0) (ends_of (linked a0 p)).1 before) before (ends_of (linked a0 p)).0 (ends_of (linked a0 p)).1 (linked a1)) =
     subst (λ w. Relinks a1 a2 (grafted same_key p k w before (ends_of (linked a0 p)).0 (ends_of (linked a0 p)).1 (linked a1))) v2 r1 in
-    let counts : (live a1 ≡ live a0 + 1) × (retired a1 ≡ retired a0) = live-enters a0 a1 k.slot k.generation (fresh (record d { id = i }) p v before) stored in
-    grow_sound a0 a1 a2 root p k before d ids0 ids1 s room m place new_id r st (value-before a0 a1 k.slot k.generation (fresh (record d { id = i }) p v before) stored) s2 counts.0 counts.1 (subst (λ j. AddsText j k ids0 ids1) same_id adds) r2
+    let more : live a1 ≡ live a0 + 1 = live-enters a0 a1 k.slot k.generation (fresh (record d { id = i }) p v before) stored in
+    let still : occupied a1 ≡ occupied a0 + 1 = occupied-enters a0 a1 k.slot k.generation (fresh (record d { id = i }) p v before) stored in
+    grow_sound a0 a1 a2 root p k before d ids0 ids1 s room m place new_id r st (value-before a0 a1 k.slot k.generation (fresh (record d { id = i }) p v before) stored) s2 more still (subst (λ j. AddsText j k ids0 ids1) same_id adds) r2

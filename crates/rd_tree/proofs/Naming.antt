@@ -11,7 +11,7 @@ use Rattle.rd_keys.proofs.Keys.{same_key-sound, same_key-refl}
 use Rattle.rd_tree.specs.declared.node.Node as inner
 use Rattle.rd_tree.specs.Forest.{Forest, empty, tree, has, from, top, children, IsApart}
 use Rattle.rd_tree.specs.Links.{Node, node, Stands}
-use Rattle.rd_tree.specs.Limits.{FitsRect, Fits}
+use Rattle.rd_style.specs.Limits.{FitsRect, Fits}
 use Rattle.rd_tree.specs.Document.{BoxKey, Item, Boxes, or_else, named, id_of, is_touched, AllFit}
 use Rattle.rd_tree.specs.Linked.{plain, linked, IsLinked, IsTree, seen, item_at, IsIndexed, EachFits, IsSound}
 use Rattle.rd_tree.proofs.Standing.{cases, never, refute, from_left, from_right}

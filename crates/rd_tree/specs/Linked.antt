@@ -1,15 +1,16 @@
 -- An arena of nodes that are linked as a forest.
-use Rattle.std.specs.Prelude.{◌≡◌, ℕ, ◌≤◌, Bool, true, List, Option, Some, None, option_map, is_some, if◌then◌else◌}
+use Rattle.std.specs.Prelude.{◌≡◌, ℕ, ◌≤◌, Bool, true, List, map, Option, Some, None, option_map, is_some, if◌then◌else◌}
 use Rattle.std.specs.HashMap.{HashMap, get_by_text}
 use Rattle.std.specs.Prelude.{String}
 use Rattle.std.specs.Str.{bytes_eq}
 use Rattle.rd_keys.specs.Keys.{same_key}
-use Rattle.rd_keys.specs.Arena.{Arena, value, live, retired, occupied}
+use Rattle.rd_keys.specs.Arena as inner_slot
+use Rattle.rd_keys.specs.Arena.{Arena, value, live, occupied, is_taken}
 use Rattle.rd_tree.specs.declared.node.Node as inner
 use Rattle.rd_tree.specs.Forest.{size, has, IsApart}
 use Rattle.rd_tree.specs.Links.{Node, Stands, read}
-use Rattle.rd_tree.specs.Document.{BoxKey, Item, Boxes}
-use Rattle.rd_tree.specs.Limits.{FitsRect, Fits}
+use Rattle.rd_tree.specs.Document.{BoxKey, Item, Boxes, Slot}
+use Rattle.rd_style.specs.Limits.{FitsRect, Fits}
 use Rattle.rd_tree.specs.Shown.{Shown}
 
 abbrev pub plain : inner.Node → Node BoxKey Item
@@ -18,11 +19,18 @@ plain n = record { item = n.item; up = n.links.up; prev = n.links.prev; first = 
 abbrev pub linked : Arena inner.Node → BoxKey → Option (Node BoxKey Item)
 linked a k = option_map plain (value a k.slot k.generation)
 
+-- the slots without what they hold
+abbrev pub mark_of : inner_slot.Slot inner.Node → Slot
+mark_of y = record { generation = y.generation; taken = is_taken y }
+
+abbrev pub marks : Arena inner.Node → List Slot
+marks a = map mark_of a.slots
+
 -- The nodes are linked so, under the same keys.
 pub record Relinks (old new : Arena inner.Node) (at : BoxKey → Option (Node BoxKey Item)) : Type 0 where
   pub links : (j : BoxKey) → linked new j ≡ at j
+  pub same_slots : marks new ≡ marks old
   pub same_live : live new ≡ live old
-  pub same_retired : retired new ≡ retired old
   pub limit : new.limit ≡ old.limit
 
 -- The nodes are linked as this forest, and no box is outside it.
@@ -66,3 +74,17 @@ seen a root = read a.limit (linked a) (Some root)
 -- what a node shows of its box
 abbrev pub shown_of : BoxKey → Bool → inner.Node → Shown
 shown_of k is_root n = record { key = k; rect = n.item.rect; style = n.item.style; is_root = is_root; first_child = n.links.first; next_sibling = n.links.next; touched = n.item.touched }
+
+-- the boxes that the links tell from one on: it, those below it, and its later siblings with theirs
+abbrev pub seen_from : Arena inner.Node → Option BoxKey → Boxes
+seen_from a first = read a.limit (linked a) first
+
+-- From this one on the links stand for boxes.
+pub record IsRead (a : Arena inner.Node) (first : Option BoxKey) : Type 0 where
+  pub boxes : Boxes
+  pub up : Option BoxKey
+  pub prev : Option BoxKey
+  pub last : Option BoxKey
+  pub stands : Stands (linked a) up prev boxes first last None
+  pub apart : IsApart same_key boxes
+  pub small : size boxes ≤ a.limit

@@ -1,5 +1,5 @@
 use Rattle.std.proofs.Common.{◌≡◌}
-use Rattle.rd_area.specs.Rows.{Joins, joined}
+use Rattle.rd_area.specs.Rows.{joined}
 use Rattle.rd_area.proofs.Merging.{joined_joins}
 use Rattle.rd_area.proofs.row.join.Goals as goal
 

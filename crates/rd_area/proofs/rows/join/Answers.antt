@@ -1,5 +1,5 @@
-use Rattle.std.proofs.Common.{◌≡◌, ◌∙◌, ◌<◌, ◌≤◌, ◌+◌, ◌⊎◌, inl, inr, length, vec_len, vec_capacity, arith, rules, ⊎_elim}
-use Rattle.rd_area.proofs.Spans.{room_left, has_room, others_more, joined_more}
+use Rattle.std.proofs.Common.{◌<◌, ◌≤◌, inl, inr, length, arith, rules, ⊎_elim}
+use Rattle.rd_area.proofs.Spans.{room_left, others_more, joined_more}
 use Rattle.rd_area.proofs.rows.join.Goals as goal
 
 pub loop-y-preserved : goal.loop-y-preserved

@@ -1,4 +1,4 @@
-use Rattle.std.proofs.Common.{◌≡◌, ℕ, ◌<◌, ◌≤◌, ◌⊎◌, [], length, get_or, vec_len}
+use Rattle.std.proofs.Common.{◌≡◌, ℕ, ◌<◌, ◌≤◌, ◌⊎◌, [], get_or, vec_len}
 use Rattle.rd_area.specs.Rows.{Joins}
 use Rattle.rd_area.specs.Sound.{spans_of}
 use Rattle.rd_area.specs.Room.{room_at}

@@ -1,4 +1,4 @@
-use Rattle.std.proofs.Common.{◌≡◌, ℕ, ◌<◌, ◌≤◌, [], get_or, IsFalse}
+use Rattle.std.proofs.Common.{ℕ, ◌<◌, ◌≤◌, [], get_or, IsFalse}
 use Rattle.rd_area.specs.Rows.{row_meets}
 use Rattle.rd_area.specs.Sound.{spans_of}
 use Rattle.rd_area.proofs.rows.meets.Given as goal

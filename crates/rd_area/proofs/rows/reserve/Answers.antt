@@ -1,5 +1,4 @@
-use Rattle.std.proofs.Common.{◌≡◌, ◌∙◌, ◌<◌, ◌≤◌, ◌+◌, length, vec_len, vec_capacity, arith, rules}
-use Rattle.rd_area.specs.Sound.{spans_of}
+use Rattle.std.proofs.Common.{◌∙◌, ◌<◌, length, rules}
 use Rattle.rd_area.proofs.Spans.{spans_same, room_more}
 use Rattle.rd_area.proofs.rows.reserve.Goals as goal
 

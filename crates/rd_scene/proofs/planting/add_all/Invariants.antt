@@ -1,4 +1,5 @@
 use Rattle.std.proofs.Common.{◌≡◌, ◌+◌, true, take, drop}
+use Rattle.rd_tree.specs.Document.{taken as filled}
 use Rattle.rd_scene.specs.Order.{are_in_order}
 use Rattle.rd_scene.specs.Planting.{AddsAll}
 use Rattle.rd_scene.proofs.Plants.{so_far, SameNames}
@@ -10,5 +11,5 @@ invariant-loop-b g l = record {
   added : AddsAll (take l.b-index l.rest) l.fn.tree l.tree;
   names : SameNames l.tree.boxes (so_far l.first (take l.b-index l.rest));
   order : are_in_order (so_far l.first (take l.b-index l.rest)) (drop l.b-index l.rest) ≡ true;
-  taken : l.tree.taken ≡ l.b-index + 1;
+  taken : filled l.tree ≡ l.b-index + 1;
 }

@@ -1,4 +1,4 @@
-use Rattle.std.proofs.Common.{◌≡◌, ◌≤◌, ◌<◌, ◌+◌, ◌∙◌, sym, refl, arith, length}
+use Rattle.std.proofs.Common.{◌≡◌, ◌<◌, ◌+◌, ◌∙◌, sym, refl, length}
 use Rattle.std.specs.Prelude.{vec_capacity, slice_set}
 use Rattle.rd_keys.specs.Arena.{Enters, occupied}
 use Rattle.rd_keys.specs.Inside.{seen_slots, place_at, held_in}

@@ -1,0 +1,10 @@
+use Rattle.std.proofs.Common.{sym, ap}
+use Rattle.rd_tree.specs.Links.{with_item}
+use Rattle.rd_tree.specs.Linked.{plain}
+use Rattle.rd_tree.specs.Works.{done}
+use Rattle.rd_tree.proofs.Marks.{relinks_written}
+use Rattle.rd_tree.proofs.walk.work_on.Goals as goal
+
+pub returns-in-Some-clause-worked : goal.returns-in-Some-clause-worked
+returns-in-Some-clause-worked c =
+    relinks_written c.args.nodes.now c.args.key _ c.in-Some.node.now (with_item (done c.args.work)) (sym c.in-Some.ensures.value) (ap (λ d. record (plain c.in-Some.node.now) { item = d }) c.do_work.ensures)

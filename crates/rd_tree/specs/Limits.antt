@@ -1,2 +1,0 @@
--- What a box may be.
-pub use Rattle.rd_style.specs.Limits.{FitsRect, Fits}
