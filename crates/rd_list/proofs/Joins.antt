@@ -1,6 +1,5 @@
 -- Laws of lists put one on another.
-use Rattle.std.proofs.Common.{◌≡◌, refl, ap, List, [], ◌∷◌, ◌++◌, map, sym, ◌∙◌, append_assoc, Bool, true, false, ◌&&◌, cond}
-use Rattle.std.specs.Prelude.{filter}
+use Rattle.std.proofs.Common.{◌≡◌, refl, ap, List, [], ◌∷◌, ◌++◌, sym, append_assoc}
 use Rattle.rd_list.specs.Entries.{Entries, nil, leaf, group, ◌▷◌, each, flat}
 use Rattle.rd_list.specs.Listed.{listed}
 use Rattle.rd_list.specs.declared.plain.PlainEntry.{PlainEntry}
