@@ -1,5 +1,5 @@
 -- The pixel of a list with another on top.
-use Rattle.std.proofs.Common.{◌≡◌, refl, ap, ◌∙◌, sym, List, [], ◌∷◌, ◌++◌, ℕ, ℤ, ◌<◌, ◌+◌, length, take, get_or, Bool, cond}
+use Rattle.std.proofs.Common.{◌≡◌, refl, ap, ◌∙◌, sym, List, [], ◌∷◌, ◌++◌, ℕ, ℤ, ◌<◌, ◌+◌, length, take, get_or, cond}
 use Rattle.std.proofs.lemmas.List.{take_more}
 use Rattle.rd_geom.specs.Colors.{Premultiplied, laid_over, scaled, premultiplied, clear}
 use Rattle.rd_item.specs.declared.leaf.Leaf as item

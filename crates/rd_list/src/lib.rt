@@ -4,7 +4,6 @@
 #![tactic(auto)]
 
 mod hits;
-
 mod pixels;
 mod plain;
 

@@ -157,20 +157,20 @@ module _ (canvas : Rectangle) where
         let o2 : AreOff nx above = λ j m. o j (in_rest j k (has same_key j ch) (has same_key j nx) m) in
         let o3 : AreOff ch (b ∷ above) = off_below k b ch above refl a.0 o1 in
         let w1 : IsWhole ch (b ∷ above) whole = λ j m h.
-            let first : cond (key_in j above) (h x) 0 ≡ 0 = off_cond (key_in j above) (h x) (o1 j m) in
-            let split = total-append (λ y. cond (key_in j y.at.above) (h y) 0) p1 p2 in
-            let last = none_below j h above nx (o1 j m) (a.2 j m) in
-            let all = w j (in_below j k (has same_key j ch) (has same_key j nx) m) h in
-            omega (arith, first, split, last, all) in
+        let first : cond (key_in j above) (h x) 0 ≡ 0 = off_cond (key_in j above) (h x) (o1 j m) in
+        let split = total-append (λ y. cond (key_in j y.at.above) (h y) 0) p1 p2 in
+        let last = none_below j h above nx (o1 j m) (a.2 j m) in
+        let all = w j (in_below j k (has same_key j ch) (has same_key j nx) m) h in
+        omega (arith, first, split, last, all) in
         let w2 : IsWhole nx above whole = λ j m h.
-            let first : cond (key_in j above) (h x) 0 ≡ 0 = off_cond (key_in j above) (h x) (o2 j m) in
-            let split = total-append (λ y. cond (key_in j y.at.above) (h y) 0) p1 p2 in
-            let not_in : has same_key j ch ≡ false = apart_back same_key same_key-sound same_key-refl ch nx a.2 j m in
-            let apart : same_key k j ≡ false = differs_back same_key same_key-sound same_key-refl nx k j a.1 m in
-            let off : key_in j (b ∷ above) ≡ false = rw apart (o2 j m) in
-            let middle = none_below j h (b ∷ above) ch off not_in in
-            let all = w j (in_rest j k (has same_key j ch) (has same_key j nx) m) h in
-            omega (arith, first, split, middle, all) in
+        let first : cond (key_in j above) (h x) 0 ≡ 0 = off_cond (key_in j above) (h x) (o2 j m) in
+        let split = total-append (λ y. cond (key_in j y.at.above) (h y) 0) p1 p2 in
+        let not_in : has same_key j ch ≡ false = apart_back same_key same_key-sound same_key-refl ch nx a.2 j m in
+        let apart : same_key k j ≡ false = differs_back same_key same_key-sound same_key-refl nx k j a.1 m in
+        let off : key_in j (b ∷ above) ≡ false = rw apart (o2 j m) in
+        let middle = none_below j h (b ∷ above) ch off not_in in
+        let all = w j (in_rest j k (has same_key j ch) (has same_key j nx) m) h in
+        omega (arith, first, split, middle, all) in
         let s1 = total-append (under_at c) p1 p2 in
         let s2 = total-append lines p1 p2 in
         let s3 = total-append flow_at p1 p2 in
@@ -179,13 +179,13 @@ module _ (canvas : Rectangle) where
         elim (cases (is_local e x.at && is Block x.at)) [
           | inl t ↦
               let own_line : total (line_at x.at) whole ≤ total (under_at x.at) p1 =
-                  let l1 = total-line x.at whole in
-                  let l2 = w k (from_left (same_key k k) (has same_key k ch || has same_key k nx) (same_key-refl k)) (under_at x.at) in
-                  let first = off_cond (key_in k above) (under_at x.at x) k_off in
-                  let split = total-append (λ y. cond (key_in k y.at.above) (under_at x.at y) 0) p1 p2 in
-                  let last = none_below k (under_at x.at) above nx k_off a.1 in
-                  let most = below_le k (under_at x.at) p1 in
-                  omega (arith, l1, l2, first, split, last, most) in
+              let l1 = total-line x.at whole in
+              let l2 = w k (from_left (same_key k k) (has same_key k ch || has same_key k nx) (same_key-refl k)) (under_at x.at) in
+              let first = off_cond (key_in k above) (under_at x.at x) k_off in
+              let split = total-append (λ y. cond (key_in k y.at.above) (under_at x.at y) 0) p1 p2 in
+              let last = none_below k (under_at x.at) above nx k_off a.1 in
+              let most = below_le k (under_at x.at) p1 in
+              omega (arith, l1, l2, first, split, last, most) in
               let here : lines x ≡ total (line_at x.at) whole = rw t refl in
               let deeper = lines_once x.at [] ch whole a.3 o3 w1 in
               let blocky : is_inline b ≡ false = block_not_inline (class b.style false) (second (is_local e x.at) (is_class Block (class b.style false)) (rw (is_none-path path c.here c.above) at t)) in

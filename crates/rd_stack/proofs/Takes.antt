@@ -195,11 +195,11 @@ module _ (canvas : Rectangle) (weight : Entries Leaf → ℕ) (extra own : BoxDa
       let root : is_none above ≡ false = is_none-path path e.here e.above in
       let own_steps = steps_fit canvas weight extra own w x.at p1 (lines_fit canvas x.at (inline_of canvas weight extra own w) ch a.3 o3) in
       let own_taken : total (taken_of canvas weight extra own w x.at) p1 ≤ taken own (real b.style false) true ch =
-          rw (root, and_true (real b.style false)) at (taken_fit x.at [] ch a.3 o3) in
+      rw (root, and_true (real b.style false)) at (taken_fit x.at [] ch a.3 o3) in
       let order : extra b + weight x.order ≤ own b + taken own (real b.style false) true ch = omega (arith, own_steps, own_taken) in
       let here = head_fit b.style (is_local e x.at) (list_all is_plain path) (is_none above) (list_all is_no_context (between e x.at)) (list_all is_no_context path) (is_context e)
-          (parts_of canvas weight extra own w x.at) (weight x.order) (extra b) (own b) (λ r u. taken own r u ch)
-          (ap (list_all is_plain) (between-path e x.at path refl)) root (ap (list_all is_no_context) (between-path e x.at path refl)) (w.parts x.at) order (sums own ch).none in
+      (parts_of canvas weight extra own w x.at) (weight x.order) (extra b) (own b) (λ r u. taken own r u ch)
+      (ap (list_all is_plain) (between-path e x.at path refl)) root (ap (list_all is_no_context) (between-path e x.at path refl)) (w.parts x.at) order (sums own ch).none in
       let split = total-append take p1 p2 in
       omega (arith, here, split, taken_fit e (b ∷ path) ch a.3 o3, taken_fit e path nx a.4 o2)
 

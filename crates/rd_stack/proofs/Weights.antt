@@ -86,10 +86,10 @@ module _ (canvas : Rectangle) (weight : Entries Leaf → ℕ) (extra own : BoxDa
       → weight (when c (each grouped xs)) ≤ total (λ x. cond (c && is_layer e x.at) (cond (q x) (entry_of x) 0) 0) below
   layers_le c e q xs below h =
       let a : weight (when c (each grouped xs)) ≡ cond c (total (λ x. cond (is_layer e x.at && q x) (weight (grouped x)) 0) below) 0 =
-          weight-when c (each grouped xs)
-          ∙ ap (λ n. cond c n 0) (weight-each grouped xs ∙ h ∙ ap (total (λ x. weight (grouped x))) (filter_both (λ x. is_layer e x.at) q below) ∙ total-filter (λ x. weight (grouped x)) (λ x. is_layer e x.at && q x) below) in
+      weight-when c (each grouped xs)
+      ∙ ap (λ n. cond c n 0) (weight-each grouped xs ∙ h ∙ ap (total (λ x. weight (grouped x))) (filter_both (λ x. is_layer e x.at) q below) ∙ total-filter (λ x. weight (grouped x)) (λ x. is_layer e x.at && q x) below) in
       let b : cond c (total (λ x. cond (is_layer e x.at && q x) (weight (grouped x)) 0) below) 0 ≡ total (λ x. cond c (cond (is_layer e x.at && q x) (weight (grouped x)) 0) 0) below =
-          total-cond c (λ x. cond (is_layer e x.at && q x) (weight (grouped x)) 0) below in
+      total-cond c (λ x. cond (is_layer e x.at && q x) (weight (grouped x)) 0) below in
       rw (a, b) (total-le _ _ below (λ x. one c (is_layer e x.at) (q x) (weight (grouped x)) (entry_of x) (w.group x)))
     where
       one : (c l q : Bool) (m n : ℕ) → m ≤ n → cond c (cond (l && q) m 0) 0 ≤ cond (c && l) (cond q n 0) 0
@@ -207,33 +207,33 @@ module _ (canvas : Rectangle) (weight : Entries Leaf → ℕ) (extra own : BoxDa
       let context = is_context e in
       let flowing : weight (flow canvas e below e) ≡ ct + line = weight-flow e below e in
       let back2 : weight (when (not root) (paint canvas Back e) ▷ paint canvas Border e) ≡ cond (not root) bk 0 + bd =
-          w.join (when (not root) (paint canvas Back e)) (paint canvas Border e) ∙ ap (λ n. n + bd) (weight-when (not root) (paint canvas Back e)) in
+      w.join (when (not root) (paint canvas Back e)) (paint canvas Border e) ∙ ap (λ n. n + bd) (weight-when (not root) (paint canvas Back e)) in
       let all6 : weight (back_border canvas e ▷ flow canvas e below e) ≡ (bk + bd) + (ct + line) =
-          w.join (back_border canvas e) (flow canvas e below e) ∙ (ap (λ n. n + weight (flow canvas e below e)) (weight-back_border e) ∙ ap (λ n. (bk + bd) + n) flowing) in
+      w.join (back_border canvas e) (flow canvas e below e) ∙ (ap (λ n. n + weight (flow canvas e below e)) (weight-back_border e) ∙ ap (λ n. (bk + bd) + n) flowing) in
       let s : total (steps_of e) below ≤ total (taken_of e) below = total-le (steps_of e) (taken_of e) below (steps_le e) in
       let summed = total-eight
-          (λ x. cond (context && is_layer e x.at) (cond (is_negative x) (entry_of x) 0) 0)
-          (λ x. cond (is_local e x.at && is Block x.at) (weight (back_border canvas x.at)) 0)
-          (λ x. cond (is_local e x.at && is Float x.at) (weight x.order) 0)
-          (λ x. cond (is_local e x.at && is Block x.at) (weight (paint canvas Content x.at)) 0)
-          (λ x. cond (is_local e x.at && flows x.at) (inline_of x) 0)
-          (λ x. cond (context && is_layer e x.at) (cond (is_zero x) (entry_of x) 0) 0)
-          (λ x. cond (context && is_layer e x.at) (cond (is_positive x) (entry_of x) 0) 0)
-          (λ x. cond (is_local e x.at && (is Block x.at || is Inline x.at)) (weight (paint canvas Outline x.at)) 0)
-          below in
+      (λ x. cond (context && is_layer e x.at) (cond (is_negative x) (entry_of x) 0) 0)
+      (λ x. cond (is_local e x.at && is Block x.at) (weight (back_border canvas x.at)) 0)
+      (λ x. cond (is_local e x.at && is Float x.at) (weight x.order) 0)
+      (λ x. cond (is_local e x.at && is Block x.at) (weight (paint canvas Content x.at)) 0)
+      (λ x. cond (is_local e x.at && flows x.at) (inline_of x) 0)
+      (λ x. cond (context && is_layer e x.at) (cond (is_zero x) (entry_of x) 0) 0)
+      (λ x. cond (context && is_layer e x.at) (cond (is_positive x) (entry_of x) 0) 0)
+      (λ x. cond (is_local e x.at && (is Block x.at || is Inline x.at)) (weight (paint canvas Outline x.at)) 0)
+      below in
       let whole =
-          up (le (weight-when root (paint canvas Back e)))
-          (up (le (weight-when block (when (not root) (paint canvas Back e) ▷ paint canvas Border e) ∙ ap (λ n. cond block n 0) back2))
-          (up (layers_le context e is_negative (by_level (filter is_negative (layers_of e below))) below (total-by_level (λ x. weight (grouped x)) (filter is_negative (layers_of e below))))
-          (up (le (weight-kind (λ x. back_border canvas x.at) (λ x. is_local e x.at) (λ x. is Block x.at) below))
-          (up (le (weight-kind (λ x. x.order) (λ x. is_local e x.at) (λ x. is Float x.at) below))
-          (up (le (weight-when (not block) (back_border canvas e ▷ flow canvas e below e) ∙ ap (λ n. cond (not block) n 0) all6))
-          (up (le (weight-when block (flow canvas e below e) ∙ ap (λ n. cond block n 0) flowing))
-          (up (le (block_flows e below))
-          (up (layers_le context e is_zero (filter is_zero (layers_of e below)) below refl)
-          (up (layers_le context e is_positive (by_level (filter is_positive (layers_of e below))) below (total-by_level (λ x. weight (grouped x)) (filter is_positive (layers_of e below))))
-          (up {a = paint canvas Outline e} (le refl)
-          (le (weight-kind (λ x. paint canvas Outline x.at) (λ x. is_local e x.at) (λ x. is Block x.at || is Inline x.at) below)))))))))))) in
+      up (le (weight-when root (paint canvas Back e)))
+      (up (le (weight-when block (when (not root) (paint canvas Back e) ▷ paint canvas Border e) ∙ ap (λ n. cond block n 0) back2))
+      (up (layers_le context e is_negative (by_level (filter is_negative (layers_of e below))) below (total-by_level (λ x. weight (grouped x)) (filter is_negative (layers_of e below))))
+      (up (le (weight-kind (λ x. back_border canvas x.at) (λ x. is_local e x.at) (λ x. is Block x.at) below))
+      (up (le (weight-kind (λ x. x.order) (λ x. is_local e x.at) (λ x. is Float x.at) below))
+      (up (le (weight-when (not block) (back_border canvas e ▷ flow canvas e below e) ∙ ap (λ n. cond (not block) n 0) all6))
+      (up (le (weight-when block (flow canvas e below e) ∙ ap (λ n. cond block n 0) flowing))
+      (up (le (block_flows e below))
+      (up (layers_le context e is_zero (filter is_zero (layers_of e below)) below refl)
+      (up (layers_le context e is_positive (by_level (filter is_positive (layers_of e below))) below (total-by_level (λ x. weight (grouped x)) (filter is_positive (layers_of e below))))
+      (up {a = paint canvas Outline e} (le refl)
+      (le (weight-kind (λ x. paint canvas Outline x.at) (λ x. is_local e x.at) (λ x. is Block x.at || is Inline x.at) below)))))))))))) in
       let most = gathered (extra e.here) _ _ _ _ _ _ _ _ _ _ _ _ _ bk bd ct ol line (flows_weight e below) (own e.here) (total (taken_of e) below) (total (steps_of e) below)
-          (self_once root block bk bd ct ol line (root_block e)) lines summed s (w.parts e) in
+      (self_once root block bk bd ct ol line (root_block e)) lines summed s (w.parts e) in
       omega (arith, whole, most)

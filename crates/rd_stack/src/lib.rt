@@ -14,3 +14,6 @@ mod spot;
 mod steps;
 
 pub use fresh::fresh_list;
+
+#[cfg(test)]
+mod tests;
