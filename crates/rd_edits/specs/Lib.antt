@@ -1,0 +1,4 @@
+pub mod Edited
+pub mod Faults
+pub mod Limits
+pub mod Refusals

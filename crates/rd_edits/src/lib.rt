@@ -1,0 +1,11 @@
+//! Edits of a tree of boxes.
+//! [`apply`] does an [`Edit`], or says by an [`EditFault`] why not; the first test that holds decides.
+//! A refused edit leaves the tree and its marks as they were.
+#![tactic(auto)]
+
+mod edit;
+mod fault;
+mod values;
+
+pub use edit::Edit;
+pub use fault::EditFault;
