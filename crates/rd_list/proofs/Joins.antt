@@ -1,6 +1,5 @@
 -- Laws of lists put one on another.
-use Rattle.std.proofs.Common.{◌≡◌, refl, ap, List, [], ◌∷◌, ◌++◌, map, sym, ◌∙◌, append_assoc, Bool, true, false, ◌&&◌, cond}
-use Rattle.std.specs.Prelude.{filter}
+use Rattle.std.proofs.Common.{◌≡◌, refl, ap, List, [], ◌∷◌, ◌++◌, sym, append_assoc}
 use Rattle.rd_list.specs.Entries.{Entries, nil, leaf, group, ◌▷◌, each, flat}
 use Rattle.rd_list.specs.Listed.{listed}
 use Rattle.rd_list.specs.declared.plain.PlainEntry.{PlainEntry}
@@ -30,4 +29,3 @@ pub listed-append : (xs ys : List PlainEntry) → listed (xs ++ ys) ≡ listed x
 listed-append [] ys = refl
 listed-append (entry.Leaf l ∷ xs) ys = ap (leaf l) (listed-append xs ys)
 listed-append (entry.Group k o inner ∷ xs) ys = ap (group k o inner) (listed-append xs ys)
-

@@ -3,3 +3,4 @@ pub mod Sizes
 pub mod Onward
 pub mod LastOwner
 pub mod Leafy
+pub mod Composing

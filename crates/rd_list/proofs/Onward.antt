@@ -1,5 +1,5 @@
 -- A loop that puts lists one on another goes on by one.
-use Rattle.std.proofs.Common.{◌≡◌, List, [], ◌∷◌, ◌++◌, length, ℕ, ◌<◌, ◌+◌, take, get_or, ◌∙◌, sym, refl, ap, Bool, true, false, if◌then◌else◌}
+use Rattle.std.proofs.Common.{◌≡◌, List, [], ◌∷◌, length, ℕ, ◌<◌, ◌+◌, take, get_or, ◌∙◌, sym, refl, ap, Bool, true, false, if◌then◌else◌}
 use Rattle.std.proofs.lemmas.List.{take_more, map-append}
 use Rattle.std.proofs.lemmas.List.Elements.{filter-append}
 use Rattle.std.specs.Prelude.{filter, map, cond}

@@ -4,8 +4,9 @@
 #![tactic(auto)]
 
 mod hits;
-
+mod pixels;
 mod plain;
 
 pub use hits::hit;
+pub use pixels::pixel;
 pub use plain::{PlainEntry, PlainList};

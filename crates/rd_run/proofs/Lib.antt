@@ -2,3 +2,4 @@ pub mod Counts
 pub mod Pixels
 pub mod Painting
 pub mod Runs
+pub mod Planted

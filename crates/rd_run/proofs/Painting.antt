@@ -1,22 +1,31 @@
 -- What a paint does to the state that is shown.
-use Rattle.std.proofs.Common.{◌≡◌, ℕ, ◌+◌, ◌*◌, Bool, true, false, not, cond, List, [], ◌∷◌, ◌++◌, length, count_by, Some, refl, sym, ◌∙◌, ap, subst, unsigned_abs, arith, add-one}
-use Rattle.std.specs.List.{AllByRecursion, fold}
+use Rattle.std.proofs.Common.{◌≡◌, ℕ, suc, ◌+◌, ◌*◌, Bool, true, false, not, cond, List, [], ◌∷◌, ◌++◌, length, count_by, Some, refl, sym, ◌∙◌, ap, subst, unsigned_abs, arith, add-one}
+use Rattle.std.specs.List.{AllByRecursion, All, fold}
 use Rattle.rd_item.specs.declared.leaf.Leaf.{Leaf}
 use Rattle.rd_list.specs.Entries.{Entries, nil, leaf, group, flat}
 use Rattle.rd_list.specs.Lists.{StandsFor}
 use Rattle.rd_geom.specs.Canvas.{canvas_of}
 use Rattle.rd_tree.specs.Document.{Document}
 use Rattle.rd_stack.specs.Fresh.{fresh_list}
-use Rattle.rd_stack.proofs.Itself.{stands_for_itself}
+use Rattle.rd_geom.specs.Plane.{Rectangle, common, has_none, meets}
+use Rattle.rd_stack.specs.Laws.{IsOnCanvas}
+use Rattle.rd_stack.proofs.Promises.{stands_for_itself, shows_on_canvas}
 use Rattle.rd_run.specs.Lines.{KeptItem, paint_line}
 use Rattle.rd_run.specs.Machine.{State, Paints, leaves, invalid_area, meets_any, made_after, pixels_in, built, kept_on}
 use Rattle.rd_run.specs.Display.{Shows, Answers, IsSound, stamped}
 use Rattle.rd_run.specs.declared.display.Display.{Display}
 use Rattle.rd_run.proofs.Pixels.{whole_canvas}
 
+on_canvas : (canvas : Rectangle) (ls : List Leaf) → All (IsOnCanvas canvas) ls → AllByRecursion (λ l. meets_any (canvas ∷ []) l ≡ true) ls
+on_canvas canvas [] h = tt
+on_canvas canvas (l ∷ ls) h = (seen (h 0 l (omega arith)), on_canvas canvas ls (λ k d m. h (suc k) d (omega arith)))
+  where
+    seen : IsOnCanvas canvas l → meets_any (canvas ∷ []) l ≡ true
+    seen o = let m = o.meets in grind arith
+
 -- every leaf is on the canvas
 pub all_meet : (t : Document) → IsSound t → AllByRecursion (λ l. meets_any (canvas_of t.canvas ∷ []) l ≡ true) (flat (fresh_list t))
-all_meet t h = ?
+all_meet t h = on_canvas (canvas_of t.canvas) (flat (fresh_list t)) (shows_on_canvas t h.apart)
 
 pub leaves-stamped : (n : ℕ) (xs : Entries Leaf) → leaves (stamped n xs) ≡ xs
 leaves-stamped n nil = refl
@@ -42,8 +51,8 @@ made_now s n nil e h = tt
 made_now s n (leaf l rest) e h = (rw (h.0) e, made_now s n rest e h.1)
 made_now s n (group k o inner rest) e h =
     all_append (λ i. i.made ≡ made_after s i.of) (flat (stamped n inner)) (flat (stamped n rest))
-      (made_now s n inner e (all_front (λ l. meets_any (invalid_area s) l ≡ true) (flat inner) (flat rest) h))
-      (made_now s n rest e (all_back (λ l. meets_any (invalid_area s) l ≡ true) (flat inner) (flat rest) h))
+    (made_now s n inner e (all_front (λ l. meets_any (invalid_area s) l ≡ true) (flat inner) (flat rest) h))
+    (made_now s n rest e (all_back (λ l. meets_any (invalid_area s) l ≡ true) (flat inner) (flat rest) h))
 
 from_all : (p : Leaf → Bool) (n : ℕ) (ls : List Leaf) → AllByRecursion (λ l. p l ≡ true) ls → fold (λ (a : ℕ) (x : Leaf). a + cond (p x) 1 0) n ls ≡ n + length ls
 from_all p n [] h = omega arith
@@ -66,12 +75,13 @@ pub painted : (s : State) (t : Document) (old now : Display) (text : List ℕ) �
 painted s t old now text h k p n w =
     let next : State = record { tree = s.tree; last = Some s.tree; pending = false; paints = s.paints + 1; kept = stamped now.paints now.list } in
     let same : fresh_list s.tree ≡ now.list = ap fresh_list h.tree ∙ sym k in
-    let meets = all_meet s.tree h.sound in
-    (next,
-     record {
-       stands = rw (leaves-stamped, ← same) (stands_for_itself s.tree h.sound.rooted h.sound.apart);
-       numbers = made_now s now.paints now.list (n ∙ ap (λ m. m + 1) (sym h.paints)) (rw (← same) meets);
-       settled = refl;
-       told = rw (w, count_all _ _ meets, count_none _ _ meets, whole_canvas s.tree.canvas h.sound.wide h.sound.high, h.tree, h.paints) refl;
-     },
-     record { tree = h.tree; pending = sym p; paints = ap (λ m. m + 1) h.paints ∙ sym n; kept = refl; sound = h.sound })
+    let meets = all_meet s.tree h.sound in (
+      next,
+      record {
+        stands = rw (leaves-stamped, ← same) (stands_for_itself s.tree h.sound.apart);
+        numbers = made_now s now.paints now.list (n ∙ ap (λ m. m + 1) (sym h.paints)) (rw (← same) meets);
+        settled = refl;
+        told = rw (w, count_all _ _ meets, count_none _ _ meets, whole_canvas s.tree.canvas h.sound.canvas.some_wide h.sound.canvas.some_high, h.tree, h.paints) refl;
+      },
+      record { tree = h.tree; pending = sym p; paints = ap (λ m. m + 1) h.paints ∙ sym n; kept = refl; sound = h.sound },
+    )

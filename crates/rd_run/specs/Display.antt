@@ -1,9 +1,10 @@
 -- Which state of the machine a tree and what is displayed of it are.
-use Rattle.std.specs.Prelude.{◌≡◌, ℕ, ◌≤◌, pos, ◌≤ℤ◌, List}
+use Rattle.std.specs.Prelude.{◌≡◌, ℕ, List}
+use Rattle.rd_geom.specs.Canvas.{IsCanvas}
 use Rattle.rd_keys.specs.Keys.{same_key}
 use Rattle.rd_item.specs.declared.leaf.Leaf.{Leaf}
 use Rattle.rd_list.specs.Entries.{Entries, nil, leaf, group}
-use Rattle.rd_tree.specs.Document.{Document, IsRooted}
+use Rattle.rd_tree.specs.Document.{Document}
 use Rattle.rd_tree.specs.Forest.{IsApart}
 use Rattle.rd_run.specs.Lines.{KeptItem}
 use Rattle.rd_run.specs.Machine.{State}
@@ -15,12 +16,10 @@ stamped n nil = nil
 stamped n (leaf l rest) = leaf (record { of = l; made = n }) (stamped n rest)
 stamped n (group k opacity inner rest) = group k opacity (stamped n inner) (stamped n rest)
 
--- one tree under one root, each key at one place, on a canvas with pixels
+-- each key at one place, on a canvas within the limits
 pub record IsSound (t : Document) : Type 0 where
-  pub rooted : IsRooted t
   pub apart : IsApart same_key t.boxes
-  pub wide : pos 1 ≤ℤ t.canvas.w
-  pub high : pos 1 ≤ℤ t.canvas.h
+  pub canvas : IsCanvas t.canvas
 
 -- The machine is in the state s.
 pub record Shows (t : Document) (d : Display) (s : State) : Type 0 where

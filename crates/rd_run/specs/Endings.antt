@@ -2,10 +2,9 @@
 use Rattle.std.specs.Prelude.{◌≡◌, ◌≢◌, ℕ, ◌+◌, ◌≤◌, ◌<◌, List, [], ◌∷◌, ◌++◌, codes, length, Option, Some, None, ◌⊎◌}
 use Rattle.std.specs.Io.KnownBytes.{Appends, Keeps, IsAtEnd}
 use Rattle.rd_io.specs.Causes.{GainsPart, Rose, Takes}
-use Rattle.serde_json.specs.Data.{Data}
-use Rattle.rd_scene.specs.Scripts.{Script, script_of}
-use Rattle.rd_scene.specs.Reading.{Reads, HasNoReading}
-use Rattle.rd_run.specs.Machine.{IsAllowedText}
+use Rattle.rd_scene.specs.Scripts.{Script}
+pub use Rattle.rd_scene.specs.Reading.{IsScriptText, IsOffForm, HasNoReading}
+pub use Rattle.rd_run.specs.Machine.{IsAllowedText}
 use Rattle.rd_run.specs.Words.{words_form}
 use Rattle.rd_run.specs.declared.status.Status.{Status}
 use Rattle.rd_run.specs.declared.status.Status.TheVariants.{Done, Usage, NotJson, Form, ReadFault, WriteFault, NoMemory, TooLarge}
@@ -36,14 +35,6 @@ line_of TooLarge = codes "input too large\n"
 abbrev pub most : ℕ
 most = 67108864
 
--- the bytes are JSON of this script
-abbrev pub IsScriptText : List ℕ → Script → Type 0
-IsScriptText bytes s = (d : Data) × Reads bytes d × (script_of d ≡ Some s)
-
--- the bytes are JSON and off the grammar of scripts
-abbrev pub IsOffGrammar : List ℕ → Type 0
-IsOffGrammar bytes = (d : Data) × Reads bytes d × (script_of d ≡ None)
-
 -- the whole text, or a front of a text, that a script's bytes allow
 abbrev pub WritesAll : List ℕ → Option (List ℕ) → Option (List ℕ) → Type 0
 WritesAll bytes old new = (s : Script) × (text : List ℕ) × IsScriptText bytes s × IsAllowedText s text × Appends old new text
@@ -55,16 +46,27 @@ WritesPart bytes old new = (s : Script) × (text : List ℕ) × IsScriptText byt
 abbrev pub IsInput : List (List ℕ) → List ℕ → Type 0
 IsInput words bytes = (words_form words ≢ None) × (length bytes ≤ most)
 
--- Why a run may end so: by the words, the input, and whether a fault of the source or the sink was counted
+-- Why a run over these whole bytes may end so, where they are within the limit: whether they are a script, and whether a fault of the sink was counted
+abbrev pub MayFollow : List ℕ → Type 0 → Status → Type 0
+MayFollow bytes out_rose NotJson = HasNoReading bytes
+MayFollow bytes out_rose Form = IsOffForm bytes
+MayFollow bytes out_rose WriteFault = ((s : Script) × IsScriptText bytes s) × out_rose
+MayFollow bytes out_rose NoMemory = Unit {0}
+MayFollow bytes out_rose Done = (s : Script) × IsScriptText bytes s
+MayFollow bytes out_rose _ = ⊥
+
+-- Why a replay of these bytes may end so: also by their number, and by whether a fault of the source was counted
+abbrev pub MayReplay : List ℕ → Type 0 → Type 0 → Status → Type 0
+MayReplay bytes source_rose out_rose Usage = ⊥
+MayReplay bytes source_rose out_rose ReadFault = source_rose
+MayReplay bytes source_rose out_rose TooLarge = most < length bytes
+MayReplay bytes source_rose out_rose NoMemory = Unit {0}
+MayReplay bytes source_rose out_rose s = (length bytes ≤ most) × MayFollow bytes out_rose s
+
+-- Why a run may end so: by the words, and then as a replay does
 abbrev pub MayEnd : List (List ℕ) → List ℕ → Type 0 → Type 0 → Status → Type 0
 MayEnd words bytes source_rose out_rose Usage = words_form words ≡ None
-MayEnd words bytes source_rose out_rose ReadFault = (words_form words ≢ None) × source_rose
-MayEnd words bytes source_rose out_rose TooLarge = (words_form words ≢ None) × (most < length bytes)
-MayEnd words bytes source_rose out_rose NotJson = IsInput words bytes × HasNoReading bytes
-MayEnd words bytes source_rose out_rose Form = IsInput words bytes × IsOffGrammar bytes
-MayEnd words bytes source_rose out_rose WriteFault = IsInput words bytes × ((s : Script) × IsScriptText bytes s) × out_rose
-MayEnd words bytes source_rose out_rose NoMemory = words_form words ≢ None
-MayEnd words bytes source_rose out_rose Done = IsInput words bytes × ((s : Script) × IsScriptText bytes s)
+MayEnd words bytes source_rose out_rose s = (words_form words ≢ None) × MayReplay bytes source_rose out_rose s
 
 -- what has been written then
 abbrev pub HasWritten : List ℕ → Option (List ℕ) → Option (List ℕ) → Status → Type 0

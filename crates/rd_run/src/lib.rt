@@ -5,9 +5,11 @@
 
 mod display;
 mod lines;
-mod run;
+mod program;
 mod status;
 mod words;
 
-pub use run::run;
+pub use program::run;
 
+#[cfg(test)]
+mod tests;

@@ -1,5 +1,5 @@
 -- The two forms of what an id is.
-use Rattle.std.proofs.Common.{◌≡◌, ℕ, ◌≤◌, ◌⊎◌, Bool, true, false, ◌&&◌, ◌||◌, ◌==◌, nat_le, List, [], ◌∷◌, length, All, refl}
+use Rattle.std.proofs.Common.{ℕ, ◌≤◌, ◌&&◌, nat_le, List, length, refl}
 use Rattle.std.specs.Bool.{Decides}
 use Rattle.std.specs.List.{list_all}
 use Rattle.std.proofs.lemmas.Bool.Decides.{Decides-at, Decides-and, Decides-or, Decides-eqb, Decides-like, Decides-by_and}

@@ -4,7 +4,7 @@ use Rattle.rd_keys.specs.Keys.{same_key}
 use Rattle.rd_keys.proofs.Keys.{same_key-refl}
 use Rattle.rd_tree.proofs.Standing.{from_left, from_right}
 use Rattle.rd_tree.specs.declared.node.Item.{Item}
-use Rattle.rd_tree.specs.Forest.{Forest, empty, tree, has, children, under, ◌▷◌}
+use Rattle.rd_tree.specs.Forest.{empty, tree, has, children, under, ◌▷◌}
 use Rattle.rd_tree.specs.Document.{BoxKey, Boxes, named, or_else, with_child}
 use Rattle.rd_scene.specs.declared.script.SceneBox.{SceneBox}
 use Rattle.rd_scene.specs.Planting.{parent_in}

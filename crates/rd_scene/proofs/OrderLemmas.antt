@@ -1,5 +1,5 @@
 -- One step of the walk over the boxes.
-use Rattle.std.proofs.Common.{◌≡◌, ℕ, zero, suc, ◌+◌, ◌<◌, ◌==◌, Bool, true, false, ◌&&◌, List, [], ◌∷◌, ◌++◌, length, take, drop, reverse, get_or, drop-cons, take-suc, add-one, Option, Some, None, is_none, is_some, refl, sym, ap, ◌∙◌, bytes_eq, unwrap_or, option_and_then, arith}
+use Rattle.std.proofs.Common.{◌≡◌, ℕ, zero, suc, ◌+◌, ◌<◌, ◌==◌, Bool, true, false, ◌&&◌, List, [], ◌∷◌, ◌++◌, length, take, drop, reverse, get_or, drop-cons, take-suc, add-one, Option, Some, None, is_none, is_some, refl, sym, ap, ◌∙◌, bytes_eq, arith}
 use Rattle.std.proofs.lemmas.List.{take_more, reverse-append}
 use Rattle.std.proofs.lemmas.Bool.{ne_eqb}
 use Rattle.std.specs.Borrow.{Bor}

@@ -1,12 +1,12 @@
 -- The walk over the boxes that are planted.
-use Rattle.std.proofs.Common.{◌≡◌, ℕ, zero, suc, ◌+◌, ◌<◌, Bool, true, false, ◌&&◌, ◌||◌, cond, List, [], ◌∷◌, ◌++◌, length, take, drop, reverse, Option, Some, None, is_none, is_some, IsSome, refl, sym, ap, ◌∙◌, bytes_eq, unwrap_or, option_and_then}
+use Rattle.std.proofs.Common.{◌≡◌, ℕ, ◌+◌, Bool, true, false, ◌&&◌, ◌||◌, cond, List, [], ◌∷◌, ◌++◌, reverse, Option, Some, None, is_none, is_some, IsSome, refl, sym, ap, ◌∙◌, bytes_eq, unwrap_or, option_and_then}
 use Rattle.rd_keys.specs.Keys.{same_key}
-use Rattle.rd_tree.specs.Forest.{Forest, empty, tree, has}
+use Rattle.rd_tree.specs.Forest.{empty, tree, has}
 use Rattle.rd_tree.specs.Document.{Document, BoxKey, Boxes, named, with_child}
 use Rattle.rd_scene.specs.declared.script.SceneBox.{SceneBox}
 use Rattle.rd_scene.specs.Order.{depth_of, is_first, has_room, has_place, are_in_order}
-use Rattle.rd_scene.specs.Planting.{item_of, parent_in, IsAlone, Adds, AddsAll}
-use Rattle.rd_scene.proofs.Names.{is_named, named_added, parent_there}
+use Rattle.rd_scene.specs.Planting.{item_of, parent_in, Adds, AddsAll}
+use Rattle.rd_scene.proofs.Names.{is_named, named_added}
 
 -- one more box is added after the others
 pub adds_push : (bs : List SceneBox) (b : SceneBox) (s m t : Document) → AddsAll bs s m → Adds b m t → AddsAll (bs ++ b ∷ []) s t

@@ -1,9 +1,10 @@
 -- Scripts: what they are, and what a JSON value says as one. The limits and the form are this project's own choice.
-use Rattle.std.specs.Prelude.{◌≡◌, ℕ, ◌≤◌, ℤ, pos, ◌≤ℤ◌, true, List, [], ◌∷◌, length, All, codes, Option, Some}
+use Rattle.std.specs.Prelude.{◌≡◌, ◌≤◌, pos, true, List, [], ◌∷◌, length, All, codes, Option, Some}
 use Rattle.serde_json.specs.Data.{Data}
 use Rattle.serde_json.specs.Find.{get, as_object}
 use Rattle.rd_geom.specs.declared.rect.Size.{Size}
-use Rattle.rd_style.specs.Limits.{Fits, FitsRect, IsBetween}
+use Rattle.rd_geom.specs.Canvas.{IsCanvas}
+use Rattle.rd_style.specs.Limits.{Fits, FitsRect}
 use Rattle.rd_scene.specs.declared.script.SceneBox.{SceneBox}
 use Rattle.rd_scene.specs.declared.script.Command.{Command}
 use Rattle.rd_scene.specs.Members.{◌>>=◌, only_if, has_only, from_to, elements, each}
@@ -12,23 +13,18 @@ use Rattle.rd_scene.specs.Boxes.{box_of}
 use Rattle.rd_scene.specs.Order.{are_in_order}
 use Rattle.rd_scene.specs.Commands.{command_of}
 
--- a canvas, its boxes in the order of the text, and what is done to them
+-- This project's own choice: a canvas, its boxes in the order of the text, and what is done to them
 pub record Script : Type 0 where
   pub canvas : Size
   pub boxes : List SceneBox
   pub commands : List Command
 
--- a canvas has 1 to 4,096 columns and rows
-pub record IsCanvas (s : Size) : Type 0 where
-  pub w : IsBetween (pos 1) s.w (pos 4096)
-  pub h : IsBetween (pos 1) s.h (pos 4096)
-
--- a box whose rectangle and widths are within the limits
+-- This project's own choice: a box whose rectangle and widths are within the limits
 pub record FitsBox (b : SceneBox) : Type 0 where
   pub rect : FitsRect b.rect
   pub style : Fits b.style
 
--- the rules that every script keeps
+-- This project's own choice: the rules that every script keeps
 pub record IsScript (s : Script) : Type 0 where
   pub canvas : IsCanvas s.canvas
   pub some : 1 ≤ length s.boxes
@@ -37,7 +33,7 @@ pub record IsScript (s : Script) : Type 0 where
   pub boxes : All FitsBox s.boxes
   pub commands : length s.commands ≤ 1000000
 
--- a script object
+-- This project's own choice: a script object, of version 1
 unfoldable pub script_of : Data → Option Script
 script_of d = do
   ms ← as_object d

@@ -1,15 +1,19 @@
 //! Why bytes are no script.
 
 use std::alloc::{AllocError, AllocFailed};
+use thiserror::Error;
 
 /// Why no script was read.
-#[derive(Debug, Drop)]
+#[derive(Debug, Drop, Error)]
 pub enum SceneFault {
     /// The bytes are no JSON text.
+    #[error("the text is not JSON")]
     NotJson,
     /// The value is not of the form of a script.
+    #[error("the value is not of the form of a script")]
     Form,
     /// There was no memory.
+    #[error("out of memory")]
     NoMemory,
 }
 

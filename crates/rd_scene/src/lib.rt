@@ -19,3 +19,6 @@ pub use fault::SceneFault;
 pub use planting::plant;
 pub use reader::read;
 pub use script::{Command, SceneBox, Script};
+
+#[cfg(test)]
+mod tests;

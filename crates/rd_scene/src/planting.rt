@@ -1,7 +1,7 @@
 //! The tree of a script.
 
-ghost use Rattle.std.specs.Prelude.{◌≡◌, ◌<◌, true, [], ◌∷◌, length, All, IfOk, OnOk, None, IsSome};
-ghost use Rattle.rd_tree.specs.Document.{HasRoom, named};
+ghost use Rattle.std.specs.Prelude.{◌≡◌, ◌+◌, ◌<◌, true, [], ◌∷◌, length, All, IfOk, OnOk, None, IsSome};
+ghost use Rattle.rd_tree.specs.Document.{HasRoom, named, taken};
 ghost use Rattle.rd_scene.specs.Order.{are_in_order};
 ghost use Rattle.rd_scene.specs.Planting as spec;
 ghost use Rattle.rd_scene.specs.Planting.{IsAlone, Adds, AddsAll, Plants};
@@ -38,7 +38,8 @@ fn add<B: Ledger>(tree: &mut Tree<B>, b: &SceneBox) -> Result<(), NoMemory>
     requires new_id { named b.now.id tree.old.boxes ≡ None }
     requires room { HasRoom tree.old }
     requires fits { FitsBox b.now }
-    ensures { OnOk result (Adds b.now tree.old tree.new) }
+    ensures added { OnOk result (Adds b.now tree.old tree.new) }
+    ensures more { OnOk result (taken tree.new ≡ taken tree.old + 1) }
 {
     let Some(parent) = parent_key(tree, b) else {
         unreachable!()
@@ -54,6 +55,7 @@ fn add_all<B: Ledger>(
     rest: &[SceneBox],
 ) -> Result<(), NoMemory>
     requires alone { IsAlone first.now tree.old }
+    requires taken { taken tree.old ≡ 1 }
     requires order { are_in_order (first.now ∷ []) rest.now ≡ true }
     requires most { length rest.now < 20000 }
     requires fits { All FitsBox rest.now }

@@ -2,9 +2,9 @@
 
 ghost use Rattle.std.specs.Prelude.{◌≡◌, pos, IfSome, Some};
 ghost use Rattle.serde_json.specs.View.{view};
+ghost use Rattle.rd_geom.specs.Canvas.{IsCanvas};
 ghost use Rattle.rd_style.specs.Limits.{FitsRect, IsBetween, farthest_left};
 ghost use Rattle.rd_scene.specs.Rects as spec;
-ghost use Rattle.rd_scene.specs.Scripts.{IsCanvas};
 
 use crate::members::{from_to, has_only, member};
 use rd_geom::{Rect, Size};

@@ -6,3 +6,4 @@ pub mod Seen
 pub mod Tests
 pub mod Fresh
 pub mod Looks
+pub mod Laws

@@ -65,11 +65,7 @@ fn negatives<'a>(
 }
 
 /// The layers of e at level auto or 0, in tree order.
-fn zeros<'a>(
-    alloc: Global,
-    e: &Spot,
-    below: &'a [Painted],
-) -> Result<Vec<&'a Painted>, NoMemory>
+fn zeros<'a>(alloc: Global, e: &Spot, below: &'a [Painted]) -> Result<Vec<&'a Painted>, NoMemory>
     ensures { IfOk result (λ v. map looked v.items ≡ filter (tests.is_layer_of painting.is_zero (spot e.now)) (map seen below.now)) }
 {
     let mut all = Vec::new(alloc);

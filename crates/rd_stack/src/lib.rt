@@ -6,6 +6,7 @@
 mod clip;
 mod flow;
 mod fresh;
+pub mod laws;
 mod layers;
 mod painted;
 mod parts;
@@ -13,3 +14,6 @@ mod spot;
 mod steps;
 
 pub use fresh::fresh_list;
+
+#[cfg(test)]
+mod tests;

@@ -204,7 +204,12 @@ fn block_self(
 }
 
 /// All that a box paints, from what each box below it paints.
-pub fn steps(alloc: Global, canvas: &Rect, e: &Spot, below: &[Painted]) -> Result<PlainList, NoMemory>
+pub fn steps(
+    alloc: Global,
+    canvas: &Rect,
+    e: &Spot,
+    below: &[Painted],
+) -> Result<PlainList, NoMemory>
     ensures { IfOk result (λ v. v ≡ painting.steps canvas.now (spot e.now) (map seen below.now)) }
 {
     let mut out = PlainList::new(alloc);

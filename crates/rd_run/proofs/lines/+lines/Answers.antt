@@ -4,7 +4,8 @@ use Rattle.rd_run.proofs.Counts.{lines_more}
 use Rattle.rd_run.proofs.lines.+lines.Goals as goal
 
 pub push_lines-push_entry-requires : goal.push_lines-push_entry-requires
-push_lines-push_entry-requires g t c = λ κs h. ?
+push_lines-push_entry-requires g t c = λ κs h.
+    (omega (arith, list_size-at c.args.entries.now c.loop-x.x-index c.x-item.result c.loop-x-test.true c.x-item.is, c.decreases), h)
 
 pub push_lines-loop-x-preserved : goal.push_lines-loop-x-preserved
 push_lines-loop-x-preserved g t c =

@@ -1,4 +1,4 @@
-use Rattle.std.proofs.Common.{◌≡◌, ℕ, ◌==◌, List, [], bytes_eq, take, drop, reverse}
+use Rattle.std.proofs.Common.{◌≡◌, ℕ, List, [], bytes_eq, take, drop, reverse}
 use Rattle.indexmap.specs.IndexMap.{get_by}
 use Rattle.rd_scene.specs.Order as spec
 use Rattle.rd_scene.proofs.order.are_in_order.Given as goal

@@ -1,0 +1,38 @@
+-- The laws of painting.
+use Rattle.std.proofs.Common.{refl, ◌≡◌, true, []}
+use Rattle.std.proofs.lemmas.List.Sorted.{IsPermutation-refl}
+use Rattle.rd_geom.specs.Canvas.{canvas_of}
+use Rattle.rd_keys.specs.Keys.{same_key}
+use Rattle.rd_keys.proofs.Keys.{same_key-refl}
+use Rattle.rd_keys.specs.declared.entry.Part.{Part}
+use Rattle.rd_keys.specs.declared.entry.Part.TheVariants.{Back, Border, Content, Outline}
+use Rattle.rd_item.specs.declared.leaf.Leaf.{Leaf}
+use Rattle.rd_list.specs.Entries.{flat}
+use Rattle.rd_list.specs.Lists.{same_leaf, same_part, routes, groups}
+use Rattle.rd_stack.specs.Fresh.{fresh_list}
+use Rattle.rd_stack.proofs.Counted.{pairs_apart, leaf_once, group_once, none_empty, filled}
+use Rattle.rd_stack.proofs.Counted.{none_fails}
+use Rattle.rd_stack.proofs.OnCanvas.{lies_in, on_canvas, none_off}
+use Rattle.rd_stack.specs.Laws.{StandsForItself, ShowsOnCanvas}
+
+same_part-refl : (p : Part) → same_part p p ≡ true
+same_part-refl Back = refl
+same_part-refl Border = refl
+same_part-refl Content = refl
+same_part-refl Outline = refl
+
+same_leaf-refl : (l : Leaf) → same_leaf l l ≡ true
+same_leaf-refl l = rw (same_key-refl l.owner, same_part-refl l.part) refl
+
+pub stands_for_itself : StandsForItself
+stands_for_itself = λ t apart. record {
+  leaves = IsPermutation-refl (routes [] (fresh_list t));
+  once = pairs_apart same_leaf same_leaf-refl (flat (fresh_list t)) (λ a. leaf_once (canvas_of t.canvas) a t.boxes apart);
+  grouped = pairs_apart same_key same_key-refl (groups (fresh_list t)) (λ j. group_once (canvas_of t.canvas) j t.boxes apart);
+  filled = filled (fresh_list t) (none_empty (canvas_of t.canvas) t.boxes apart);
+  ordered = λ a b _ _ _. refl;
+}
+
+pub shows_on_canvas : ShowsOnCanvas
+shows_on_canvas = λ t apart k d l.
+    on_canvas (canvas_of t.canvas) _ (none_fails (λ x. lies_in (canvas_of t.canvas) x.visible) (flat (fresh_list t)) (none_off (canvas_of t.canvas) t.boxes apart) k d l)
