@@ -20,7 +20,7 @@ mod tests {
     }
 
     // On a canvas of 10 by 10: rectangles, how many pixels the area has after each, how many spans
-    // row 2 has, and its first and last one.
+    // the third row has, and its first and last one.
     #[test]
     fn rectangles_join(rt: HostRuntime) -> Result<(), NoMemory> {
         let mut area = Area::none(rt.alloc(), Size { w: 10, h: 10 })?;

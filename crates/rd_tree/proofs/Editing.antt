@@ -17,9 +17,9 @@ use Rattle.rd_tree.specs.declared.walk.Work.TheVariants.{Settle, Shift}
 use Rattle.rd_tree.specs.Forest.{Forest, empty, tree, has, children, top, from, each_if, in_subtree, at_box, at_subtree, AllItems, IsApart}
 use Rattle.rd_tree.specs.Links.{Node, node, with_item, Stands, edit, on_each, onward_of}
 use Rattle.rd_tree.specs.Document.{BoxKey, Item, Boxes}
-use Rattle.rd_tree.specs.Linked.{linked, Relinks, IsTree, seen, seen_from, item_at, IsSound}
+use Rattle.rd_tree.specs.Linked.{linked, Relinks, IsTree, seen, seen_from, item_at, EachFits, IsSound}
 use Rattle.rd_tree.specs.Works.{touch, settled, move_by, shifted, Allows, done}
-use Rattle.rd_tree.specs.WorksAt.{AllowsAt, reached}
+use Rattle.rd_tree.specs.WorksAt.{AllowsAt, FitsAt, ShiftFitsAt, reached}
 use Rattle.rd_tree.specs.Edits.{touched_by, restyle, with_rect, CanRestyle, CanShift}
 use Rattle.rd_tree.proofs.Standing.{cases, never}
 use Rattle.rd_tree.proofs.Under.{which}
@@ -143,3 +143,38 @@ still_has p g k f h e m = ap (has same_key k) e ∙ (has-each p g same_key k f �
 pub reach_of : (a : Arena inner.Node) (root k : BoxKey) (r : Reach) (b : Bool) (h : Bool → Item → Reach) → IsTree a root → b ≡ same_key k root → r ≡ option_map_or (h b) (option_map (λ n. n.item) (linked a k)) Nothing →
     r ≡ option_map_or (h (same_key k root)) (top (from same_key k (seen a root))) Nothing
 reach_of a root k r b h t e is = is ∙ (ap (λ c. option_map_or (h c) (item_at a k) Nothing) e ∙ ap (λ o. option_map_or (h (same_key k root)) o Nothing) (item_seen a root k t))
+
+rects_fit : (at : BoxKey → Option (Node BoxKey Item)) (up prev : Option BoxKey) (f : Boxes) (first last after : Option BoxKey) → Stands at up prev f first last after → EachFits (λ k. option_map (λ n. n.item) (at k)) → AllItems (λ d. FitsRect d.rect) f
+rects_fit at up prev empty first last after s h = tt
+rects_fit at up prev (tree k d below rest) first last after s h = ((h k d (rw s.4 refl)).0, rects_fit at (Some k) None below s.0 s.1 None s.5 h, rects_fit at up (Some k) rest s.2 last after s.6 h)
+
+pub below_fits : {Y S : Type 0} (a : Arena inner.Node) (root k : BoxKey) (ids : HashMap (String Y) BoxKey S) → IsSound a root ids → has same_key k (seen a root) ≡ true → AllItems (λ d. FitsRect d.rect) (seen_from a (onward_of (linked a k)).0)
+below_fits a root k ids s m =
+    let u : Under a root k (onward_of (linked a k)).0 = under_box a root k s.tree m in
+    let e : seen a root ≡ s.tree.boxes = seen_is a root s.tree in
+    let c : (y : Node BoxKey Item) × (linked a k ≡ Some y) × Stands (linked a) (Some k) None (children same_key k s.tree.boxes) y.first y.last None × IsApart same_key (children same_key k s.tree.boxes) × (has same_key k (children same_key k s.tree.boxes) ≡ false) =
+    stands_children same_key same_key-sound same_key-refl (linked a) None None s.tree.boxes (Some root) (Some root) None k s.tree.is.apart s.tree.is.stands (subst (λ f. has same_key k f ≡ true) e m) in
+    subst (λ f. AllItems (λ d. FitsRect d.rect) f) (sym (u.told ∙ ap (children same_key k) e)) (rects_fit (linked a) (Some k) None (children same_key k s.tree.boxes) c.0.first c.0.last None c.2 s.fits)
+
+pub rect_fits : {Y S : Type 0} (a : Arena inner.Node) (root k : BoxKey) (ids : HashMap (String Y) BoxKey S) → IsSound a root ids → FitsAt (linked a k)
+rect_fits a root k ids s = at (linked a k) refl where
+  at : (o : Option (Node BoxKey Item)) → linked a k ≡ o → FitsAt o
+  at None e = tt
+  at (Some n) e = (s.fits k n.item (ap (option_map (λ n. n.item)) e)).0
+
+-- What the two parts of a test of a shift say.
+pub can_shift : (a : Arena inner.Node) (root k : BoxKey) (dx dy : ℤ) (o : Option BoxKey) → IsTree a root → has same_key k (seen a root) ≡ true → o ≡ (onward_of (linked a k)).0 →
+    ShiftFitsAt dx dy (linked a k) → AllItems (λ d. FitsRect (shifted dx dy d.rect)) (seen_from a o) → CanShift dx dy k (seen a root)
+can_shift a root k dx dy o t m e here all =
+    (subst (λ q. IfSome q (λ d. FitsRect (shifted dx dy d.rect))) (item_seen a root k t) (at (linked a k) here), subst (λ f. AllItems (λ d. FitsRect (shifted dx dy d.rect)) f) (ap (seen_from a) e ∙ (under_box a root k t m).told) all) where
+      at : (q : Option (Node BoxKey Item)) → ShiftFitsAt dx dy q → IfSome (option_map (λ n. n.item) q) (λ d. FitsRect (shifted dx dy d.rect))
+      at None h = tt
+      at (Some n) h = h
+
+pub shift_parts : (a : Arena inner.Node) (root k : BoxKey) (dx dy : ℤ) (o : Option BoxKey) → IsTree a root → has same_key k (seen a root) ≡ true → o ≡ (onward_of (linked a k)).0 →
+    CanShift dx dy k (seen a root) → ShiftFitsAt dx dy (linked a k) × AllItems (λ d. FitsRect (shifted dx dy d.rect)) (seen_from a o)
+shift_parts a root k dx dy o t m e can =
+    (at (linked a k) (subst (λ q. IfSome q (λ d. FitsRect (shifted dx dy d.rect))) (sym (item_seen a root k t)) can.0), subst (λ f. AllItems (λ d. FitsRect (shifted dx dy d.rect)) f) (sym (ap (seen_from a) e ∙ (under_box a root k t m).told)) can.1) where
+      at : (q : Option (Node BoxKey Item)) → IfSome (option_map (λ n. n.item) q) (λ d. FitsRect (shifted dx dy d.rect)) → ShiftFitsAt dx dy q
+      at None h = tt
+      at (Some n) h = h

@@ -1,17 +1,18 @@
 -- Work on a box, on those below it, and on its later siblings.
-use Rattle.std.proofs.Common.{◌≡◌, refl, ap, ◌∙◌, sym, subst, ℕ, zero, suc, ◌+◌, ◌<◌, ◌≤◌, Bool, true, false, ◌||◌, ◌&&◌, not, cond, arith, inl, inr}
+use Rattle.std.proofs.Common.{◌≡◌, refl, ap, ◌∙◌, sym, subst, ℤ, ℕ, zero, suc, ◌+◌, ◌<◌, ◌≤◌, Bool, true, false, ◌||◌, ◌&&◌, not, cond, arith, inl, inr}
 use Rattle.std.specs.Prelude.{Option, Some, None, option_map}
 use Rattle.rd_keys.specs.Keys.{same_key}
 use Rattle.rd_keys.specs.Arena.{Arena}
 use Rattle.rd_keys.proofs.Keys.{same_key-sound, same_key-refl}
 use Rattle.rd_tree.specs.declared.node.Node as inner
+use Rattle.rd_style.specs.Limits.{FitsRect}
 use Rattle.rd_tree.specs.declared.walk.Work.{Work}
 use Rattle.rd_tree.specs.Forest.{Forest, empty, tree, size, has, AreApart, IsApart, AllItems}
 use Rattle.rd_tree.specs.Links.{Node, node, with_item, Stands, read, edit, on_each, onward_of}
 use Rattle.rd_tree.specs.Document.{BoxKey, Item, Boxes}
 use Rattle.rd_tree.specs.Linked.{linked, Relinks, IsRead, seen_from}
-use Rattle.rd_tree.specs.Works.{done, Allows}
-use Rattle.rd_tree.specs.WorksAt.{AllowsAt}
+use Rattle.rd_tree.specs.Works.{done, Allows, shifted}
+use Rattle.rd_tree.specs.WorksAt.{AllowsAt, FitsAt, ShiftFitsAt}
 use Rattle.rd_tree.proofs.Standing.{cases, never, either, from_left, from_right, frame, agree_edit, agree_at, read-stands, differs, differs_back, apart_back}
 
 pub seen_read : (a : Arena inner.Node) (o : Option BoxKey) (r : IsRead a o) → seen_from a o ≡ r.boxes
@@ -254,3 +255,73 @@ worked_below a a1 a2 k g f n r1 r2 = record {
   once : {A : Type 0} (g : A → A) (o : A) (b low : Bool) → (b ≡ true → low ≡ false) → cond low (g (cond b (g o) o)) (cond b (g o) o) ≡ cond (b || low) (g o) o
   once g o true low h = rw (h refl) refl
   once g o false low h = refl
+
+-- The loop has found that those boxes fit that are told from the first one on, and no more from this one on.
+pub record Fitted (P : Item → Type 0) (a : Arena inner.Node) (first at : Option BoxKey) : Type 0 where
+  pub read : IsRead a at
+  pub fits : AllItems (λ d. FitsRect d.rect) (seen_from a at)
+  pub back : AllItems P (seen_from a at) → AllItems P (seen_from a first)
+  pub forth : AllItems P (seen_from a first) → AllItems P (seen_from a at)
+  pub smaller : size (seen_from a at) ≤ size (seen_from a first)
+
+-- what a step over one box tells
+pub record FittedStep (P : Item → Type 0) (a : Arena inner.Node) (first : Option BoxKey) (k : BoxKey) (x z : Option BoxKey) : Type 0 where
+  pub read : IsRead a x
+  pub fits : AllItems (λ d. FitsRect d.rect) (seen_from a x)
+  pub smaller : size (seen_from a x) < size (seen_from a first)
+  pub later : size (seen_from a z) < size (seen_from a (Some k))
+  pub here : (n : Node BoxKey Item) → linked a k ≡ Some n → AllItems P (seen_from a first) → P n.item
+  pub below : AllItems P (seen_from a first) → AllItems P (seen_from a x)
+  pub next : ((n : Node BoxKey Item) → linked a k ≡ Some n → P n.item) → AllItems P (seen_from a x) → Fitted P a first z
+
+pub here_fits : (P : Item → Type 0) (a : Arena inner.Node) (first : Option BoxKey) (k : BoxKey) → Fitted P a first (Some k) → FitsAt (linked a k)
+here_fits P a first k w =
+    let h : Here a k = here a k w.read in
+    let all : AllItems (λ d. FitsRect d.rect) (tree k h.item h.below h.rest) = subst (λ f. AllItems (λ d. FitsRect d.rect) f) h.seen w.fits in
+    subst FitsAt (sym h.found) all.0
+
+pub fitted_step : (P : Item → Type 0) (a : Arena inner.Node) (first : Option BoxKey) (k : BoxKey) (x z : Option BoxKey) → Fitted P a first (Some k) → (x, z) ≡ onward_of (linked a k) → FittedStep P a first k x z
+fitted_step P a first k x z w e =
+    let h : Here a k = here a k w.read in
+    let ex : x ≡ h.x = ap (λ o. o.0) e ∙ ap (λ o. (onward_of o).0) h.found in
+    let ez : z ≡ h.z = ap (λ o. o.1) e ∙ ap (λ o. (onward_of o).1) h.found in
+    let low : IsRead a h.x = record { boxes = h.below; up = Some k; prev = None; last = h.y; stands = h.low; apart = h.apart.3; small = omega (arith, h.small) } in
+    let later : IsRead a h.z = record { boxes = h.rest; up = h.up; prev = Some k; last = h.last; stands = h.later; apart = h.apart.4; small = omega (arith, h.small) } in
+    let sl : seen_from a h.x ≡ h.below = seen_read a h.x low in
+    let sr : seen_from a h.z ≡ h.rest = seen_read a h.z later in
+    let all : AllItems (λ d. FitsRect d.rect) (tree k h.item h.below h.rest) = subst (λ f. AllItems (λ d. FitsRect d.rect) f) h.seen w.fits in
+    let n : size (seen_from a (Some k)) ≡ 1 + (size h.below + size h.rest) = ap size h.seen in
+    let m : size (seen_from a h.x) ≡ size h.below = ap size sl in
+    let r : size (seen_from a h.z) ≡ size h.rest = ap size sr in
+    let parts : AllItems P (seen_from a first) → AllItems P (tree k h.item h.below h.rest) = λ v. subst (λ f. AllItems P f) h.seen (w.forth v) in
+    subst (λ o. FittedStep P a first k o z) (sym ex) (subst (λ o. FittedStep P a first k h.x o) (sym ez) (record {
+      read = low;
+      fits = subst (λ f. AllItems (λ d. FitsRect d.rect) f) (sym sl) all.1;
+      smaller = omega (arith, n, m, w.smaller);
+      later = omega (arith, n, r);
+      here = λ q u v. let i : node h.item h.up h.prev h.x h.y h.z ≡ q = cc (h.found, u) in subst (λ y. P y.item) i (parts v).0;
+      below = λ v. subst (λ f. AllItems P f) (sym sl) (parts v).1;
+      next = λ p v. record {
+        read = later;
+        fits = subst (λ f. AllItems (λ d. FitsRect d.rect) f) (sym sr) all.2;
+        back = λ t. w.back (subst (λ f. AllItems P f) (sym h.seen) (p (node h.item h.up h.prev h.x h.y h.z) h.found, subst (λ f. AllItems P f) sl v, subst (λ f. AllItems P f) sr t));
+        forth = λ t. subst (λ f. AllItems P f) (sym sr) (parts t).2;
+        smaller = omega (arith, n, r, w.smaller);
+      };
+    }))
+
+-- At a node, what is said of it and of its item.
+pub at_node : (a : Arena inner.Node) (k : BoxKey) (dx dy : ℤ) → ShiftFitsAt dx dy (linked a k) → (n : Node BoxKey Item) → linked a k ≡ Some n → FitsRect (shifted dx dy n.item.rect)
+at_node a k dx dy h n e = subst (λ o. ShiftFitsAt dx dy o) e h
+
+pub none_left : (P : Item → Type 0) (a : Arena inner.Node) (first : Option BoxKey) → Fitted P a first None → AllItems P (seen_from a first)
+none_left P a first w = w.back (subst (λ f. AllItems P f) (sym (nothing a.limit)) tt) where
+  nothing : (n : ℕ) → read n (linked a) None ≡ empty
+  nothing zero = refl
+  nothing (suc n) = refl
+
+pub here_said : (a : Arena inner.Node) (k : BoxKey) (dx dy : ℤ) → ((n : Node BoxKey Item) → linked a k ≡ Some n → FitsRect (shifted dx dy n.item.rect)) → ShiftFitsAt dx dy (linked a k)
+here_said a k dx dy h = at (linked a k) refl where
+  at : (o : Option (Node BoxKey Item)) → linked a k ≡ o → ShiftFitsAt dx dy o
+  at None e = tt
+  at (Some n) e = h n e
