@@ -2,4 +2,5 @@ pub mod Counts
 pub mod Pixels
 pub mod Painting
 pub mod Runs
+pub mod Sound
 pub mod Planted

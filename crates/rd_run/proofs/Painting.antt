@@ -11,10 +11,11 @@ use Rattle.rd_geom.specs.Plane.{Rectangle, common, has_none, meets}
 use Rattle.rd_stack.specs.Laws.{IsOnCanvas}
 use Rattle.rd_stack.proofs.Promises.{stands_for_itself, shows_on_canvas}
 use Rattle.rd_run.specs.Lines.{KeptItem, paint_line}
-use Rattle.rd_run.specs.Machine.{State, Paints, leaves, invalid_area, meets_any, made_after, pixels_in, built, kept_on}
+use Rattle.rd_run.specs.Machine.{State, settled_tree, Paints, leaves, invalid_area, meets_any, made_after, pixels_in, built, kept_on}
 use Rattle.rd_run.specs.Display.{Shows, Answers, IsSound, stamped}
 use Rattle.rd_run.specs.declared.display.Display.{Display}
 use Rattle.rd_run.proofs.Pixels.{whole_canvas}
+use Rattle.rd_run.proofs.Sound.{settled_sound}
 
 on_canvas : (canvas : Rectangle) (ls : List Leaf) → All (IsOnCanvas canvas) ls → AllByRecursion (λ l. meets_any (canvas ∷ []) l ≡ true) ls
 on_canvas canvas [] h = tt
@@ -68,20 +69,19 @@ count_all p ls h = from_all p 0 ls h ∙ omega arith
 count_none : (p : Leaf → Bool) (ls : List Leaf) → AllByRecursion (λ l. p l ≡ true) ls → count_by (λ l. not (p l)) ls ≡ 0
 count_none p ls h = from_none p 0 ls h
 
-pub painted : (s : State) (t : Document) (old now : Display) (text : List ℕ) → Shows t old s → now.list ≡ fresh_list t
+pub painted : (s : State) (t now_t : Document) (old now : Display) (text : List ℕ) → Shows t old s → now_t ≡ settled_tree t → now.list ≡ fresh_list t
     → now.pending ≡ false → now.paints ≡ old.paints + 1
     → text ≡ paint_line (old.paints + 1) (length (flat (fresh_list t))) 0 (unsigned_abs t.canvas.w * unsigned_abs t.canvas.h)
-    → Answers Paints s text t now
-painted s t old now text h k p n w =
-    let next : State = record { tree = s.tree; last = Some s.tree; pending = false; paints = s.paints + 1; kept = stamped now.paints now.list } in
+    → Answers Paints s text now_t now
+painted s t now_t old now text h m k p n w =
+    let next : State = record { tree = settled_tree s.tree; last = Some s.tree; pending = false; paints = s.paints + 1; kept = stamped now.paints now.list } in
     let same : fresh_list s.tree ≡ now.list = ap fresh_list h.tree ∙ sym k in
-    let meets = all_meet s.tree h.sound in (
-      next,
-      record {
-        stands = rw (leaves-stamped, ← same) (stands_for_itself s.tree h.sound.apart);
-        numbers = made_now s now.paints now.list (n ∙ ap (λ m. m + 1) (sym h.paints)) (rw (← same) meets);
-        settled = refl;
-        told = rw (w, count_all _ _ meets, count_none _ _ meets, whole_canvas s.tree.canvas h.sound.canvas.some_wide h.sound.canvas.some_high, h.tree, h.paints) refl;
-      },
-      record { tree = h.tree; pending = sym p; paints = ap (λ m. m + 1) h.paints ∙ sym n; kept = refl; sound = h.sound },
-    )
+    let meets = all_meet s.tree h.sound in
+    (next,
+     record {
+       stands = rw (leaves-stamped, ← same) (stands_for_itself s.tree h.sound.apart);
+       numbers = made_now s now.paints now.list (n ∙ ap (λ m. m + 1) (sym h.paints)) (rw (← same) meets);
+       settled = refl;
+       told = rw (w, count_all _ _ meets, count_none _ _ meets, whole_canvas s.tree.canvas h.sound.canvas.some_wide h.sound.canvas.some_high, h.tree, h.paints) refl;
+     },
+     record { tree = ap settled_tree h.tree ∙ sym m; pending = sym p; paints = ap (λ m. m + 1) h.paints ∙ sym n; kept = refl; sound = settled_sound s.tree h.sound })

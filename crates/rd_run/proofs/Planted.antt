@@ -5,8 +5,6 @@ use Rattle.rd_keys.proofs.Keys.{same_key-sound, same_key-refl}
 use Rattle.rd_tree.specs.Forest.{empty, tree, has, children, under, ◌▷◌, AreApart, IsApart}
 use Rattle.rd_tree.specs.declared.node.Item.{Item}
 use Rattle.rd_tree.specs.Document.{Document, Boxes, with_child}
-use Rattle.rd_tree.proofs.Standing.{cases, refute, never, out_of_children, no_children, has-join, apart_back}
-use Rattle.rd_tree.proofs.Under.{which, apart_under, apart_join}
 use Rattle.rd_scene.specs.declared.script.SceneBox.{SceneBox}
 use Rattle.std.specs.Io.KnownBytes.{Appends}
 use Rattle.rd_io.specs.Causes.{GainsPart}
@@ -16,47 +14,15 @@ use Rattle.rd_scene.specs.declared.script.Command.{Command}
 use Rattle.rd_scene.specs.Scripts.{Script}
 use Rattle.rd_scene.specs.Planting.{Plants, Grows, Adds, AddsAll, IsAlone, item_of, parent_in}
 use Rattle.rd_scene.proofs.Names.{parent_there}
+use Rattle.rd_run.proofs.Sound.{child_apart}
 use Rattle.rd_run.specs.Machine.{start, Run, IsAllowedText}
 use Rattle.rd_run.specs.Display.{Shows}
 use Rattle.rd_run.specs.Answered.{AnswersAll, AnswersPart}
 use Rattle.rd_run.specs.declared.display.Display.{Display}
 
-in_children : (j p : BoxKey) (f : Boxes) → has same_key j (children same_key p f) ≡ true → has same_key j f ≡ true
-in_children j p f h = elim (cases (has same_key j f)) [ inl e ↦ e | inr e ↦ absurd (never (has same_key j (children same_key p f)) h (out_of_children same_key same_key-sound same_key-refl j p f e)) ]
-
--- the children of a box are apart where all are
-children-apart : (p : BoxKey) (f : Boxes) → IsApart same_key f → IsApart same_key (children same_key p f)
-children-apart p empty a = tt
-children-apart p (tree k d below rest) a =
-    elim (same_key p k) as (λ v. IsApart same_key (cond v below (children same_key p below ▷ children same_key p rest))) [
-      | true ↦ a.3
-      | false ↦ apart_join same_key same_key-sound same_key-refl (children same_key p below) (children same_key p rest) (children-apart p below a.3) (children-apart p rest a.4)
-          (λ j h. out_of_children same_key same_key-sound same_key-refl j p rest (a.2 j (in_children j p below h)))
-    ]
-
--- a key that is there is not one that is not
-differ : (j k : BoxKey) (f : Boxes) → has same_key k f ≡ false → has same_key j f ≡ true → same_key j k ≡ false
-differ j k f n h = refute (same_key j k) (λ e. never (has same_key j f) h (ap (λ i. has same_key i f) (same_key-sound j k e) ∙ n))
-
--- a new last child under an unused key leaves all apart
-added_apart : (p k : BoxKey) (d : Item) (f : Boxes) → IsApart same_key f → has same_key p f ≡ true → has same_key k f ≡ false → IsApart same_key (with_child p None k d f)
-added_apart p k d f a m n =
-    let c : Boxes = children same_key p f in
-    let one : Boxes = tree k d empty empty in
-    let apart : AreApart same_key c one = λ j h. rw (differ j k f n (in_children j p f h)) refl in
-    let g = apart_join same_key same_key-sound same_key-refl c one (children-apart p f a) (refl, refl, (λ j h. refl), tt, tt) apart in
-    apart_under same_key same_key-sound same_key-refl p (c ▷ one) f a g m (λ j u v.
-    elim (which (has same_key j c) (has same_key j one) (sym (has-join same_key same_key-sound same_key-refl j c one) ∙ u)) [
-      | inl h ↦ h
-      | inr h ↦ absurd (never (same_key j k) (single j h) (differ j k f n v))
-    ])
-  where
-    single : (j : BoxKey) → (same_key j k || (false || false)) ≡ true → same_key j k ≡ true
-    single j h = elim (cases (same_key j k)) [ inl e ↦ e | inr e ↦ absurd (never (same_key j k || (false || false)) h (rw e refl)) ]
-
 added : (b : SceneBox) (old new : Document) → Adds b old new → IsApart same_key old.boxes → IsApart same_key new.boxes
 added b old new h a =
-    subst (λ (t : Document). IsApart same_key t.boxes) (sym h.4) (added_apart (h.0) (h.1) (item_of b) old.boxes a (parent_there old.boxes b (h.0) h.2) h.5)
+    subst (λ (t : Document). IsApart same_key t.boxes) (sym h.4) (child_apart (h.1) (item_of b) (h.0) None old.boxes a (parent_there old.boxes b (h.0) h.2) h.5)
 
 all_added : (bs : List SceneBox) (old new : Document) → AddsAll bs old new → IsApart same_key old.boxes → IsApart same_key new.boxes
 all_added [] old new h a = subst (λ (t : Document). IsApart same_key t.boxes) (sym h) a

@@ -5,13 +5,15 @@ use Rattle.std.specs.Io.KnownBytes.{Appends, Keeps}
 use Rattle.rd_io.specs.Causes.{GainsPart}
 use Rattle.rd_geom.specs.Canvas.{canvas_of}
 use Rattle.rd_scene.specs.declared.script.Command.{Command}
-use Rattle.rd_scene.specs.declared.script.Command.TheVariants.{Paint, Dump}
+use Rattle.rd_scene.specs.declared.script.Command.TheVariants.{Change, Paint, Dump}
 use Rattle.rd_stack.specs.Fresh.{fresh_list}
 use Rattle.rd_stack.proofs.Promises.{stands_for_itself}
 use Rattle.rd_run.specs.Answered.{AnswersPart}
-use Rattle.rd_run.specs.Lines.{paint_line}
-use Rattle.rd_run.specs.Machine.{State, Step, Run, Paints, Settles, invalid_area, built, kept_on, pixels_in, dumped}
+use Rattle.rd_edits.specs.Refusals.{refusal_of}
+use Rattle.rd_run.specs.Lines.{ok_line, refused_line, paint_line}
+use Rattle.rd_run.specs.Machine.{State, Step, Run, Edits, Paints, Settles, settled_tree, invalid_area, built, kept_on, pixels_in, dumped}
 use Rattle.rd_run.specs.Display.{IsSound, stamped}
+use Rattle.rd_run.proofs.Sound.{settled_sound, edited_sound, edit_goes}
 use Rattle.rd_run.proofs.Painting.{leaves-stamped, made_now, all_meet}
 
 -- one more command after a run
@@ -50,6 +52,13 @@ settle_goes true s h = paint_goes s h
 settle_goes false s h = (s, [], (refl, refl), h)
 
 step_goes : (s : State) (c : Command) → IsSound s.tree → (t : State) × (text : List ℕ) × Step s c text t × IsSound t.tree
+step_goes s (Change e) h = change_goes (refusal_of s.tree e) refl
+  where
+    change_goes : (o : Option ℕ) → refusal_of s.tree e ≡ o → (t : State) × (text : List ℕ) × Edits o e s text t × IsSound t.tree
+    change_goes (Some n) r = (s, refused_line n, (refl, refl), h)
+    change_goes None r =
+        let t = edit_goes e s.tree r in
+        (record s { tree = t.0; pending = true }, ok_line, (refl, t.0, t.1, refl), edited_sound e s.tree (t.0) t.1 h)
 step_goes s Paint h = paint_goes s h
 step_goes s Dump h =
     let p = settle_goes s.pending s h in

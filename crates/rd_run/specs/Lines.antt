@@ -49,6 +49,13 @@ rect_text r = signed_decimal r.x ++ (32 ∷ signed_decimal r.y ++ (32 ∷ signed
 unfoldable pub shape_text : Leaf → List ℕ
 shape_text l = rect_text l.visible ++ (32 ∷ (rect_text l.shape.outer ++ (32 ∷ rect_text l.shape.inner)))
 
+-- what an edit writes, done or refused
+abbrev pub ok_line : List ℕ
+ok_line = line (codes "ok" ∷ [])
+
+abbrev pub refused_line : ℕ → List ℕ
+refused_line n = line (codes "refused" ∷ decimal n ∷ [])
+
 -- what a paint writes: its number, the items it made, the others, and the pixels of its area
 abbrev pub paint_line : ℕ → ℕ → ℕ → ℕ → List ℕ
 paint_line number built kept area =

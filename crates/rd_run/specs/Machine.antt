@@ -6,13 +6,18 @@ use Rattle.rd_item.specs.declared.leaf.Leaf.{Leaf}
 use Rattle.rd_list.specs.Entries.{Entries, nil, leaf, group, flat}
 use Rattle.rd_list.specs.Lists.{StandsFor, same_leaf}
 use Rattle.rd_tree.specs.Document.{Document}
+use Rattle.rd_tree.specs.Forest.{each_if}
+use Rattle.rd_tree.specs.Works.{settled}
+use Rattle.rd_edits.specs.declared.edit.Edit.{Edit}
+use Rattle.rd_edits.specs.Refusals.{refusal_of}
+use Rattle.rd_edits.specs.Edited.{IsEdited}
 use Rattle.rd_geom.specs.Canvas.{canvas_of}
 use Rattle.rd_stack.specs.Fresh.{fresh_list}
 use Rattle.rd_scene.specs.Scripts.{Script}
 use Rattle.rd_scene.specs.declared.script.Command.{Command}
-use Rattle.rd_scene.specs.declared.script.Command.TheVariants.{Paint, Dump}
+use Rattle.rd_scene.specs.declared.script.Command.TheVariants.{Change, Paint, Dump}
 use Rattle.rd_scene.specs.Planting.{Plants}
-use Rattle.rd_run.specs.Lines.{KeptItem, paint_line, dump_lines}
+use Rattle.rd_run.specs.Lines.{KeptItem, ok_line, refused_line, paint_line, dump_lines}
 
 -- What one command hands to the next.
 pub record State : Type 0 where
@@ -69,11 +74,15 @@ built s = count_by (meets_any (invalid_area s)) (flat (fresh_list s.tree))
 abbrev pub kept_on : State → ℕ
 kept_on s = count_by (λ l. not (meets_any (invalid_area s) l)) (flat (fresh_list s.tree))
 
+-- the tree with no box touched
+abbrev pub settled_tree : Document → Document
+settled_tree t = record t { boxes = each_if (λ k. true) settled t.boxes }
+
 -- A paint leads from old to new with this line. The order within the new list is free where leaves do not meet.
 pub record Paints (old : State) (text : List ℕ) (new : State) : Type 0 where
   pub stands : StandsFor (leaves new.kept) (fresh_list old.tree)
   pub numbers : AllByRecursion (λ i. i.made ≡ made_after old i.of) (flat new.kept)
-  pub settled : new ≡ record { tree = old.tree; last = Some old.tree; pending = false; paints = old.paints + 1; kept = new.kept }
+  pub settled : new ≡ record { tree = settled_tree old.tree; last = Some old.tree; pending = false; paints = old.paints + 1; kept = new.kept }
   pub told : text ≡ paint_line (old.paints + 1) (built old) (kept_on old) (pixels_in (canvas_of old.tree.canvas) (invalid_area old))
 
 -- a pending list is painted first
@@ -88,8 +97,14 @@ Asks answer old text new = (first : List ℕ) × Settles old.pending old first n
 abbrev pub dumped : State → List ℕ
 dumped s = dump_lines s.tree.boxes s.kept
 
+-- An edit that a test refuses changes nothing; any other is done, and the list is pending.
+abbrev pub Edits : Option ℕ → Edit → State → List ℕ → State → Type 0
+Edits (Some n) e old text new = (text ≡ refused_line n) × (new ≡ old)
+Edits None e old text new = (text ≡ ok_line) × (t : Document) × IsEdited e old.tree t × (new ≡ record old { tree = t; pending = true })
+
 -- From old, the machine may answer a command by this text and go on to new.
 abbrev pub Step : State → Command → List ℕ → State → Type 0
+Step old (Change e) text new = Edits (refusal_of old.tree e) e old text new
 Step old Paint text new = Paints old text new
 Step old Dump text new = Asks dumped old text new
 

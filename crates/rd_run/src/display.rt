@@ -3,10 +3,12 @@
 ghost use Rattle.std.specs.Prelude.{◌≡◌, ℕ, ◌+◌, ◌*◌, ◌<◌, ◌≤◌, ◌^◌, IfOk, OnErr, string_bytes, unsigned_abs, true};
 ghost use Rattle.rd_geom.specs.Canvas.{IsCanvas};
 ghost use Rattle.rd_list.specs.Entries.{nil};
-ghost use Rattle.rd_run.specs.Machine.{State, Step, Paints, Settles};
+ghost use Rattle.rd_edits.specs.Refusals.{refusal_of};
+ghost use Rattle.rd_run.specs.Machine.{State, Step, Paints, Settles, Edits};
 ghost use Rattle.rd_run.specs.Display.{Shows, Answers};
 
-use crate::lines::{count, dump, paint_line};
+use crate::lines::{count, dump, ok_line, paint_line, refused_line};
+use rd_edits::{Edit, EditFault, apply};
 use rd_geom::{Size, Steps};
 use rd_list::PlainList;
 use rd_scene::Command;
@@ -44,13 +46,14 @@ impl Display {
     fn paint<B: Ledger>(
         &mut self,
         alloc: Global,
-        tree: &Tree<B>,
+        tree: &mut Tree<B>,
         looks: &mut Steps<B>,
     ) -> Result<String, AllocError>
         requires few { self.old.paints < 2 ^ 40 }
-        requires canvas { IsCanvas tree.now.canvas }
-        ensures ok { IfOk result (λ text. (s : State) → Shows tree.now self.old s → Answers Paints s (string_bytes text) tree.now self.new) }
-        ensures err { OnErr result (self.new ≡ self.old) }
+        requires canvas { IsCanvas tree.old.canvas }
+        ensures ok { IfOk result (λ text. (s : State) → Shows tree.old self.old s → Answers Paints s (string_bytes text) tree.new self.new) }
+        ensures err { OnErr result (self.new ≡ self.old × tree.new ≡ tree.old) }
+        ensures canvas { tree.new.canvas ≡ tree.old.canvas }
         ensures count { self.new.paints ≤ self.old.paints + 1 }
     {
         let list = fresh_list(alloc, tree, looks)?;
@@ -60,19 +63,21 @@ impl Display {
         self.list = list;
         self.paints = number;
         self.pending = false;
+        tree.settle();
         Ok(line)
     }
 
     fn settle<B: Ledger>(
         &mut self,
         alloc: Global,
-        tree: &Tree<B>,
+        tree: &mut Tree<B>,
         looks: &mut Steps<B>,
     ) -> Result<String, AllocError>
         requires few { self.old.paints < 2 ^ 40 }
-        requires canvas { IsCanvas tree.now.canvas }
-        ensures ok { IfOk result (λ text. (s : State) → Shows tree.now self.old s → Answers (Settles self.old.pending) s (string_bytes text) tree.now self.new) }
-        ensures err { OnErr result (self.new ≡ self.old) }
+        requires canvas { IsCanvas tree.old.canvas }
+        ensures ok { IfOk result (λ text. (s : State) → Shows tree.old self.old s → Answers (Settles self.old.pending) s (string_bytes text) tree.new self.new) }
+        ensures err { OnErr result (self.new ≡ self.old × tree.new ≡ tree.old) }
+        ensures canvas { tree.new.canvas ≡ tree.old.canvas }
         ensures count { self.new.paints ≤ self.old.paints + 1 }
     {
         if self.pending {
@@ -82,20 +87,42 @@ impl Display {
         }
     }
 
+    fn change<B: Ledger>(
+        &mut self,
+        alloc: Global,
+        tree: &mut Tree<B>,
+        edit: &Edit,
+    ) -> Result<String, AllocError>
+        ensures ok { IfOk result (λ text. (s : State) → Shows tree.old self.old s → Answers (λ old t new. Edits (refusal_of old.tree edit.now) edit.now old t new) s (string_bytes text) tree.new self.new) }
+        ensures canvas { tree.new.canvas ≡ tree.old.canvas }
+        ensures count { self.new.paints ≡ self.old.paints }
+    {
+        match apply(tree, edit) {
+            Ok(()) => {
+                self.pending = true;
+                ok_line(alloc)
+            }
+            Err(EditFault::NoMemory) => Err(AllocError),
+            Err(fault) => refused_line(alloc, fault.number()),
+        }
+    }
+
     /// The text that answers a command.
     pub(crate) fn answer<B: Ledger>(
         &mut self,
         alloc: Global,
-        tree: &Tree<B>,
+        tree: &mut Tree<B>,
         command: &Command,
         looks: &mut Steps<B>,
     ) -> Result<String, AllocError>
         requires few { self.old.paints < 2 ^ 40 }
-        requires canvas { IsCanvas tree.now.canvas }
-        ensures ok { IfOk result (λ text. (s : State) → Shows tree.now self.old s → Answers (λ old t new. Step old command.now t new) s (string_bytes text) tree.now self.new) }
+        requires canvas { IsCanvas tree.old.canvas }
+        ensures ok { IfOk result (λ text. (s : State) → Shows tree.old self.old s → Answers (λ old t new. Step old command.now t new) s (string_bytes text) tree.new self.new) }
+        ensures canvas { tree.new.canvas ≡ tree.old.canvas }
         ensures count { self.new.paints ≤ self.old.paints + 1 }
     {
         match command {
+            Command::Change(edit) => self.change(alloc, tree, edit),
             Command::Paint => self.paint(alloc, tree, looks),
             Command::Dump => {
                 let mut text = self.settle(alloc, tree, looks)?;

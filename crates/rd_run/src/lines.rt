@@ -30,6 +30,20 @@ pub(crate) fn paint_line(
     format!(in alloc; "paint {number} built {built} kept {kept} area {area}\n")
 }
 
+/// The line of an edit that is done.
+pub(crate) fn ok_line(alloc: Global) -> Result<String, AllocError>
+    ensures { IfOk result (λ s. string_bytes s ≡ text.ok_line) }
+{
+    String::from_str(alloc, "ok\n")
+}
+
+/// The line of an edit that the test of this number refuses.
+pub(crate) fn refused_line(alloc: Global, number: u8) -> Result<String, AllocError>
+    ensures { IfOk result (λ s. string_bytes s ≡ text.refused_line number) }
+{
+    format!(in alloc; "refused {number}\n")
+}
+
 fn part_text(part: Part) -> &'static str
     ensures { result.now ≡ text.part_text part }
 {

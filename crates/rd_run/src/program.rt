@@ -28,18 +28,19 @@ const MOST: usize = 67_108_864;
 /// Answers one command.
 fn answer_one<O: Sink, B: Ledger>(
     alloc: Global,
-    tree: &Tree<B>,
+    tree: &mut Tree<B>,
     display: &mut Display,
     command: &Command,
     out: &mut O,
     looks: &mut Steps<B>,
 ) -> Result<(), Status>
     requires few { display.old.paints < 2 ^ 40 }
-    requires canvas { IsCanvas tree.now.canvas }
-    ensures all { OnOk result ((s : State) → Shows tree.now display.old s → (t : State) × (text : List ℕ) × Step s command.now text t × Shows tree.now display.new t × Appends (O.written out.old) (O.written out.new) text) }
-    ensures part { IsErrOf result Status.WriteFault → (s : State) → Shows tree.now display.old s → (t : State) × (text : List ℕ) × Step s command.now text t × Shows tree.now display.new t × GainsPart (O.written out.old) (O.written out.new) text }
+    requires canvas { IsCanvas tree.old.canvas }
+    ensures all { OnOk result ((s : State) → Shows tree.old display.old s → (t : State) × (text : List ℕ) × Step s command.now text t × Shows tree.new display.new t × Appends (O.written out.old) (O.written out.new) text) }
+    ensures part { IsErrOf result Status.WriteFault → (s : State) → Shows tree.old display.old s → (t : State) × (text : List ℕ) × Step s command.now text t × Shows tree.new display.new t × GainsPart (O.written out.old) (O.written out.new) text }
     ensures none { IsErrOf result Status.NoMemory → Keeps (O.written out.old) (O.written out.new) }
     ensures only { OnErr result (IsErrOf result Status.WriteFault ⊎ IsErrOf result Status.NoMemory) }
+    ensures canvas { tree.new.canvas ≡ tree.old.canvas }
     ensures count { display.new.paints ≤ display.old.paints + 1 }
     ensures later { O.faults out.old ≤ O.faults out.new }
     ensures cause { IsErrOf result Status.WriteFault → Rose (O.faults out.old) (O.faults out.new) }
@@ -57,7 +58,7 @@ fn answer_one<O: Sink, B: Ledger>(
 /// Answers the commands in turn, and writes each answer.
 fn answer_all<O: Sink, B: Ledger>(
     alloc: Global,
-    tree: &Tree<B>,
+    tree: &mut Tree<B>,
     display: &mut Display,
     commands: &[Command],
     out: &mut O,
@@ -65,9 +66,9 @@ fn answer_all<O: Sink, B: Ledger>(
 ) -> Result<(), Status>
     requires none { display.old.paints ≡ 0 }
     requires few { length commands.now ≤ 1000000 }
-    requires canvas { IsCanvas tree.now.canvas }
-    ensures all { OnOk result ((s : State) → Shows tree.now display.old s → AnswersAll s commands.now (O.written out.old) (O.written out.new)) }
-    ensures part { OnErr result ((s : State) → Shows tree.now display.old s → AnswersPart s commands.now (O.written out.old) (O.written out.new)) }
+    requires canvas { IsCanvas tree.old.canvas }
+    ensures all { OnOk result ((s : State) → Shows tree.old display.old s → AnswersAll s commands.now (O.written out.old) (O.written out.new)) }
+    ensures part { OnErr result ((s : State) → Shows tree.old display.old s → AnswersPart s commands.now (O.written out.old) (O.written out.new)) }
     ensures only { OnErr result (IsErrOf result Status.WriteFault ⊎ IsErrOf result Status.NoMemory) }
     ensures later { O.faults out.old ≤ O.faults out.new }
     ensures cause { IsErrOf result Status.WriteFault → Rose (O.faults out.old) (O.faults out.new) }
@@ -93,12 +94,12 @@ fn answer<O: Sink, B: Ledger>(
     ensures cause { result ≡ Status.WriteFault → Rose (O.faults out.old) (O.faults out.new) }
 {
     let commands = &script.commands;
-    let tree: Tree<B> = match plant(alloc, script) {
+    let mut tree: Tree<B> = match plant(alloc, script) {
         Ok(tree) => tree,
         Err(_) => return Status::NoMemory,
     };
     let mut display = Display::new(alloc);
-    match answer_all(alloc, &tree, &mut display, commands, out, looks) {
+    match answer_all(alloc, &mut tree, &mut display, commands, out, looks) {
         Ok(()) => Status::Done,
         Err(status) => status,
     }

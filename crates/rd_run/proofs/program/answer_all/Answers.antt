@@ -1,4 +1,4 @@
-use Rattle.std.proofs.Common.{rules, arith, ◌≡◌, ℕ, ◌+◌, List, ◌++◌, inl, inr}
+use Rattle.std.proofs.Common.{rules, arith, ◌≡◌, ℕ, ◌+◌, List, ◌++◌, ◌∙◌, inl, inr}
 use Rattle.std.proofs.lemmas.Result.{err_from_is_err_and}
 use Rattle.rd_io.proofs.Bytes.{appends_more}
 use Rattle.rd_run.proofs.Runs.{step_on, part_on, none_on}
@@ -10,6 +10,7 @@ loop-command-preserved g c = record {
       let p = c.loop-command.invariant.so_far s h in
       let q = c.in_ok-answer_one.ensures.all (p.0) p.3 in
       (q.0, p.1 ++ q.1, step_on _ _ _ _ _ _ _ _ c.loop-command-test.true p.2 q.2, q.3, appends_more _ _ _ _ _ p.4 q.4);
+  canvas = c.answer_one.ensures.canvas ∙ c.loop-command.invariant.canvas;
   few = omega (arith, c.answer_one.ensures.count);
   later = omega (arith, c.answer_one.ensures.later);
 }
