@@ -1,13 +1,13 @@
 -- The painting order of a box and of all that is below it.
-use Rattle.std.specs.Prelude.{ℤ, pos, int_lt, nat_lt, Bool, true, false, not, ◌&&◌, ◌||◌, if◌then◌else◌, List, [], ◌∷◌, ◌++◌, filter, Option, Some, None}
+use Rattle.std.specs.Prelude.{ℤ, pos, int_lt, nat_lt, Bool, not, ◌&&◌, ◌||◌, if◌then◌else◌, List, [], ◌∷◌, filter, Option, Some, None}
 use Rattle.rd_geom.specs.Plane.{Rectangle}
 use Rattle.rd_style.specs.declared.kinds.Class.{Class}
-use Rattle.rd_style.specs.declared.kinds.Class.TheVariants.{Layer, Float, Atom, Block, Inline}
+use Rattle.rd_style.specs.declared.kinds.Class.TheVariants.{Float, Atom, Block, Inline}
 use Rattle.rd_style.specs.Boxes.{level, blocky}
 use Rattle.rd_keys.specs.declared.entry.Part.{Part}
 use Rattle.rd_keys.specs.declared.entry.Part.TheVariants.{Back, Border, Content, Outline}
 use Rattle.rd_item.specs.declared.leaf.Leaf.{Leaf}
-use Rattle.rd_list.specs.Entries.{Entries, nil, leaf, group, ◌▷◌, each, singly, flat, has_leaf}
+use Rattle.rd_list.specs.Entries.{Entries, nil, group, ◌▷◌, each, singly, flat, has_leaf}
 use Rattle.rd_stack.specs.Spots.{Spot, is_root, is_context, is, is_local, is_layer, is_in_line}
 use Rattle.rd_stack.specs.Parts.{leaf_of}
 

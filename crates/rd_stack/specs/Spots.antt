@@ -1,5 +1,5 @@
 -- Boxes where they stand, and how they take part in painting.
-use Rattle.std.specs.Prelude.{ℕ, ◌+◌, ◌-◌, Bool, true, false, not, ◌&&◌, ◌||◌, List, [], ◌∷◌, length, take}
+use Rattle.std.specs.Prelude.{◌+◌, ◌-◌, Bool, true, false, not, ◌&&◌, ◌||◌, List, [], ◌∷◌, length, take}
 use Rattle.std.specs.List.{list_all, list_any}
 use Rattle.rd_geom.specs.Plane.{Rectangle, IsPlaced, grown}
 use Rattle.rd_style.specs.declared.styles.Style.{Style}
