@@ -19,29 +19,29 @@ mod tests {
         Rect::new(x, y, w, h).unwrap_or(Rect::EMPTY)
     }
 
-    // On a canvas of 10 by 10: rectangles, how many pixels the area has after each, and the spans of row 2.
+    // On a canvas of 10 by 10: rectangles, how many pixels the area has after each, how many spans
+    // row 2 has, and its first and last one.
     #[test]
     fn rectangles_join(rt: HostRuntime) -> Result<(), NoMemory> {
         let mut area = Area::none(rt.alloc(), Size { w: 10, h: 10 })?;
         assert!(rt; area.count() == 0 && area.spans(2).is_empty() && !area.meets(of(0, 0, 10, 10)));
         let table = [
-            (of(2, 2, 4, 4), 16, [(2, 6), (0, 0), (0, 0)]),
-            (of(6, 6, 3, 3), 25, [(2, 6), (0, 0), (0, 0)]),
-            (of(8, 0, 9, 3), 31, [(2, 6), (8, 10), (0, 0)]),
-            (of(-5, 2, 6, 1), 32, [(0, 1), (2, 6), (8, 10)]),
-            (of(6, 2, 1, 1), 33, [(0, 1), (2, 7), (8, 10)]),
-            (of(1, 2, 6, 1), 34, [(0, 7), (8, 10), (0, 0)]),
-            (of(0, 12, 10, 4), 34, [(0, 7), (8, 10), (0, 0)]),
-            (of(3, -4, 6, 7), 45, [(0, 10), (0, 0), (0, 0)]),
+            (of(2, 2, 4, 4), 16, 1, (2, 6), (2, 6)),
+            (of(6, 6, 3, 3), 25, 1, (2, 6), (2, 6)),
+            (of(8, 0, 9, 3), 31, 2, (2, 6), (8, 10)),
+            (of(-5, 2, 6, 1), 32, 3, (0, 1), (8, 10)),
+            (of(6, 2, 1, 1), 33, 3, (0, 1), (8, 10)),
+            (of(1, 2, 6, 1), 34, 2, (0, 7), (8, 10)),
+            (of(0, 12, 10, 4), 34, 2, (0, 7), (8, 10)),
+            (of(3, -4, 6, 7), 45, 1, (0, 10), (0, 10)),
         ];
-        for (r, count, spans) in table {
+        for (r, count, few, first, last) in table {
             area.add(r)?;
             assert_eq!(rt; area.count(), count);
-            let wanted = spans.iter().filter(|s| s.1 > 0).count();
-            assert_eq!(rt; area.spans(2).len(), wanted);
-            for (s, want) in area.spans(2).iter().zip(spans.iter()) {
-                assert_eq!(rt; (s.x0, s.x1), *want);
-            }
+            assert_eq!(rt; area.spans(2).len(), few);
+            let of = |s: (i32, i32)| Some(Span { x0: s.0, x1: s.1 });
+            assert!(rt; area.spans(2).first().copied() == of(first));
+            assert!(rt; area.spans(2).last().copied() == of(last));
         }
         assert!(rt;
             area.holds(0, 2)
@@ -63,8 +63,10 @@ mod tests {
     #[test]
     fn many_rectangles(rt: HostRuntime) -> Result<(), NoMemory> {
         let mut area = Area::none(rt.alloc(), Size { w: 4096, h: 4096 })?;
-        for i in 0..1000 {
-            area.add(of(i % 40 * 100, i / 40 * 160, 50, 100))?;
+        for j in 0..25u16 {
+            for i in 0..40u16 {
+                area.add(of(i32::from(i * 100), i32::from(j * 160), 50, 100))?;
+            }
         }
         assert_eq!(rt; area.count(), 5_000_000);
         assert_eq!(rt; area.spans(50).len(), 40);

@@ -3,9 +3,9 @@
 
 ghost use Rattle.std.specs.Prelude.{◌≡◌, ◌<◌};
 
-use rd_run::run;
 use rd_geom::Steps;
 use rd_io::{ReadSource, WriteSink};
+use rd_run::run;
 use std::alloc::Global;
 use std::env;
 use std::io::{Read, Write};

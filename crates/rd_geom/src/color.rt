@@ -15,7 +15,7 @@ pub struct Color {
 }
 
 /// A pixel: a colour whose channels were multiplied by its opacity, so that none exceeds it (CSS Color 3 section 3.2).
-#[derive(PartialEq, Eq, Debug)]
+#[derive(Clone, Copy, PartialEq, Eq, Debug)]
 pub struct Px {
     r: u8,
     g: u8,
@@ -34,14 +34,6 @@ impl Model for Px {
 
     ghost inverse = { λ p. record { r = p.r; g = p.g; b = p.b; a = p.a } };
 }
-
-impl Clone for Px {
-    fn clone(&self) -> Result<Self, std::alloc::AllocError> {
-        Ok(*self)
-    }
-}
-
-impl Copy for Px {}
 
 impl Px {
     /// Opaque white, from which the canvas starts.

@@ -77,7 +77,9 @@ mod tests {
         };
         assert!(rt; inset(a, sides(1, 0, 2, 1)) == of(1, 1, 3, 1));
         assert!(rt; inset(a, sides(2, 0, 2, 0)) == Rect::EMPTY);
-        assert!(rt; outset(a, 3) == of(-3, -3, 10, 10));
+        if let Some(r) = Rect::new(0, 0, 4, 4) {
+            assert!(rt; outset(r, 3) == of(-3, -3, 10, 10));
+        }
         assert!(rt;
             Rect::new(0, 0, -1, 0).is_none() && Rect::new(-1_000_000_001, 0, 1, 1).is_none()
         );

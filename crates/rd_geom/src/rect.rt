@@ -10,7 +10,7 @@ use std::marker::Model;
 /// A rectangle of pixels: its left upper pixel, and how many it has across and down (CSS 2.2 section 8.1).
 ///
 /// `w` and `h` are not negative, `x` and `y` are at least -1,000,000,000, and `x + w` and `y + h` are at most 1,000,000,000.
-#[derive(PartialEq, Eq, Debug)]
+#[derive(Clone, Copy, PartialEq, Eq, Debug)]
 pub struct Rect {
     x: i32,
     y: i32,
@@ -29,14 +29,6 @@ impl Model for Rect {
 
     ghost inverse = { λ r. record { x = r.x; y = r.y; w = r.w; h = r.h } };
 }
-
-impl Clone for Rect {
-    fn clone(&self) -> Result<Self, std::alloc::AllocError> {
-        Ok(*self)
-    }
-}
-
-impl Copy for Rect {}
 
 /// A size in canvas pixels.
 #[derive(Clone, Copy, PartialEq, Eq, Debug)]

@@ -8,3 +8,6 @@ mod leaf;
 
 pub use item::Item;
 pub use leaf::{Leaf, Shape, covers};
+
+#[cfg(test)]
+mod tests;

@@ -47,10 +47,10 @@ pub lines_more : (t : Boxes) (d n : ℕ) (es : List PlainEntry) (i : ℕ) (x : P
 lines_more t d n es i x begun before after h e p q =
     let more : listed (take (i + 1) es) ≡ listed (take i es) ▷ listed (x ∷ []) = rw (take_more es i x h, ← e) (listed-append (take i es) (x ∷ [])) in
     let split : lines t d (stamped n (listed (take (i + 1) es))) ≡ lines t d (stamped n (listed (take i es))) ++ lines t d (stamped n (listed (x ∷ []))) =
-        ap (λ z. lines t d (stamped n z)) more ∙ ap (lines t d) (stamped-join n (listed (take i es)) (listed (x ∷ []))) ∙ lines-join t d (stamped n (listed (take i es))) (stamped n (listed (x ∷ []))) in
+    ap (λ z. lines t d (stamped n z)) more ∙ ap (lines t d) (stamped-join n (listed (take i es)) (listed (x ∷ []))) ∙ lines-join t d (stamped n (listed (take i es))) (stamped n (listed (x ∷ []))) in
     q ∙ ap (λ z. z ++ lines t d (stamped n (listed (x ∷ [])))) p
-      ∙ append_assoc begun (lines t d (stamped n (listed (take i es)))) (lines t d (stamped n (listed (x ∷ []))))
-      ∙ ap (λ z. begun ++ z) (sym split)
+    ∙ append_assoc begun (lines t d (stamped n (listed (take i es)))) (lines t d (stamped n (listed (x ∷ []))))
+    ∙ ap (λ z. begun ++ z) (sym split)
 
 -- and one more entry's leaves
 pub count_more : (es : List PlainEntry) (i : ℕ) (x : PlainEntry) → i < length es → x ≡ get_or es i x

@@ -51,8 +51,8 @@ made_now s n nil e h = tt
 made_now s n (leaf l rest) e h = (rw (h.0) e, made_now s n rest e h.1)
 made_now s n (group k o inner rest) e h =
     all_append (λ i. i.made ≡ made_after s i.of) (flat (stamped n inner)) (flat (stamped n rest))
-      (made_now s n inner e (all_front (λ l. meets_any (invalid_area s) l ≡ true) (flat inner) (flat rest) h))
-      (made_now s n rest e (all_back (λ l. meets_any (invalid_area s) l ≡ true) (flat inner) (flat rest) h))
+    (made_now s n inner e (all_front (λ l. meets_any (invalid_area s) l ≡ true) (flat inner) (flat rest) h))
+    (made_now s n rest e (all_back (λ l. meets_any (invalid_area s) l ≡ true) (flat inner) (flat rest) h))
 
 from_all : (p : Leaf → Bool) (n : ℕ) (ls : List Leaf) → AllByRecursion (λ l. p l ≡ true) ls → fold (λ (a : ℕ) (x : Leaf). a + cond (p x) 1 0) n ls ≡ n + length ls
 from_all p n [] h = omega arith
@@ -75,12 +75,13 @@ pub painted : (s : State) (t : Document) (old now : Display) (text : List ℕ) �
 painted s t old now text h k p n w =
     let next : State = record { tree = s.tree; last = Some s.tree; pending = false; paints = s.paints + 1; kept = stamped now.paints now.list } in
     let same : fresh_list s.tree ≡ now.list = ap fresh_list h.tree ∙ sym k in
-    let meets = all_meet s.tree h.sound in
-    (next,
-     record {
-       stands = rw (leaves-stamped, ← same) (stands_for_itself s.tree h.sound.apart);
-       numbers = made_now s now.paints now.list (n ∙ ap (λ m. m + 1) (sym h.paints)) (rw (← same) meets);
-       settled = refl;
-       told = rw (w, count_all _ _ meets, count_none _ _ meets, whole_canvas s.tree.canvas h.sound.canvas.some_wide h.sound.canvas.some_high, h.tree, h.paints) refl;
-     },
-     record { tree = h.tree; pending = sym p; paints = ap (λ m. m + 1) h.paints ∙ sym n; kept = refl; sound = h.sound })
+    let meets = all_meet s.tree h.sound in (
+      next,
+      record {
+        stands = rw (leaves-stamped, ← same) (stands_for_itself s.tree h.sound.apart);
+        numbers = made_now s now.paints now.list (n ∙ ap (λ m. m + 1) (sym h.paints)) (rw (← same) meets);
+        settled = refl;
+        told = rw (w, count_all _ _ meets, count_none _ _ meets, whole_canvas s.tree.canvas h.sound.canvas.some_wide h.sound.canvas.some_high, h.tree, h.paints) refl;
+      },
+      record { tree = h.tree; pending = sym p; paints = ap (λ m. m + 1) h.paints ∙ sym n; kept = refl; sound = h.sound },
+    )

@@ -23,7 +23,7 @@ counted : (a b : ℕ) → pixels_in (record { x = pos 0; y = pos 0; w = pos a; h
 unfolding pixels_in
 counted a b =
     sum_const b (a * 1) (λ y. sum_below a (λ x. in_any (record { x = pos 0; y = pos 0; w = pos a; h = pos b } ∷ []) x y))
-      (λ y q. sum_const a 1 (λ x. in_any (record { x = pos 0; y = pos 0; w = pos a; h = pos b } ∷ []) x y) (λ x p. inside a b x y p q))
+    (λ y q. sum_const a 1 (λ x. in_any (record { x = pos 0; y = pos 0; w = pos a; h = pos b } ∷ []) x y) (λ x p. inside a b x y p q))
     ∙ grind arith
 
 sides : (w h : ℤ) → pos 1 ≤ℤ w → pos 1 ≤ℤ h

@@ -10,11 +10,9 @@ use Rattle.rd_tree.proofs.Under.{which, apart_under, apart_join}
 use Rattle.rd_scene.specs.declared.script.SceneBox.{SceneBox}
 use Rattle.std.specs.Io.KnownBytes.{Appends}
 use Rattle.rd_io.specs.Causes.{GainsPart}
-use Rattle.rd_geom.specs.declared.rect.Size.{Size}
 use Rattle.rd_geom.specs.Canvas.{IsCanvas}
 use Rattle.rd_list.specs.Entries.{nil}
 use Rattle.rd_scene.specs.declared.script.Command.{Command}
-use Rattle.rd_scene.specs.Scripts as scene
 use Rattle.rd_scene.specs.Scripts.{Script}
 use Rattle.rd_scene.specs.Planting.{Plants, Grows, Adds, AddsAll, IsAlone, item_of, parent_in}
 use Rattle.rd_scene.proofs.Names.{parent_there}
@@ -48,17 +46,17 @@ added_apart p k d f a m n =
     let apart : AreApart same_key c one = λ j h. rw (differ j k f n (in_children j p f h)) refl in
     let g = apart_join same_key same_key-sound same_key-refl c one (children-apart p f a) (refl, refl, (λ j h. refl), tt, tt) apart in
     apart_under same_key same_key-sound same_key-refl p (c ▷ one) f a g m (λ j u v.
-      elim (which (has same_key j c) (has same_key j one) (sym (has-join same_key same_key-sound same_key-refl j c one) ∙ u)) [
-        | inl h ↦ h
-        | inr h ↦ absurd (never (same_key j k) (single j h) (differ j k f n v))
-      ])
+    elim (which (has same_key j c) (has same_key j one) (sym (has-join same_key same_key-sound same_key-refl j c one) ∙ u)) [
+      | inl h ↦ h
+      | inr h ↦ absurd (never (same_key j k) (single j h) (differ j k f n v))
+    ])
   where
     single : (j : BoxKey) → (same_key j k || (false || false)) ≡ true → same_key j k ≡ true
     single j h = elim (cases (same_key j k)) [ inl e ↦ e | inr e ↦ absurd (never (same_key j k || (false || false)) h (rw e refl)) ]
 
 added : (b : SceneBox) (old new : Document) → Adds b old new → IsApart same_key old.boxes → IsApart same_key new.boxes
 added b old new h a =
-    subst (λ (t : Document). IsApart same_key t.boxes) (sym h.4) (added_apart (h.0) (h.1) (item_of b) old.boxes a (parent_there old.boxes b (h.0) h.2) h.3)
+    subst (λ (t : Document). IsApart same_key t.boxes) (sym h.4) (added_apart (h.0) (h.1) (item_of b) old.boxes a (parent_there old.boxes b (h.0) h.2) h.5)
 
 all_added : (bs : List SceneBox) (old new : Document) → AddsAll bs old new → IsApart same_key old.boxes → IsApart same_key new.boxes
 all_added [] old new h a = subst (λ (t : Document). IsApart same_key t.boxes) (sym h) a
@@ -84,22 +82,19 @@ planted-apart s t h = grown s.boxes (h.0) t h.2
 pub planted-canvas : (s : Script) (t : Document) → Plants s t → t.canvas ≡ s.canvas
 planted-canvas s t h = grown-canvas s.boxes (h.0) t h.2 ∙ h.1
 
-within_limits : (c : Size) → scene.IsCanvas c → IsCanvas c
-within_limits c h = record { some_wide = h.w.from; wide = h.w.to; some_high = h.h.from; high = h.h.to }
-
 -- what is displayed at first is the machine's first state
-pub shows_start : (s : Script) (t : Document) (d : Display) → Plants s t → scene.IsCanvas s.canvas → d ≡ record { list = nil; pending = true; paints = 0 } → Shows t d (start t)
+pub shows_start : (s : Script) (t : Document) (d : Display) → Plants s t → IsCanvas s.canvas → d ≡ record { list = nil; pending = true; paints = 0 } → Shows t d (start t)
 shows_start s t d p h e =
     rw e (record {
       tree = refl;
       pending = refl;
       paints = refl;
       kept = refl;
-      sound = record { apart = planted-apart s t p; canvas = rw (planted-canvas s t p) (within_limits s.canvas h) };
+      sound = record { apart = planted-apart s t p; canvas = rw (planted-canvas s t p) h };
     })
 
-pub planted_limits : (s : Script) (t : Document) → Plants s t → scene.IsCanvas s.canvas → IsCanvas t.canvas
-planted_limits s t p h = rw (planted-canvas s t p) (within_limits s.canvas h)
+pub planted_limits : (s : Script) (t : Document) → Plants s t → IsCanvas s.canvas → IsCanvas t.canvas
+planted_limits s t p h = rw (planted-canvas s t p) h
 
 -- an answer to all commands of a script is an allowed text
 pub allowed : (s : Script) (t : Document) (cs : List Command) (o n : Option (List ℕ)) → Plants s t → cs ≡ s.commands → AnswersAll (start t) cs o n

@@ -33,16 +33,17 @@ run_on a b d (c ∷ cs) ds t u r s =
 -- a paint is always possible: the fresh list itself may be kept
 pub paint_goes : (s : State) → IsSound s.tree → (t : State) × (text : List ℕ) × Paints s text t × IsSound t.tree
 paint_goes s h =
-    let n = s.paints + 1 in
-    (record { tree = s.tree; last = Some s.tree; pending = false; paints = s.paints + 1; kept = stamped n (fresh_list s.tree) },
-     paint_line (s.paints + 1) (built s) (kept_on s) (pixels_in (canvas_of s.tree.canvas) (invalid_area s)),
-     record {
-       stands = rw (leaves-stamped) (stands_for_itself s.tree h.apart);
-       numbers = made_now s n (fresh_list s.tree) refl (all_meet s.tree h);
-       settled = refl;
-       told = refl;
-     },
-     h)
+    let n = s.paints + 1 in (
+      record { tree = s.tree; last = Some s.tree; pending = false; paints = s.paints + 1; kept = stamped n (fresh_list s.tree) },
+      paint_line (s.paints + 1) (built s) (kept_on s) (pixels_in (canvas_of s.tree.canvas) (invalid_area s)),
+      record {
+        stands = rw (leaves-stamped) (stands_for_itself s.tree h.apart);
+        numbers = made_now s n (fresh_list s.tree) refl (all_meet s.tree h);
+        settled = refl;
+        told = refl;
+      },
+      h,
+    )
 
 settle_goes : (b : Bool) (s : State) → IsSound s.tree → (t : State) × (text : List ℕ) × Settles b s text t × IsSound t.tree
 settle_goes true s h = paint_goes s h
@@ -69,7 +70,8 @@ gains_more (Some x) None n a b rest p q = absurd p
 gains_more (Some x) (Some y) None a b rest p q = absurd q.gained
 gains_more (Some x) (Some y) (Some z) a b rest p q =
     record {
-      part = a ++ q.part; rest = q.rest ++ rest;
+      part = a ++ q.part;
+      rest = q.rest ++ rest;
       whole = rw (← q.whole) (simp append_assoc);
       gained = q.gained ∙ ap (λ s. s ++ q.part) p ∙ append_assoc x a q.part;
     }
@@ -90,18 +92,22 @@ pub part_on : (a b e : State) (xs : List Command) (i : ℕ) (d : Command) (t u :
     → Run a (take i xs) t b → Step b (get_or xs i d) u e → IsSound e.tree → Appends o m t → GainsPart m n u
     → AnswersPart a xs o n
 part_on a b e xs i d t u o m n h r s w p q =
-    let z = run_goes e (drop (i + 1) xs) w in
-    (z.0, (t ++ u) ++ z.1,
-     subst (λ (cs : List Command). Run a cs ((t ++ u) ++ z.1) (z.0)) (take-append-drop (i + 1) xs)
-       (run_on a e (z.0) (take (i + 1) xs) (drop (i + 1) xs) (t ++ u) (z.1) (step_on a b e xs i d t u h r s) z.2),
-     gains_more o m n t u (z.1) p q)
+    let z = run_goes e (drop (i + 1) xs) w in (
+      z.0,
+      (t ++ u) ++ z.1,
+      subst (λ (cs : List Command). Run a cs ((t ++ u) ++ z.1) (z.0)) (take-append-drop (i + 1) xs)
+          (run_on a e (z.0) (take (i + 1) xs) (drop (i + 1) xs) (t ++ u) (z.1) (step_on a b e xs i d t u h r s) z.2),
+      gains_more o m n t u (z.1) p q,
+    )
 
 -- and where a step gave up
 pub none_on : (a b : State) (xs : List Command) (i : ℕ) (t : List ℕ) (o m n : Option (List ℕ))
     → Run a (take i xs) t b → IsSound b.tree → Appends o m t → Keeps m n → AnswersPart a xs o n
 none_on a b xs i t o m n r w p q =
-    let z = run_goes b (drop i xs) w in
-    (z.0, t ++ z.1,
-     subst (λ (cs : List Command). Run a cs (t ++ z.1) (z.0)) (take-append-drop i xs)
-       (run_on a b (z.0) (take i xs) (drop i xs) t (z.1) r z.2),
-     gains_none o m n t (z.1) p q)
+    let z = run_goes b (drop i xs) w in (
+      z.0,
+      t ++ z.1,
+      subst (λ (cs : List Command). Run a cs (t ++ z.1) (z.0)) (take-append-drop i xs)
+          (run_on a b (z.0) (take i xs) (drop i xs) t (z.1) r z.2),
+      gains_none o m n t (z.1) p q,
+    )

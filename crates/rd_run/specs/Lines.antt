@@ -64,7 +64,7 @@ module _ (boxes : Boxes) where
   abbrev pub item_line : ℕ → KeptItem → List ℕ
   item_line depth i =
       line (codes "item" ∷ decimal depth ∷ id_of i.of.owner boxes ∷ part_text i.of.part
-          ∷ shape_text i.of ∷ color_text i.of.color ∷ pointer_text i.of.hits ∷ decimal i.made ∷ [])
+      ∷ shape_text i.of ∷ color_text i.of.color ∷ pointer_text i.of.hits ∷ decimal i.made ∷ [])
 
   abbrev pub group_line : ℕ → BoxKey → ℕ → ℕ → List ℕ
   group_line depth k opacity entries =

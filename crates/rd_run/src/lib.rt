@@ -11,3 +11,5 @@ mod words;
 
 pub use program::run;
 
+#[cfg(test)]
+mod tests;

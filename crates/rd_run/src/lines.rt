@@ -96,7 +96,7 @@ fn id_text<B: Ledger>(tree: &Tree<B>, key: BoxKey) -> &str
 }
 
 fn item_head(alloc: Global, depth: u64, id: &str, part: &str) -> Result<String, AllocError>
-    ensures { IfOk result (λ s. string_bytes s ≡ codes "item" ++ (32 ∷ (decimal depth ++ (32 ∷ (id.now ++ (32 ∷ (part.now ++ (32 ∷ []))))))) ) }
+    ensures { IfOk result (λ s. string_bytes s ≡ codes "item" ++ (32 ∷ (decimal depth ++ (32 ∷ (id.now ++ (32 ∷ (part.now ++ (32 ∷ [])))))))) }
 {
     format!(in alloc; "item {depth} {id} {part} ")
 }
@@ -131,7 +131,12 @@ fn item_line<B: Ledger>(
 ) -> Result<String, AllocError>
     ensures { IfOk result (λ s. string_bytes s ≡ text.item_line tree.now.boxes depth (record { of = leaf.now; made = made })) }
 {
-    let mut line = item_head(alloc, depth, id_text(tree, leaf.owner), part_text(leaf.part))?;
+    let mut line = item_head(
+        alloc,
+        depth,
+        id_text(tree, leaf.owner),
+        part_text(leaf.part),
+    )?;
     let shape = shape_text(alloc, leaf)?;
     let color = color_text(alloc, leaf.color)?;
     let tail = item_tail(alloc, &color, pointer_text(leaf.hits), made)?;

@@ -9,24 +9,25 @@ use Rattle.rd_scene.specs.Members.{◌>>=◌, only_if, has_only, optional}
 use Rattle.rd_scene.specs.Rects.{rect_of}
 use Rattle.rd_scene.specs.Styles.{style_of}
 
--- an ASCII letter, a digit, `_`, `-`, `.` or `:`
+-- This project's own choice: an ASCII letter, a digit, `_`, `-`, `.` or `:`
 abbrev pub is_id_byte : ℕ → Bool
 is_id_byte c =
     (nat_le 48 c && nat_le c 57) || (nat_le 65 c && nat_le c 90) || (nat_le 97 c && nat_le c 122)
     || (c == 95) || (c == 45) || (c == 46) || (c == 58)
 
--- 1 to 64 of these
+-- This project's own choice: an id is 1 to 64 of these
 abbrev pub is_id : List ℕ → Bool
 is_id w = nat_le 1 (length w) && nat_le (length w) 64 && list_all is_id_byte w
 
+-- This project's own choice: a string that is an id
 abbrev pub id_of : Data → Option (List ℕ)
 id_of d = as_str d >>= λ w. only_if (is_id w) (Some w)
 
--- `null` for a box without a parent, or the parent's id
+-- This project's own choice: `null` for a box without a parent, or the parent's id
 abbrev pub parent_of : Data → Option (Option (List ℕ))
 parent_of d = if is_some (as_null d) then Some None else (id_of d >>= λ w. Some (Some w))
 
--- a box object, whose style may be absent
+-- This project's own choice: a box object, whose style may be absent
 unfoldable pub box_of : Data → Option SceneBox
 box_of d = do
   ms ← as_object d

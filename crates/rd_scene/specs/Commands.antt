@@ -6,12 +6,13 @@ use Rattle.rd_scene.specs.declared.script.Command.{Command}
 use Rattle.rd_scene.specs.declared.script.Command.TheVariants.{Paint, Dump}
 use Rattle.rd_scene.specs.Members.{◌>>=◌, only_if, has_only}
 
+-- This project's own choice: what the words `paint` and `dump` name
 abbrev pub command_named : List ℕ → Option Command
 command_named w =
     if bytes_eq w (codes "paint") then Some Paint else
     if bytes_eq w (codes "dump") then Some Dump else None
 
--- an object whose member `do` names the command
+-- This project's own choice: an object whose member `do` names the command
 unfoldable pub command_of : Data → Option Command
 command_of d = do
   ms ← as_object d

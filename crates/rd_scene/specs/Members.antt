@@ -6,24 +6,26 @@ use Rattle.serde_json.specs.Data.{Data, Items, no_items, item, Members, no_membe
 use Rattle.serde_json.specs.Find.{get, as_number, as_array, as_i64}
 
 infixl 10 ◌>>=◌
+-- what follows of a value, where there is one
 abbrev pub ◌>>=◌ : {A B : Type 0} → Option A → (A → Option B) → Option B
 None >>= f = None
 (Some a) >>= f = f a
 
+-- o where b holds, and nothing where it does not
 abbrev pub only_if : {A : Type 0} → Bool → Option A → Option A
 only_if b o = if b then o else None
 
--- every member has one of these names
+-- This project's own choice: an object has no other members; every one has one of these names
 abbrev pub has_only : List (List ℕ) → Members → Bool
 has_only names no_members = true
 has_only names (member k d ms) = list_any (bytes_eq k) names && has_only names ms
 
--- a member that need not be there
+-- This project's own choice: a member that need not be there
 abbrev pub optional : {A : Type 0} → A → (Data → Option A) → Option Data → Option A
 optional default read None = Some default
 optional default read (Some d) = read d
 
--- a number written as a whole number of 64 bits
+-- This project's own choice: a number written as a whole number of 64 bits
 abbrev pub whole : Data → Option ℤ
 whole d = as_number d >>= as_i64
 
@@ -31,6 +33,7 @@ whole d = as_number d >>= as_i64
 abbrev pub from_to : ℤ → ℤ → Data → Option ℤ
 from_to low high d = whole d >>= λ z. only_if (int_le low z && int_le z high) (Some z)
 
+-- how many elements an array has
 abbrev pub count : Items → ℕ
 count no_items = 0
 count (item d ds) = count ds + 1

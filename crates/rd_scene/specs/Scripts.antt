@@ -13,18 +13,18 @@ use Rattle.rd_scene.specs.Boxes.{box_of}
 use Rattle.rd_scene.specs.Order.{are_in_order}
 use Rattle.rd_scene.specs.Commands.{command_of}
 
--- a canvas, its boxes in the order of the text, and what is done to them
+-- This project's own choice: a canvas, its boxes in the order of the text, and what is done to them
 pub record Script : Type 0 where
   pub canvas : Size
   pub boxes : List SceneBox
   pub commands : List Command
 
--- a box whose rectangle and widths are within the limits
+-- This project's own choice: a box whose rectangle and widths are within the limits
 pub record FitsBox (b : SceneBox) : Type 0 where
   pub rect : FitsRect b.rect
   pub style : Fits b.style
 
--- the rules that every script keeps
+-- This project's own choice: the rules that every script keeps
 pub record IsScript (s : Script) : Type 0 where
   pub canvas : IsCanvas s.canvas
   pub some : 1 ≤ length s.boxes
@@ -33,7 +33,7 @@ pub record IsScript (s : Script) : Type 0 where
   pub boxes : All FitsBox s.boxes
   pub commands : length s.commands ≤ 1000000
 
--- a script object
+-- This project's own choice: a script object, of version 1
 unfoldable pub script_of : Data → Option Script
 script_of d = do
   ms ← as_object d

@@ -10,10 +10,11 @@ use Rattle.rd_style.specs.declared.kinds.Visibility.TheVariants as visibility
 use Rattle.rd_style.specs.declared.kinds.Pointer.TheVariants as pointer
 use Rattle.rd_style.specs.Boxes.{clips}
 
--- CSS Color 3 section 4.1: the keyword black, and transparent
+-- CSS Color 3 section 4.1: the keyword black
 abbrev pub black : Color
 black = record { r = 0; g = 0; b = 0; a = 255 }
 
+-- CSS Color 3 section 4.1: the keyword transparent
 abbrev pub transparent : Color
 transparent = record { r = 0; g = 0; b = 0; a = 0 }
 

@@ -10,6 +10,7 @@ pub record Fits (s : Style) : Type 0 where
   pub left : s.border_width.left ≤ 1000
   pub outline : s.outline_width ≤ 1000
 
+-- this project's own choice: a million pixels left of the canvas's corner
 abbrev pub farthest_left : ℤ
 farthest_left = negsuc 999999
 

@@ -216,3 +216,41 @@ module _ (a0 a a1 : Arena inner.Node) (first : Option BoxKey) (work : Work) (k :
   then_onward a2 r2 =
       subst (λ p. (w2 : Walked a0 first work a2 p.1) × (size (seen_from a2 p.1) < size (seen_from a (Some k)))) (sym e)
       (onward a0 a a1 first work k w r1 a2 (subst (λ p. Relinks a1 a2 (on_each (λ j. has same_key j (seen_from a1 p.0)) (done work) (linked a1))) e r2))
+
+-- Work on one box leaves what is told from another on, which does not hold it.
+pub edited_read : (a a1 : Arena inner.Node) (k : BoxKey) (g : Item → Item) (o : Option BoxKey) → Relinks a a1 (edit same_key k (with_item g) (linked a)) → IsRead a o → has same_key k (seen_from a o) ≡ false → (r : IsRead a1 o) × (seen_from a1 o ≡ seen_from a o)
+edited_read a a1 k g o r1 r n =
+    let told : seen_from a o ≡ r.boxes = seen_read a o r in
+    let out : has same_key k r.boxes ≡ false = sym (ap (has same_key k) told) ∙ n in
+    let mid : BoxKey → Option (Node BoxKey Item) = edit same_key k (with_item g) (linked a) in
+    let new : IsRead a1 o = record {
+      boxes = r.boxes;
+      up = r.up;
+      prev = r.prev;
+      last = r.last;
+      stands = frame mid (linked a1) r.up r.prev r.boxes o r.last None (agree_at same_key same_key-sound same_key-refl mid (linked a1) r.boxes (λ j _. r1.links j))
+          (frame (linked a) mid r.up r.prev r.boxes o r.last None (agree_edit same_key same_key-sound same_key-refl k (with_item g) (linked a) r.boxes out) r.stands);
+      apart = r.apart;
+      small = omega (arith, r.small, r1.limit);
+    } in
+    (new, seen_read a1 o new ∙ sym told)
+
+pub flip : (i j : BoxKey) → same_key i j ≡ same_key j i
+flip i j = elim (cases (same_key i j)) [
+  | inl e ↦ subst (λ x. same_key i x ≡ same_key x i) (same_key-sound i j e) refl
+  | inr e ↦ elim (cases (same_key j i)) [ inl f ↦ absurd (never (same_key i j) (subst (λ x. same_key x j ≡ true) (same_key-sound j i f) (same_key-refl j)) e) | inr f ↦ e ∙ sym f ]
+]
+
+-- Work on a box and then on all below it.
+pub worked_below : (a a1 a2 : Arena inner.Node) (k : BoxKey) (g : Item → Item) (f : Boxes) → has same_key k f ≡ false → Relinks a a1 (edit same_key k (with_item g) (linked a)) → Relinks a1 a2 (on_each (λ j. has same_key j f) g (linked a1)) →
+    Relinks a a2 (on_each (λ j. same_key j k || has same_key j f) g (linked a))
+worked_below a a1 a2 k g f n r1 r2 = record {
+  links = λ j. r2.links j ∙ (ap (λ o. cond (has same_key j f) (option_map (with_item g) o) o) (r1.links j) ∙ (ap (λ b. cond (has same_key j f) (option_map (with_item g) (cond b (option_map (with_item g) (linked a j)) (linked a j))) (cond b (option_map (with_item g) (linked a j)) (linked a j))) (flip k j)
+      ∙ once (option_map (with_item g)) (linked a j) (same_key j k) (has same_key j f) (λ u. subst (λ i. has same_key i f ≡ false) (sym (same_key-sound j k u)) n)));
+  same_slots = r2.same_slots ∙ r1.same_slots;
+  same_live = r2.same_live ∙ r1.same_live;
+  limit = r2.limit ∙ r1.limit;
+} where
+  once : {A : Type 0} (g : A → A) (o : A) (b low : Bool) → (b ≡ true → low ≡ false) → cond low (g (cond b (g o) o)) (cond b (g o) o) ≡ cond (b || low) (g o) o
+  once g o true low h = rw (h refl) refl
+  once g o false low h = refl

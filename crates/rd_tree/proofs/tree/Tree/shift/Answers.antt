@@ -1,0 +1,53 @@
+use Rattle.std.proofs.Common.{◌≡◌, ◌∙◌, ◌||◌, refl, true, sym, subst, ap, to_z, of_z, w32}
+use Rattle.std.proofs.lemmas.Int.{to_z-of_z}
+use Rattle.rd_keys.specs.Keys.{same_key}
+use Rattle.rd_tree.specs.declared.walk.Work.TheVariants.{Shift}
+use Rattle.rd_tree.specs.Forest.{has, at_subtree, AllItems}
+use Rattle.rd_tree.specs.Links.{on_each, onward_of}
+use Rattle.rd_tree.specs.Linked.{Relinks, linked, seen, seen_from, marks, IsSound}
+use Rattle.rd_tree.specs.Works.{move_by, done, Allows}
+use Rattle.rd_tree.specs.WorksAt.{AllowsAt}
+use Rattle.rd_tree.proofs.Each.{under_box}
+use Rattle.rd_tree.proofs.Editing.{shift_sound, shift_allowed}
+use Rattle.rd_tree.proofs.tree.Tree.shift.Goals as goal
+
+pub work_below-requires-clause-here : goal.work_below-requires-clause-here
+work_below-requires-clause-here g c =
+    let x : to_z w32 (of_z w32 c.args.dx) ≡ c.args.dx = to_z-of_z w32 c.args.dx c.ranges.dx in
+    let y : to_z w32 (of_z w32 c.args.dy) ≡ c.args.dy = to_z-of_z w32 c.args.dy c.ranges.dy in
+    let w : c.shift-work.result ≡ Shift c.args.dx c.args.dy = c.shift-work.ensures ∙ (ap (λ z. Shift z (to_z w32 (of_z w32 c.args.dy))) x ∙ ap (λ z. Shift c.args.dx z) y) in
+    subst (λ q. AllowsAt q (linked c.self.inside.nodes c.args.key)) (sym w) (shift_allowed c.self.inside.nodes c.self.inside.root c.args.key c.args.dx c.args.dy c.self.invariant.tree (rw (← c.self.view_is) at c.requires.live) (rw (← c.self.view_is) at c.requires.fits)).0
+
+pub work_below-requires-clause-read : goal.work_below-requires-clause-read
+work_below-requires-clause-read g c = (under_box c.self.inside.nodes c.self.inside.root c.args.key c.self.invariant.tree (rw (← c.self.view_is) at c.requires.live)).read
+
+pub work_below-requires-clause-apart : goal.work_below-requires-clause-apart
+work_below-requires-clause-apart g c = (under_box c.self.inside.nodes c.self.inside.root c.args.key c.self.invariant.tree (rw (← c.self.view_is) at c.requires.live)).out
+
+pub work_below-requires-clause-allowed : goal.work_below-requires-clause-allowed
+work_below-requires-clause-allowed g c =
+    let x : to_z w32 (of_z w32 c.args.dx) ≡ c.args.dx = to_z-of_z w32 c.args.dx c.ranges.dx in
+    let y : to_z w32 (of_z w32 c.args.dy) ≡ c.args.dy = to_z-of_z w32 c.args.dy c.ranges.dy in
+    let w : c.shift-work.result ≡ Shift c.args.dx c.args.dy = c.shift-work.ensures ∙ (ap (λ z. Shift z (to_z w32 (of_z w32 c.args.dy))) x ∙ ap (λ z. Shift c.args.dx z) y) in
+    subst (λ q. AllItems (Allows q) (seen_from c.self.inside.nodes (onward_of (linked c.self.inside.nodes c.args.key)).0)) (sym w) (shift_allowed c.self.inside.nodes c.self.inside.root c.args.key c.args.dx c.args.dy c.self.invariant.tree (rw (← c.self.view_is) at c.requires.live) (rw (← c.self.view_is) at c.requires.fits)).1
+
+pub invariant_of-self : goal.invariant_of-self
+invariant_of-self g c =
+    let x : to_z w32 (of_z w32 c.args.dx) ≡ c.args.dx = to_z-of_z w32 c.args.dx c.ranges.dx in
+    let y : to_z w32 (of_z w32 c.args.dy) ≡ c.args.dy = to_z-of_z w32 c.args.dy c.ranges.dy in
+    let w : c.shift-work.result ≡ Shift c.args.dx c.args.dy = c.shift-work.ensures ∙ (ap (λ z. Shift z (to_z w32 (of_z w32 c.args.dy))) x ∙ ap (λ z. Shift c.args.dx z) y) in
+    let r : Relinks c.self.inside.nodes c.work_below.new.nodes (on_each (λ j. same_key j c.args.key || has same_key j (seen_from c.self.inside.nodes (onward_of (linked c.self.inside.nodes c.args.key)).0)) (move_by c.args.dx c.args.dy) (linked c.self.inside.nodes)) =
+    subst (λ q. Relinks c.self.inside.nodes c.work_below.new.nodes (on_each (λ j. same_key j c.args.key || has same_key j (seen_from c.self.inside.nodes (onward_of (linked c.self.inside.nodes c.args.key)).0)) (done q) (linked c.self.inside.nodes))) w c.work_below.ensures in
+    (shift_sound c.self.inside.nodes c.work_below.new.nodes c.self.inside.root c.args.key c.self.inside.ids c.args.dx c.args.dy c.self.invariant (rw (← c.self.view_is) at c.requires.live) (rw (← c.self.view_is) at c.requires.fits) r).0
+
+pub returns : goal.returns
+returns g c =
+    let x : to_z w32 (of_z w32 c.args.dx) ≡ c.args.dx = to_z-of_z w32 c.args.dx c.ranges.dx in
+    let y : to_z w32 (of_z w32 c.args.dy) ≡ c.args.dy = to_z-of_z w32 c.args.dy c.ranges.dy in
+    let w : c.shift-work.result ≡ Shift c.args.dx c.args.dy = c.shift-work.ensures ∙ (ap (λ z. Shift z (to_z w32 (of_z w32 c.args.dy))) x ∙ ap (λ z. Shift c.args.dx z) y) in
+    let r : Relinks c.self.inside.nodes c.work_below.new.nodes (on_each (λ j. same_key j c.args.key || has same_key j (seen_from c.self.inside.nodes (onward_of (linked c.self.inside.nodes c.args.key)).0)) (move_by c.args.dx c.args.dy) (linked c.self.inside.nodes)) =
+    subst (λ q. Relinks c.self.inside.nodes c.work_below.new.nodes (on_each (λ j. same_key j c.args.key || has same_key j (seen_from c.self.inside.nodes (onward_of (linked c.self.inside.nodes c.args.key)).0)) (done q) (linked c.self.inside.nodes))) w c.work_below.ensures in
+    let s : IsSound c.work_below.new.nodes c.self.inside.root c.self.inside.ids × (seen c.work_below.new.nodes c.self.inside.root ≡ at_subtree same_key c.args.key (move_by c.args.dx c.args.dy) (seen c.self.inside.nodes c.self.inside.root)) =
+    shift_sound c.self.inside.nodes c.work_below.new.nodes c.self.inside.root c.args.key c.self.inside.ids c.args.dx c.args.dy c.self.invariant (rw (← c.self.view_is) at c.requires.live) (rw (← c.self.view_is) at c.requires.fits) r in
+    let k : marks c.work_below.new.nodes ≡ marks c.self.inside.nodes = c.work_below.ensures.same_slots in
+    rw (← c.self.view_is, s.1, k) refl

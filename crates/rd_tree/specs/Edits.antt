@@ -1,0 +1,56 @@
+-- What edits do to the boxes of a tree. Which boxes an edit touches is this project's own choice.
+use Rattle.std.specs.Prelude.{ℤ, Bool, ◌||◌, if◌then◌else◌, is_some, IfSome}
+use Rattle.std.specs.Option.{option_map_or}
+use Rattle.rd_geom.specs.Plane.{Rectangle}
+use Rattle.rd_style.specs.declared.styles.Style.{Style}
+use Rattle.rd_style.specs.declared.styles.StyleChange.{StyleChange}
+use Rattle.rd_style.specs.Boxes.{clips}
+use Rattle.rd_style.specs.Changes.{changed, names_class, whole}
+use Rattle.rd_style.specs.Limits.{FitsRect, Fits}
+use Rattle.rd_keys.specs.Keys.{same_key}
+use Rattle.rd_tree.specs.declared.reach.Reach.{Reach}
+use Rattle.rd_tree.specs.declared.reach.Reach.TheVariants.{Nothing, Alone, Subtree}
+use Rattle.rd_tree.specs.Forest.{item_of, children, at_box, at_subtree, AllItems}
+use Rattle.rd_tree.specs.Document.{BoxKey, Item, Boxes}
+use Rattle.rd_tree.specs.Works.{touch, shifted, move_by, settled}
+
+-- This project's own choice: does the change name a member?
+abbrev pub names_any : StyleChange → Bool
+names_any c =
+    names_class c || is_some c.background || is_some c.border_width || is_some c.border_color || is_some c.content || is_some c.outline_width || is_some c.outline_color || is_some c.visibility || is_some c.pointer
+
+-- This project's own choice: a change of style touches the subtree where classes, levels or clips of boxes in it may
+-- follow from it, else the box where a member is named, else nothing.
+abbrev pub style_reach : Style → Bool → StyleChange → Reach
+style_reach s root c = if whole s root c then Subtree else if names_any c then Alone else Nothing
+
+-- This project's own choice: another rectangle touches the subtree of a box that clips, and else the box.
+abbrev pub rect_reach : Style → Bool → Reach
+rect_reach s root = if clips s root then Subtree else Alone
+
+abbrev pub touched_by : Reach → BoxKey → Boxes → Boxes
+touched_by Nothing k f = f
+touched_by Alone k f = at_box same_key k touch f
+touched_by Subtree k f = at_subtree same_key k touch f
+
+abbrev pub restyle : StyleChange → Item → Item
+restyle c d = record d { style = changed d.style c }
+
+abbrev pub with_rect : Rectangle → Item → Item
+with_rect r d = record d { rect = r }
+
+-- the boxes once the style of k is changed, below the root given
+abbrev pub restyled : BoxKey → BoxKey → StyleChange → Boxes → Boxes
+restyled root k c f = touched_by (option_map_or (λ d. style_reach d.style (same_key k root) c) (item_of same_key k f) Nothing) k (at_box same_key k (restyle c) f)
+
+-- the boxes once k has another rectangle
+abbrev pub replaced : BoxKey → BoxKey → Rectangle → Boxes → Boxes
+replaced root k r f = touched_by (option_map_or (λ d. rect_reach d.style (same_key k root)) (item_of same_key k f) Nothing) k (at_box same_key k (with_rect r) f)
+
+-- The box stays within the limits under this change of style.
+abbrev pub CanRestyle : BoxKey → StyleChange → Boxes → Type 0
+CanRestyle k c f = IfSome (item_of same_key k f) (λ d. Fits (changed d.style c))
+
+-- The box and all below it stay within the limits once they are moved.
+abbrev pub CanShift : ℤ → ℤ → BoxKey → Boxes → Type 0
+CanShift dx dy k f = IfSome (item_of same_key k f) (λ d. FitsRect (shifted dx dy d.rect)) × AllItems (λ d. FitsRect (shifted dx dy d.rect)) (children same_key k f)
