@@ -1,5 +1,5 @@
 -- Putting boxes among others by level.
-use Rattle.std.proofs.Common.{◌≡◌, refl, ap, ◌∙◌, sym, Bool, true, false, cond, List, [], ◌∷◌, ◌++◌, map, ℕ, zero, suc, ◌<◌, ◌≤◌, ◌+◌, ◌-◌, length, take, drop, get_or, arith, add-one}
+use Rattle.std.proofs.Common.{◌≡◌, refl, ap, ◌∙◌, sym, true, false, List, [], ◌∷◌, ◌++◌, map, ℕ, zero, suc, ◌<◌, ◌≤◌, ◌-◌, length, take, drop, get_or, arith}
 use Rattle.std.specs.List.{insert}
 use Rattle.rd_stack.specs.Painting.{Painted, put, by_level, is_lower}
 

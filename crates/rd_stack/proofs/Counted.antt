@@ -1,17 +1,17 @@
 -- Four weights of lists: how often a leaf comes, how often a group comes, how many groups are empty, and how many leaves are off the canvas.
-use Rattle.std.proofs.Common.{◌≡◌, refl, ap, ◌∙◌, sym, subst, Bool, true, false, not, ◌&&◌, ◌||◌, cond, List, [], ◌∷◌, ◌++◌, ℕ, zero, suc, ◌+◌, ◌≤◌, ◌<◌, length, get_or, arith, inl, inr, append_assoc}
-use Rattle.std.specs.Prelude.{Option, Some, None, AllPairs, IsTrue, nat_lt, All}
+use Rattle.std.proofs.Common.{◌≡◌, refl, ap, ◌∙◌, sym, subst, Bool, true, false, not, ◌&&◌, cond, List, [], ◌∷◌, ◌++◌, ℕ, zero, suc, ◌+◌, ◌≤◌, ◌<◌, length, get_or, arith, inl, inr, append_assoc}
+use Rattle.std.specs.Prelude.{Option, Some, None, AllPairs}
 use Rattle.rd_geom.specs.Plane.{Rectangle, has_none, common}
 use Rattle.rd_geom.specs.declared.color.Color.{Color}
 use Rattle.rd_keys.specs.Keys.{BoxKey, same_key}
-use Rattle.rd_keys.proofs.Keys.{same_key-sound, same_key-refl}
+use Rattle.rd_keys.proofs.Keys.{same_key-sound}
 use Rattle.rd_keys.specs.declared.entry.Part.{Part}
 use Rattle.rd_keys.specs.declared.entry.Part.TheVariants.{Back, Border, Content, Outline}
 use Rattle.rd_item.specs.declared.leaf.Leaf.{Leaf}
 use Rattle.rd_item.specs.declared.leaf.Shape.{Shape}
-use Rattle.rd_tree.specs.Forest.{empty, tree, has, IsApart, AreApart}
+use Rattle.rd_tree.specs.Forest.{empty, tree, has, IsApart}
 use Rattle.rd_tree.specs.Document.{Boxes}
-use Rattle.rd_tree.proofs.Standing.{cases, differs}
+use Rattle.rd_tree.proofs.Standing.{cases}
 use Rattle.rd_list.specs.Entries.{Entries, nil, leaf, group, ◌▷◌, flat, singly, has_leaf, is_empty}
 use Rattle.rd_list.specs.Lists.{same_leaf, same_part, groups, no_group_is_empty}
 use Rattle.rd_list.proofs.Joins.{flat-join}
@@ -19,7 +19,7 @@ use Rattle.rd_stack.specs.Spots.{BoxData, Spot}
 use Rattle.rd_stack.specs.Clips.{clip_of}
 use Rattle.rd_stack.specs.Parts.{leaf_of, shown, shape_of, is_seen, takes_hits}
 use Rattle.rd_stack.specs.Painting.{Painted, paint, grouped, is_translucent}
-use Rattle.rd_stack.specs.Fresh.{box, root_order}
+use Rattle.rd_stack.specs.Fresh.{root_order}
 use Rattle.rd_stack.proofs.Sums.{total, total-append}
 use Rattle.rd_stack.proofs.Weights.{Weighs}
 use Rattle.rd_stack.proofs.Takes.{all, root_fit}

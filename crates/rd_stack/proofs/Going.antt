@@ -1,12 +1,12 @@
 -- What a look at a box tells of the walk over a tree.
-use Rattle.std.proofs.Common.{◌≡◌, refl, ap, ◌∙◌, sym, subst, Bool, true, false, inl, inr, ℕ, ◌<◌, ◌≤◌, ◌+◌, arith, List, [], ◌∷◌, ◌++◌, append_assoc, map}
-use Rattle.std.specs.Prelude.{Option, Some, None}
+use Rattle.std.proofs.Common.{◌≡◌, refl, ap, ◌∙◌, sym, subst, inl, inr, ℕ, ◌<◌, ◌≤◌, arith, List, [], ◌∷◌, ◌++◌, append_assoc}
+use Rattle.std.specs.Prelude.{Option, Some}
 use Rattle.rd_geom.specs.Plane.{Rectangle, IsPlaced, grown}
 use Rattle.rd_style.specs.declared.styles.Style.{Style}
 use Rattle.rd_style.specs.Limits.{FitsRect, Fits}
 use Rattle.rd_style.proofs.Room.{grown_is_placed}
 use Rattle.rd_keys.specs.Keys.{BoxKey, same_key}
-use Rattle.rd_tree.specs.Forest.{Forest, empty, tree, has, from, from_some, size, IsApart}
+use Rattle.rd_tree.specs.Forest.{empty, tree, has, from, from_some, size, IsApart}
 use Rattle.rd_tree.specs.declared.node.Item.{Item}
 use Rattle.rd_tree.specs.Document.{Boxes, AllFit}
 use Rattle.rd_tree.specs.Shown.{Shown, shown}

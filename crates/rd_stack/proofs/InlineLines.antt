@@ -7,10 +7,10 @@ use Rattle.rd_style.specs.declared.kinds.Class.TheVariants.{Layer, Float, Atom, 
 use Rattle.rd_style.specs.Boxes.{class}
 use Rattle.rd_keys.specs.Keys.{BoxKey, same_key}
 use Rattle.rd_keys.proofs.Keys.{same_key-sound, same_key-refl}
-use Rattle.rd_tree.specs.Forest.{empty, tree, has, IsApart, AreApart}
+use Rattle.rd_tree.specs.Forest.{empty, tree, has, IsApart}
 use Rattle.rd_tree.specs.Document.{Boxes}
 use Rattle.rd_tree.proofs.Standing.{cases, differs_back, apart_back, from_left, from_right, either}
-use Rattle.rd_stack.specs.Spots.{BoxData, Spot, is_class, is, is_local, is_in_line, is_below, is_all_inline, is_inline, is_none, flows, between}
+use Rattle.rd_stack.specs.Spots.{BoxData, Spot, is_class, is, is_local, is_in_line, is_below, is_all_inline, is_inline, flows}
 use Rattle.rd_stack.specs.Painting.{Painted, steps}
 use Rattle.rd_stack.specs.Fresh.{box, painted}
 use Rattle.rd_stack.proofs.Paths.{between-path, is_none-path}

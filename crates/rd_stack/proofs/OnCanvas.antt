@@ -1,12 +1,11 @@
 -- Every leaf may be seen on the canvas.
-use Rattle.std.proofs.Common.{◌≡◌, refl, ap, ◌∙◌, sym, subst, Bool, true, false, not, ◌&&◌, cond, List, [], ◌∷◌, ℕ, ◌+◌, ◌-◌, ◌≤◌, ℤ, pos, ◌+ℤ◌, ◌-ℤ◌, ◌≤ℤ◌, ◌<ℤ◌, arith, inl, inr, rules}
+use Rattle.std.proofs.Common.{◌≡◌, refl, ap, ◌∙◌, subst, Bool, true, false, not, ◌&&◌, cond, List, [], ◌∷◌, ◌+◌, ◌≤◌, ℤ, pos, ◌-ℤ◌, ◌≤ℤ◌, arith}
 use Rattle.std.proofs.lemmas.Int.{ints}
-use Rattle.std.specs.Prelude.{Option, Some, None, IsTrue, int_le, int_lt}
-use Rattle.rd_geom.specs.Plane.{Rectangle, right, bottom, has_none, common, meets, holds_pixel, IsWithin}
+use Rattle.std.specs.Prelude.{Option, Some, None, IsTrue, int_le}
+use Rattle.rd_geom.specs.Plane.{Rectangle, right, bottom, has_none, common, holds_pixel, IsWithin}
 use Rattle.rd_geom.proofs.Pixels.{At, at_holds, holds_at, common_pixels, HasSome, some_of, first_at, last_at, shares_meets}
 use Rattle.rd_geom.specs.declared.color.Color.{Color}
 use Rattle.rd_style.specs.Boxes.{clips}
-use Rattle.rd_style.specs.declared.styles.Style.{Style}
 use Rattle.rd_clip.specs.Clipping as clipping
 use Rattle.rd_clip.specs.Clipping.{Entered, clipped, clipped_by, containing_chain, sought}
 use Rattle.rd_keys.specs.Keys.{same_key}
@@ -16,7 +15,7 @@ use Rattle.rd_item.specs.declared.leaf.Leaf.{Leaf}
 use Rattle.rd_item.specs.declared.leaf.Shape.{Shape}
 use Rattle.rd_tree.specs.Forest.{IsApart}
 use Rattle.rd_tree.specs.Document.{Boxes}
-use Rattle.rd_stack.specs.Spots.{BoxData, Spot}
+use Rattle.rd_stack.specs.Spots.{Spot}
 use Rattle.rd_stack.specs.Clips.{clip_of, entered}
 use Rattle.rd_stack.specs.Parts.{leaf_of, shown, shape_of, is_seen, takes_hits}
 use Rattle.rd_stack.specs.Painting.{paint}

@@ -1,5 +1,5 @@
 -- The boxes between two boxes, and what follows for those below a box.
-use Rattle.std.proofs.Common.{◌≡◌, refl, ap, ◌∙◌, sym, ℕ, ◌+◌, ◌-◌, Bool, true, false, List, [], ◌∷◌, ◌++◌, length, take, arith, length-append}
+use Rattle.std.proofs.Common.{◌≡◌, refl, ap, ℕ, false, List, [], ◌∷◌, ◌++◌, length, take, arith, length-append}
 use Rattle.rd_stack.specs.Spots.{BoxData, Spot, between, is_none}
 
 take_all : (path rest : List BoxData) (n : ℕ) → n ≡ length path → take n (path ++ rest) ≡ path

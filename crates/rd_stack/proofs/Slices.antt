@@ -1,5 +1,5 @@
 -- What a pattern [first, rest @ ..] says of a list.
-use Rattle.std.proofs.Common.{◌≡◌, ℕ, ◌+◌, ◌-◌, ◌<◌, ◌≤◌, length, take, drop, get_or, Bool, true, false, List, [], ◌∷◌, refl, ap, arith, ◌∙◌, sym}
+use Rattle.std.proofs.Common.{◌≡◌, ◌-◌, ◌≤◌, length, take, drop, get_or, List, [], ◌∷◌, refl, arith}
 use Rattle.std.specs.Bool.{◌==◌}
 use Rattle.rd_stack.specs.Spots.{BoxData}
 use Rattle.rd_stack.specs.Spots.{is_none}

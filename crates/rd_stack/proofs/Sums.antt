@@ -1,5 +1,5 @@
 -- Sums over lists.
-use Rattle.std.proofs.Common.{◌≡◌, refl, ap, ◌∙◌, sym, Bool, true, false, cond, List, [], ◌∷◌, ◌++◌, ℕ, ◌+◌, ◌≤◌, arith}
+use Rattle.std.proofs.Common.{◌≡◌, refl, sym, Bool, true, false, cond, List, [], ◌∷◌, ◌++◌, ℕ, ◌+◌, ◌≤◌, arith}
 use Rattle.std.specs.Prelude.{filter}
 use Rattle.rd_stack.specs.Painting.{Painted, put, by_level, is_lower}
 

@@ -1,6 +1,5 @@
 -- Every box is painted by one box at most: the sums behind it.
-use Rattle.std.proofs.Common.{◌≡◌, refl, ap, ◌∙◌, sym, Bool, true, false, not, ◌&&◌, ◌||◌, cond, List, [], ◌∷◌, ◌++◌, ℕ, ◌+◌, ◌≤◌, arith, inl, inr}
-use Rattle.std.specs.Prelude.{Option, Some, None, is_some, nat_lt}
+use Rattle.std.proofs.Common.{◌≡◌, refl, ap, Bool, true, false, not, ◌&&◌, ◌||◌, cond, List, [], ◌∷◌, ◌++◌, ℕ, ◌+◌, ◌≤◌, arith}
 use Rattle.std.specs.List.{list_all}
 use Rattle.rd_geom.specs.Plane.{Rectangle}
 use Rattle.rd_item.specs.declared.leaf.Leaf.{Leaf}
@@ -8,19 +7,16 @@ use Rattle.rd_style.specs.declared.styles.Style.{Style}
 use Rattle.rd_style.specs.declared.kinds.Class.{Class}
 use Rattle.rd_style.specs.declared.kinds.Display.TheVariants as display
 use Rattle.rd_style.specs.declared.kinds.Class.TheVariants.{Layer, Float, Atom, Block, Inline}
-use Rattle.rd_style.specs.Boxes.{class, real, stacks, floats, in_flow_class, level}
+use Rattle.rd_style.specs.Boxes.{class, real, stacks, in_flow_class}
 use Rattle.rd_keys.specs.Keys.{same_key}
-use Rattle.rd_keys.proofs.Keys.{same_key-refl}
 use Rattle.rd_tree.specs.Forest.{empty, tree, has, IsApart}
 use Rattle.rd_tree.specs.Document.{Boxes}
-use Rattle.rd_tree.proofs.Standing.{cases, from_left}
-use Rattle.rd_list.specs.Entries.{Entries, nil}
-use Rattle.rd_stack.specs.Spots.{BoxData, Spot, is_class, is, is_local, is_layer, is_context, is_root, is_plain, is_no_context, is_none, between}
-use Rattle.rd_stack.specs.Painting.{Painted, steps, grouped}
+use Rattle.rd_list.specs.Entries.{Entries}
+use Rattle.rd_stack.specs.Spots.{BoxData, Spot, is_class, is_local, is_context, is_plain, is_no_context, is_none, between}
 use Rattle.rd_stack.specs.Fresh.{box, painted, root_order}
 use Rattle.rd_stack.proofs.Paths.{between-path, is_none-path}
 use Rattle.rd_stack.proofs.Sums.{total, total-append}
-use Rattle.rd_stack.proofs.Weights.{Weighs, steps_fit, taken_of, entry_of, parts_of, inline_of}
+use Rattle.rd_stack.proofs.Weights.{Weighs, steps_fit, taken_of, parts_of, inline_of}
 use Rattle.rd_stack.proofs.InlineLines.{painted_box, lines_fit, AreOff, off_below, in_below, in_rest}
 
 -- how a box takes part: a layer that makes a stacking context, one that makes none, a float or atomic inline, any other

@@ -1,5 +1,5 @@
 -- Twelve lists laid one on another.
-use Rattle.std.proofs.Common.{◌≡◌, refl, ◌∙◌, sym, ap}
+use Rattle.std.proofs.Common.{◌≡◌}
 use Rattle.rd_list.specs.Entries.{Entries, nil, ◌▷◌}
 use Rattle.rd_list.proofs.Joins.{join_assoc}
 

@@ -9,7 +9,7 @@ use Rattle.rd_stack.specs.Spots.{BoxData, Spot, is_none}
 abbrev pub padding_box : BoxData → Rectangle
 padding_box b = clipping.padding_box b.style b.rect
 
--- what clipping asks of the boxes above
+-- This project's own form: what clipping asks of the boxes above.
 abbrev pub entered : List BoxData → List Entered
 entered [] = []
 entered (b ∷ above) = record { style = b.style; rect = b.rect; root = is_none above } ∷ entered above

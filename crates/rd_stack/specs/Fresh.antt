@@ -11,7 +11,7 @@ use Rattle.rd_tree.specs.Document.{Boxes, Document}
 use Rattle.rd_stack.specs.Spots.{BoxData, Spot}
 use Rattle.rd_stack.specs.Painting.{Painted, steps, grouped}
 
--- a box of a tree, for painting
+-- This project's own form: a box of a tree, for painting.
 abbrev pub box : BoxKey → Item → BoxData
 box k d = record { key = k; rect = d.rect; style = d.style }
 
@@ -20,7 +20,7 @@ pub record Place : Type 0 where
   pub at : Spot
   pub below : Boxes
 
--- the boxes of a forest in tree order, where they stand below the given ones
+-- This project's own form: the boxes of a forest in tree order, where they stand below the given ones.
 abbrev pub places : List BoxData → Boxes → List Place
 places above empty = []
 places above (tree k d children next) =
@@ -31,13 +31,13 @@ abbrev pub descendants : Place → List Place
 descendants e = places (e.at.here ∷ e.at.above) e.below
 
 module _ (canvas : Rectangle) where
-  -- a box with all that it paints, before those below it
+  -- This project's own form: a box with all that it paints, before those below it.
   abbrev pub with_below : List BoxData → BoxData → List Painted → List Painted
   with_below above b below =
       let e : Spot = record { above = above; here = b } in
       record { at = e; order = steps canvas e below } ∷ below
 
-  -- the boxes of a forest in tree order, each with all that it paints
+  -- This project's own form: the boxes of a forest in tree order, each with all that it paints.
   abbrev pub painted : List BoxData → Boxes → List Painted
   painted above empty = []
   painted above (tree k d children next) = with_below above (box k d) (painted (box k d ∷ above) children) ++ painted above next
@@ -46,7 +46,7 @@ module _ (canvas : Rectangle) where
   abbrev pub painting_order : Place → Entries Leaf
   painting_order e = steps canvas e.at (painted (e.at.here ∷ e.at.above) e.below)
 
-  -- the painting order of the first box, which is the root
+  -- CSS 2.2 Appendix E.2: the painting order of the first box, which is the root
   abbrev pub root_order : Boxes → Entries Leaf
   root_order empty = nil
   root_order (tree k d children next) =

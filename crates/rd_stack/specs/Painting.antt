@@ -1,13 +1,13 @@
 -- The painting order of a box and of all that is below it.
-use Rattle.std.specs.Prelude.{ℤ, pos, int_lt, nat_lt, Bool, true, false, not, ◌&&◌, ◌||◌, if◌then◌else◌, List, [], ◌∷◌, ◌++◌, filter, Option, Some, None}
+use Rattle.std.specs.Prelude.{ℤ, pos, int_lt, nat_lt, Bool, not, ◌&&◌, ◌||◌, if◌then◌else◌, List, [], ◌∷◌, filter, Option, Some, None}
 use Rattle.rd_geom.specs.Plane.{Rectangle}
 use Rattle.rd_style.specs.declared.kinds.Class.{Class}
-use Rattle.rd_style.specs.declared.kinds.Class.TheVariants.{Layer, Float, Atom, Block, Inline}
+use Rattle.rd_style.specs.declared.kinds.Class.TheVariants.{Float, Atom, Block, Inline}
 use Rattle.rd_style.specs.Boxes.{level, blocky}
 use Rattle.rd_keys.specs.declared.entry.Part.{Part}
 use Rattle.rd_keys.specs.declared.entry.Part.TheVariants.{Back, Border, Content, Outline}
 use Rattle.rd_item.specs.declared.leaf.Leaf.{Leaf}
-use Rattle.rd_list.specs.Entries.{Entries, nil, leaf, group, ◌▷◌, each, singly, flat, has_leaf}
+use Rattle.rd_list.specs.Entries.{Entries, nil, group, ◌▷◌, each, singly, flat, has_leaf}
 use Rattle.rd_stack.specs.Spots.{Spot, is_root, is_context, is, is_local, is_layer, is_in_line}
 use Rattle.rd_stack.specs.Parts.{leaf_of}
 
@@ -20,12 +20,15 @@ pub record Painted : Type 0 where
 abbrev pub local_boxes : Spot → List Painted → List Painted
 local_boxes e below = filter (λ x. is_local e x.at) below
 
+-- CSS 2.2 Appendix E.2: the layers of e among the boxes below it
 abbrev pub layers_of : Spot → List Painted → List Painted
 layers_of e below = filter (λ x. is_layer e x.at) below
 
+-- CSS 2.2 Appendix E.2: the line of c, which e paints
 abbrev pub line_of : Spot → List Painted → Spot → List Painted
 line_of e below c = filter (λ x. is_in_line e c x.at) below
 
+-- CSS 2.2 Appendix E.2: those of one class
 abbrev pub of_class : Class → List Painted → List Painted
 of_class c xs = filter (λ x. is c x.at) xs
 
@@ -33,19 +36,24 @@ of_class c xs = filter (λ x. is c x.at) xs
 abbrev pub level_of : Painted → Option ℤ
 level_of x = level x.at.here.style (is_root x.at)
 
+-- CSS 2.2 Appendix E.2: auto is painted with level 0
 abbrev pub number : Option ℤ → ℤ
 number None = pos 0
 number (Some z) = z
 
+-- CSS 2.2 section 9.9.1: below the level of the stacking context
 abbrev pub is_negative : Painted → Bool
 is_negative x = int_lt (number (level_of x)) (pos 0)
 
+-- CSS 2.2 section 9.9.1: above the level of the stacking context
 abbrev pub is_positive : Painted → Bool
 is_positive x = int_lt (pos 0) (number (level_of x))
 
+-- CSS 2.2 section 9.9.1: at the level of the stacking context, or auto
 abbrev pub is_zero : Painted → Bool
 is_zero x = not (is_negative x) && not (is_positive x)
 
+-- CSS 2.2 section 9.9.1: y is at a lower level than x
 abbrev pub is_lower : Painted → Painted → Bool
 is_lower y x = int_lt (number (level_of y)) (number (level_of x))
 
@@ -59,9 +67,11 @@ abbrev pub by_level : List Painted → List Painted
 by_level [] = []
 by_level (x ∷ xs) = put x (by_level xs)
 
+-- This project's own form: a list where a condition holds, and else nothing.
 abbrev pub when : Bool → Entries Leaf → Entries Leaf
 when b xs = if b then xs else nil
 
+-- CSS Color 3 section 3.2: a stacking context of opacity below one, which is 255
 abbrev pub is_translucent : Spot → Bool
 is_translucent x = is_context x && nat_lt x.here.style.opacity 255
 
@@ -71,13 +81,16 @@ grouped x =
     if is_translucent x.at && has_leaf (flat x.order)
     then group x.at.here.key x.at.here.style.opacity x.order nil else x.order
 
+-- CSS 2.2 section 9.7: whether a box is laid out as a block
 abbrev pub is_blocky : Spot → Bool
 is_blocky e = blocky e.here.style (is_root e)
 
 module _ (canvas : Rectangle) where
+  -- This project's own form: the leaf of a part, where there is one.
   abbrev pub paint : Part → Spot → Entries Leaf
   paint part x = singly (leaf_of canvas x part)
 
+  -- CSS 2.2 Appendix E.2: the background, and the border on top of it
   abbrev pub back_border : Spot → Entries Leaf
   back_border x = paint Back x ▷ paint Border x
 

@@ -19,17 +19,20 @@ abbrev pub is_seen : Visibility → Bool
 is_seen visibility.Visible = true
 is_seen _ = false
 
+-- This project's own choice: pointer events are taken or passed on.
 abbrev pub takes_hits : Pointer → Bool
 takes_hits pointer.Auto = true
 takes_hits pointer.Off = false
 
+-- CSS 2.2 section 8.5.1: some border has a width
 abbrev pub has_border : Sides → Bool
 has_border s = nat_lt 0 s.top || nat_lt 0 s.right || nat_lt 0 s.bottom || nat_lt 0 s.left
 
+-- This project's own form: all pixels of a rectangle.
 abbrev pub full : Rectangle → Shape
 full r = record { outer = r; inner = no_pixels }
 
--- the outer rectangle without the inner one
+-- This project's own form: the outer rectangle without the inner one.
 abbrev pub ring : Rectangle → Rectangle → Shape
 ring outer inner = record { outer = outer; inner = if has_none inner then no_pixels else inner }
 
@@ -45,7 +48,7 @@ border b = if has_border b.style.border_width then Some (ring b.rect (padding_bo
 abbrev pub outline : BoxData → Option (Shape × Color)
 outline b = if nat_lt 0 b.style.outline_width then Some (ring (grown b.rect b.style.outline_width) b.rect, b.style.outline_color) else None
 
--- the shape and the colour of a part, where the box has it; text is a rectangle, by this project's own choice
+-- CSS 2.2 sections 8.5, 14.2 and 18.4: the shape and the colour of a part, where the box has it; that text is a rectangle is this project's own choice
 abbrev pub shape_of : Rectangle → Spot → Part → Option (Shape × Color)
 shape_of canvas x Back = Some (full (background canvas x), x.here.style.background)
 shape_of canvas x Border = border x.here

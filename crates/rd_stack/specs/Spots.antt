@@ -1,5 +1,5 @@
 -- Boxes where they stand, and how they take part in painting.
-use Rattle.std.specs.Prelude.{ℕ, ◌+◌, ◌-◌, Bool, true, false, not, ◌&&◌, ◌||◌, List, [], ◌∷◌, length, take}
+use Rattle.std.specs.Prelude.{◌+◌, ◌-◌, Bool, true, false, not, ◌&&◌, ◌||◌, List, [], ◌∷◌, length, take}
 use Rattle.std.specs.List.{list_all, list_any}
 use Rattle.rd_geom.specs.Plane.{Rectangle, IsPlaced, grown}
 use Rattle.rd_style.specs.declared.styles.Style.{Style}
@@ -14,7 +14,7 @@ pub record BoxData : Type 0 where
   pub rect : Rectangle
   pub style : Style
 
--- its outline is within the limits of rectangles
+-- This project's own choice: the outline is within the limits of rectangles.
 abbrev pub HasRoom : BoxData → Type 0
 HasRoom b = IsPlaced (grown b.rect b.style.outline_width)
 
@@ -23,10 +23,12 @@ pub record Spot : Type 0 where
   pub above : List BoxData
   pub here : BoxData
 
+-- This project's own form: are there no boxes?
 abbrev pub is_none : List BoxData → Bool
 is_none [] = true
 is_none (b ∷ bs) = false
 
+-- This project's own form: no box is above the root.
 abbrev pub is_root : Spot → Bool
 is_root x = is_none x.above
 
@@ -34,9 +36,11 @@ is_root x = is_none x.above
 abbrev pub is_context : Spot → Bool
 is_context x = real x.here.style (is_root x)
 
+-- CSS 2.2 Appendix E.2: how the box takes part in painting
 abbrev pub class_of : Spot → Class
 class_of x = class x.here.style (is_root x)
 
+-- This project's own form: are two classes the same?
 abbrev pub is_class : Class → Class → Bool
 is_class Layer Layer = true
 is_class Float Float = true
@@ -45,25 +49,27 @@ is_class Block Block = true
 is_class Inline Inline = true
 is_class _ _ = false
 
--- Is its class the given one?
+-- This project's own form: is the box of this class?
 abbrev pub is : Class → Spot → Bool
 is c x = is_class c (class_of x)
 
--- Of a box that is not the root: a block or an inline box, that is, no layer, float or atomic inline.
+-- CSS 2.2 Appendix E.2: of a box that is not the root: a block or an inline box, that is, no layer, float or atomic inline
 abbrev pub is_plain : BoxData → Bool
 is_plain b = is_class Block (class b.style false) || is_class Inline (class b.style false)
 
+-- CSS 2.2 section 9.2.2: of a box that is not the root: an inline box
 abbrev pub is_inline : BoxData → Bool
 is_inline b = is_class Inline (class b.style false)
 
+-- CSS 2.2 section 9.9.1: of a box that is not the root: it makes no stacking context
 abbrev pub is_no_context : BoxData → Bool
 is_no_context b = not (real b.style false)
 
--- the boxes strictly between e and a box x below it, from x up
+-- This project's own form: the boxes strictly between e and a box x below it, from x up.
 abbrev pub between : Spot → Spot → List BoxData
 between e x = take (length x.above - (length e.above + 1)) x.above
 
--- Does x stand below c?
+-- This project's own form: does x stand below c?
 abbrev pub is_below : Spot → Spot → Bool
 is_below c x = list_any (λ b. same_key b.key c.here.key) x.above
 
@@ -75,10 +81,11 @@ is_local e x = list_all is_plain (between e x)
 abbrev pub is_layer : Spot → Spot → Bool
 is_layer e x = is Layer x && list_all is_no_context (between e x)
 
+-- CSS 2.2 section 9.2.2: only inline boxes stand between c and x
 abbrev pub is_all_inline : Spot → Spot → Bool
 is_all_inline c x = list_all is_inline (between c x)
 
--- an inline box or an atomic inline
+-- CSS 2.2 Appendix E.2: an inline box or an atomic inline
 abbrev pub flows : Spot → Bool
 flows x = is Inline x || is Atom x
 

@@ -1,4 +1,4 @@
-use Rattle.std.proofs.Common.{◌≡◌, sym}
+use Rattle.std.proofs.Common.{sym}
 use Rattle.rd_stack.specs.Seen.{spot}
 use Rattle.rd_stack.specs.Seen.{seen}
 use Rattle.rd_stack.specs.Spots.{is_in_line}

@@ -1,12 +1,7 @@
-use Rattle.std.proofs.Common.{◌≡◌, take, map, sym}
-use Rattle.std.specs.Prelude.{filter}
+use Rattle.std.proofs.Common.{◌≡◌, take, map}
 use Rattle.rd_list.specs.Entries.{◌▷◌, each}
-use Rattle.rd_stack.specs.Seen.{spot}
-use Rattle.rd_stack.specs.Seen.{seen, looked}
+use Rattle.rd_stack.specs.Seen.{looked}
 use Rattle.rd_stack.specs.Painting as painting
-use Rattle.rd_keys.specs.declared.entry.Part.TheVariants as parts
-use Rattle.rd_list.proofs.Joins.{join-nil}
-use Rattle.rd_list.proofs.Onward.{each_more, all_more}
 use Rattle.rd_stack.proofs.layers.groups.Given as goal
 
 abbrev pub invariant-loop-x : goal.invariant-loop-x

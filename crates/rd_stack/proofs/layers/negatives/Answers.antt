@@ -1,5 +1,4 @@
-use Rattle.std.proofs.Common.{◌≡◌, ◌∙◌, sym, refl, ap, map, Vec, Global}
-use Rattle.std.specs.Borrow.{Bor}
+use Rattle.std.proofs.Common.{◌∙◌, sym, refl, ap, map, Vec}
 use Rattle.rd_stack.specs.Seen.{spot, seen, looked}
 use Rattle.rd_stack.specs.Painting as painting
 use Rattle.rd_stack.specs.Tests as tests

@@ -1,4 +1,4 @@
-use Rattle.std.proofs.Common.{◌≡◌, ◌∙◌, sym, ap, take, drop, map, ◌++◌, ◌+◌, ℕ, length, add-one, arith, List}
+use Rattle.std.proofs.Common.{◌≡◌, ◌∙◌, sym, ap, take, drop, map, ◌++◌, ℕ, length, add-one, arith}
 use Rattle.rd_stack.specs.Seen.{seen, looked}
 use Rattle.rd_stack.specs.Painting as painting
 use Rattle.rd_stack.proofs.ByLevel.{put_past, put_here, put_last}

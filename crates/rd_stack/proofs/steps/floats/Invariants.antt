@@ -1,12 +1,9 @@
-use Rattle.std.proofs.Common.{◌≡◌, take, map, sym}
+use Rattle.std.proofs.Common.{◌≡◌, take, map}
 use Rattle.std.specs.Prelude.{filter}
 use Rattle.rd_list.specs.Entries.{◌▷◌, each}
 use Rattle.rd_stack.specs.Seen.{spot}
 use Rattle.rd_stack.specs.Seen.{seen}
-use Rattle.rd_stack.specs.Painting as painting
 use Rattle.rd_stack.specs.Tests as tests
-use Rattle.rd_list.proofs.Joins.{join-nil}
-use Rattle.rd_list.proofs.Onward.{each_more}
 use Rattle.rd_stack.proofs.steps.floats.Given as goal
 
 abbrev pub invariant-loop-x : goal.invariant-loop-x

@@ -1,13 +1,11 @@
-use Rattle.std.proofs.Common.{◌≡◌, take, map, sym}
-use Rattle.std.specs.Prelude.{filter}
-use Rattle.rd_list.specs.Entries.{◌▷◌, each}
+use Rattle.std.proofs.Common.{sym}
 use Rattle.rd_stack.specs.Seen.{spot}
-use Rattle.rd_stack.specs.Seen.{seen, looked}
+use Rattle.rd_stack.specs.Seen.{seen}
 use Rattle.rd_stack.specs.Painting as painting
 use Rattle.rd_stack.specs.Tests as tests
 use Rattle.rd_keys.specs.declared.entry.Part.TheVariants as parts
 use Rattle.rd_list.proofs.Joins.{join-nil}
-use Rattle.rd_list.proofs.Onward.{each_more, all_more}
+use Rattle.rd_list.proofs.Onward.{each_more}
 use Rattle.rd_stack.proofs.steps.outlines.Goals as goal
 
 pub loop-x-init : goal.loop-x-init

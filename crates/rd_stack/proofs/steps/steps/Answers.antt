@@ -1,4 +1,4 @@
-use Rattle.std.proofs.Common.{◌≡◌, refl, ◌∙◌, sym, ap, map, not, ◌||◌, List}
+use Rattle.std.proofs.Common.{◌∙◌, sym, ap, map, not, ◌||◌, List}
 use Rattle.std.specs.Prelude.{filter}
 use Rattle.rd_list.specs.Entries.{◌▷◌, each}
 use Rattle.rd_stack.specs.Seen.{spot}
