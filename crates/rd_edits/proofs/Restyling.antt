@@ -1,6 +1,5 @@
 -- A box keeps to the limits under a change that does.
-use Rattle.std.proofs.Common.{◌≡◌, ℕ, ◌≤◌, Bool, true, false, cond, refl, Option, Some, None, IfSome, unwrap_or}
-use Rattle.std.specs.Prelude.{IsTrue, ◌↔◌}
+use Rattle.std.proofs.Common.{ℕ, ◌≤◌, Bool, true, false, cond, Option, Some, None, IfSome, unwrap_or}
 use Rattle.rd_geom.specs.declared.rect.Sides.{Sides}
 use Rattle.rd_style.specs.declared.styles.Style.{Style}
 use Rattle.rd_style.specs.declared.styles.StyleChange.{StyleChange}

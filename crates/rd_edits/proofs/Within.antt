@@ -1,10 +1,10 @@
 -- The tests of limits decide them.
-use Rattle.std.proofs.Common.{◌≡◌, ℕ, ℤ, pos, ◌≤◌, ◌&&◌, Bool, true, false, T, nat_le, int_le, refl, Option, Some, None, IfSome}
+use Rattle.std.proofs.Common.{◌≡◌, ℕ, ℤ, pos, ◌≤◌, Bool, true, false, T, nat_le, int_le, refl, Option, Some, None, IfSome}
 use Rattle.std.specs.Prelude.{◌≤ℤ◌, ◌↔◌, IsTrue}
 use Rattle.std.specs.Bool.{Decides, one_answer, passes}
 use Rattle.std.specs.Int.Signed.{le_z_yes}
 use Rattle.std.specs.Option.{option_map_or}
-use Rattle.std.proofs.lemmas.Bool.Decides.{Decides-at, Decides-and, Decides-like}
+use Rattle.std.proofs.lemmas.Bool.Decides.{Decides-and, Decides-like}
 use Rattle.std.proofs.lemmas.Bool.{leb-true, le-leb}
 use Rattle.rd_geom.specs.Plane.{Rectangle}
 use Rattle.rd_style.specs.declared.styles.Style.{Style}

@@ -1,6 +1,5 @@
 -- The tree after an edit. It is this project's own choice.
 use Rattle.std.specs.Prelude.{◌≡◌, ℕ, false, true, List, Option, Some, option_and_then}
-use Rattle.rd_tree.specs.declared.node.Item.{Item}
 use Rattle.rd_tree.specs.Document.{Document, BoxKey, Boxes, IsUsed, contains, named, with_child, with_taken}
 use Rattle.rd_keys.specs.Keys.{same_key}
 use Rattle.rd_tree.specs.Forest.{at_subtree}

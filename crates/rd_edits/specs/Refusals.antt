@@ -1,12 +1,9 @@
 -- Which edits are refused. The tests, their numbers and their order are this project's own choice.
 use Rattle.std.specs.Prelude.{ℕ, ◌+◌, nat_le, nat_lt, Bool, true, false, ◌&&◌, if◌then◌else◌, List, [], ◌∷◌, Option, Some, None, is_some, is_none}
 use Rattle.std.specs.Option.{option_map_or}
-use Rattle.rd_geom.specs.Plane.{Rectangle}
-use Rattle.rd_style.specs.declared.styles.Style.{Style}
-use Rattle.rd_style.specs.declared.styles.StyleChange.{StyleChange}
 use Rattle.rd_keys.specs.Keys.{same_key}
 use Rattle.rd_tree.specs.Forest.{children, depth, is_among}
-use Rattle.rd_tree.specs.Document.{Document, BoxKey, Boxes, named, taken}
+use Rattle.rd_tree.specs.Document.{Document, BoxKey, named, taken}
 use Rattle.rd_edits.specs.Limits.{fits_rect, fits, fits_change, fits_shift}
 use Rattle.rd_edits.specs.declared.edit.Edit.{Edit}
 use Rattle.rd_edits.specs.declared.edit.Edit.TheVariants.{Insert, SetStyle, SetRect, Shift}
