@@ -39,6 +39,7 @@ pub(crate) fn fits_change<B: Ledger>(tree: &Tree<B>, key: BoxKey, c: &StyleChang
     ensures test { result ≡ limits.fits_change c.now }
     ensures fits { IsTrue result → CanRestyle key c.now tree.now.boxes }
 {
+    // All boxes of a tree are within the limits, as its root tells.
     let _ = tree.root();
     fits(&changed(&Style::plain(), c))
 }

@@ -13,3 +13,6 @@ mod values;
 pub use applying::apply;
 pub use edit::Edit;
 pub use fault::EditFault;
+
+#[cfg(test)]
+mod tests;
