@@ -10,3 +10,6 @@ mod fault;
 pub use edit::Edit;
 pub use editing::apply;
 pub use fault::EditFault;
+
+#[cfg(test)]
+mod tests;
