@@ -1,1 +1,0 @@
--- Message from the lead: read LEAD-NOTE.md at the top of your clone, then delete this file. NO rt ci, NO must-fail, NO plant before 03:45: only rt check.
