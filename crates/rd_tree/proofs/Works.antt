@@ -368,9 +368,9 @@ pub nothing_left : (a : Arena inner.Node) (first : Option BoxKey) (most : ℕ) �
 nothing_left a first most w =
     let z : height (seen_from a None) ≡ 0 = ap height (nothing a.limit) in
     omega (arith, w.sum, z) where
-  nothing : (n : ℕ) → read n (linked a) None ≡ empty
-  nothing zero = refl
-  nothing (suc n) = refl
+      nothing : (n : ℕ) → read n (linked a) None ≡ empty
+      nothing zero = refl
+      nothing (suc n) = refl
 
 height_size : (f : Boxes) → height f ≤ size f
 height_size empty = omega arith
