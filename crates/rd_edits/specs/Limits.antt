@@ -1,10 +1,16 @@
 -- The limits of rectangles and widths as tests. They are this project's own choice.
 use Rattle.std.specs.Prelude.{ℤ, pos, int_le, nat_le, Bool, true, ◌&&◌}
+use Rattle.std.specs.Option.{option_map_or}
 use Rattle.rd_geom.specs.Plane.{Rectangle}
 use Rattle.rd_style.specs.declared.styles.Style.{Style}
 use Rattle.rd_style.specs.declared.styles.StyleChange.{StyleChange}
 use Rattle.rd_style.specs.Changes.{changed, plain}
 use Rattle.rd_style.specs.Limits.{farthest_left}
+use Rattle.rd_keys.specs.Keys.{same_key}
+use Rattle.rd_tree.specs.Forest.{empty, tree, children, item_of}
+use Rattle.rd_tree.specs.declared.node.Item.{Item}
+use Rattle.rd_tree.specs.Document.{BoxKey, Boxes}
+use Rattle.rd_tree.specs.Works.{shifted}
 
 -- This project's own choice: a number from the one to the other, both included.
 abbrev pub is_between : ℤ → ℤ → ℤ → Bool
@@ -25,3 +31,12 @@ fits s =
 -- This project's own choice: so is every one that a change names; the plain style has none.
 abbrev pub fits_change : StyleChange → Bool
 fits_change c = fits (changed plain c)
+
+-- Does this hold of each item?
+abbrev pub all_of : (Item → Bool) → Boxes → Bool
+all_of p empty = true
+all_of p (tree k d below rest) = p d && all_of p below && all_of p rest
+
+-- This project's own choice: a box and all below it are within the limits once they are moved.
+abbrev pub fits_shift : ℤ → ℤ → BoxKey → Boxes → Bool
+fits_shift dx dy k f = let p : Item → Bool = λ d. fits_rect (shifted dx dy d.rect) in option_map_or p (item_of same_key k f) true && all_of p (children same_key k f)

@@ -1,15 +1,12 @@
 -- Which edits are refused. The tests, their numbers and their order are this project's own choice.
 use Rattle.std.specs.Prelude.{ℕ, ◌+◌, nat_le, nat_lt, Bool, true, false, ◌&&◌, if◌then◌else◌, List, [], ◌∷◌, Option, Some, None, is_some, is_none}
 use Rattle.std.specs.Option.{option_map_or}
-use Rattle.rd_geom.specs.Plane.{Rectangle}
-use Rattle.rd_style.specs.declared.styles.Style.{Style}
-use Rattle.rd_style.specs.declared.styles.StyleChange.{StyleChange}
 use Rattle.rd_keys.specs.Keys.{same_key}
 use Rattle.rd_tree.specs.Forest.{children, depth, is_among}
-use Rattle.rd_tree.specs.Document.{Document, BoxKey, Boxes, named, taken}
-use Rattle.rd_edits.specs.Limits.{fits_rect, fits, fits_change}
+use Rattle.rd_tree.specs.Document.{Document, BoxKey, named, taken}
+use Rattle.rd_edits.specs.Limits.{fits_rect, fits, fits_change, fits_shift}
 use Rattle.rd_edits.specs.declared.edit.Edit.{Edit}
-use Rattle.rd_edits.specs.declared.edit.Edit.TheVariants.{Insert, SetStyle, SetRect}
+use Rattle.rd_edits.specs.declared.edit.Edit.TheVariants.{Insert, SetStyle, SetRect, Shift}
 
 -- Some tests with their numbers, the least number first: the number of the first that holds.
 abbrev pub first_that : List (ℕ × Bool) → Option ℕ
@@ -31,14 +28,14 @@ is_known i t = is_some (named i t.boxes)
 abbrev pub is_one : (BoxKey → Bool) → List ℕ → Document → Bool
 is_one p i t = option_map_or p (named i t.boxes) false
 
--- This project's own choice: is a box that is to be stood before, where one is given, no child of the parent?
-abbrev pub is_no_child : Option (List ℕ) → List ℕ → Document → Bool
-is_no_child None parent t = false
-is_no_child (Some b) parent t = not (is_one (λ p. is_one (λ k. is_among same_key k (children same_key p t.boxes)) b t) parent t)
+-- This project's own choice: is there a box given to stand before, and is it no child of the parent?
+abbrev pub is_elsewhere : Option (List ℕ) → BoxKey → Document → Bool
+is_elsewhere None parent t = false
+is_elsewhere (Some b) parent t = not (is_one (λ k. is_among same_key k (children same_key parent t.boxes)) b t)
 
 -- This project's own choice: would so many levels below the parent go deeper than 256?
-abbrev pub is_too_deep : List ℕ → ℕ → Document → Bool
-is_too_deep parent levels t = is_one (λ p. nat_lt 256 (depth same_key p t.boxes + levels)) parent t
+abbrev pub is_too_deep : ℕ → BoxKey → Document → Bool
+is_too_deep levels parent t = nat_lt 256 (depth same_key parent t.boxes + levels)
 
 -- This project's own choice: are 20,000 slots taken by boxes, or retired?
 abbrev pub is_full : Document → Bool
@@ -47,7 +44,8 @@ is_full t = nat_le 20000 (taken t)
 -- This project's own choice: the number of the test that refuses the edit, if one does.
 abbrev pub refusal_of : Document → Edit → Option ℕ
 refusal_of t (Insert i parent before rect style) =
-    first_that ((2, is_unknown parent t) ∷ (5, is_no_child before parent t) ∷ (6, is_known i t) ∷ (7, is_too_deep parent 1 t)
-    ∷ (8, is_full t) ∷ (9, not (fits_rect rect && fits style)) ∷ [])
+    first_that ((2, is_unknown parent t) ∷ (5, is_one (λ p. is_elsewhere before p t) parent t) ∷ (6, is_known i t)
+    ∷ (7, is_one (λ p. is_too_deep 1 p t) parent t) ∷ (8, is_full t) ∷ (9, not (fits_rect rect && fits style)) ∷ [])
 refusal_of t (SetStyle i change) = first_that ((1, is_unknown i t) ∷ (9, not (fits_change change)) ∷ [])
 refusal_of t (SetRect i rect) = first_that ((1, is_unknown i t) ∷ (9, not (fits_rect rect)) ∷ [])
+refusal_of t (Shift i dx dy) = first_that ((1, is_unknown i t) ∷ (9, is_one (λ k. not (fits_shift dx dy k t.boxes)) i t) ∷ [])

@@ -16,7 +16,19 @@ pub enum Edit {
         style: Style,
     },
     /// Other values for the members of a box's style that are named.
-    SetStyle { id: Id, change: StyleChange },
+    SetStyle {
+        id: Id,
+        change: StyleChange,
+    },
     /// Another rectangle for one box, in canvas pixels. What is below it stays where it is.
-    SetRect { id: Id, rect: Rect },
+    SetRect {
+        id: Id,
+        rect: Rect,
+    },
+    /// A box and all below it, moved right and down by canvas pixels.
+    Shift {
+        id: Id,
+        dx: i32,
+        dy: i32,
+    },
 }

@@ -3,9 +3,16 @@
 //! A refused edit leaves the tree and its marks as they were.
 #![tactic(auto)]
 
+mod applying;
+mod checks;
 mod edit;
 mod fault;
+mod insert;
 mod values;
 
+pub use applying::apply;
 pub use edit::Edit;
 pub use fault::EditFault;
+
+#[cfg(test)]
+mod tests;

@@ -1,45 +1,20 @@
-//! Edits of what a box is.
+//! Edits of what boxes are.
 
-ghost use Rattle.std.specs.Prelude.{◌≡◌, ◌↔◌, IfErr, OnOk, OnErr, IsTrue, None, Err};
-ghost use Rattle.rd_style.specs.Limits.{Fits, FitsRect};
+ghost use Rattle.std.specs.Prelude.{◌≡◌, IfErr, OnOk, OnErr, None};
 ghost use Rattle.rd_edits.specs.Edited.{IsEdited};
 ghost use Rattle.rd_edits.specs.Faults.{test_of};
-ghost use Rattle.rd_edits.specs.Limits as limits;
 ghost use Rattle.rd_edits.specs.Refusals.{refusal_of};
-ghost use Rattle.rd_edits.specs.declared.edit.Edit.TheVariants.{SetStyle, SetRect};
+ghost use Rattle.rd_edits.specs.declared.edit.Edit.TheVariants.{SetStyle, SetRect, Shift};
 
+use crate::checks::{fits_change, fits_rect, fits_shift};
 use crate::fault::EditFault;
 use rd_geom::Rect;
-use rd_style::{Style, StyleChange, changed};
+use rd_style::StyleChange;
 use rd_tree::{Id, Tree};
 use std::sync::ledger::Ledger;
 
-/// Is the rectangle within the limits?
-#[tactic(auto, using(crate::proofs::Within::rect_within))]
-pub(crate) fn fits_rect(r: Rect) -> bool
-    ensures test { result ≡ limits.fits_rect r }
-    ensures fits { IsTrue result ↔ FitsRect r }
-{
-    rd_style::fits_rect(r)
-}
-
-/// Are the widths of the style within the limits?
-#[tactic(auto, using(crate::proofs::Within::style_within))]
-pub(crate) fn fits(s: &Style) -> bool
-    ensures test { result ≡ limits.fits s.now }
-    ensures fits { IsTrue result ↔ Fits s.now }
-{
-    rd_style::fits(s)
-}
-
-/// Are the widths that the change names within the limits?
-fn fits_change(c: &StyleChange) -> bool
-    ensures { result ≡ limits.fits_change c.now }
-{
-    fits(&changed(&Style::plain(), c))
-}
-
 /// Changes the style of a box.
+#[tactic(auto, using(crate::proofs::Named::named_there))]
 pub(crate) fn set_style<B: Ledger>(
     tree: &mut Tree<B>,
     id: &Id,
@@ -54,7 +29,7 @@ pub(crate) fn set_style<B: Ledger>(
     let Some(key) = tree.find(id) else {
         return Err(EditFault::UnknownId);
     };
-    if !fits_change(change) {
+    if !fits_change(tree, key, change) {
         return Err(EditFault::OutOfRange);
     }
     tree.change(key, change);
@@ -63,11 +38,7 @@ pub(crate) fn set_style<B: Ledger>(
 
 /// Gives a box another rectangle.
 #[tactic(auto, using(crate::proofs::Named::named_there))]
-pub(crate) fn set_rect<B: Ledger>(
-    tree: &mut Tree<B>,
-    id: &Id,
-    rect: Rect,
-) -> Result<(), EditFault>
+pub(crate) fn set_rect<B: Ledger>(tree: &mut Tree<B>, id: &Id, rect: Rect) -> Result<(), EditFault>
     ensures refused { IfErr result (λ f. refusal_of tree.old (SetRect id.now rect) ≡ test_of f) }
     ensures accepted { OnOk result (refusal_of tree.old (SetRect id.now rect) ≡ None) }
     ensures done { OnOk result (IsEdited (SetRect id.now rect) tree.old tree.new) }
@@ -81,5 +52,29 @@ pub(crate) fn set_rect<B: Ledger>(
         return Err(EditFault::OutOfRange);
     }
     tree.place(key, rect);
+    Ok(())
+}
+
+/// Moves a box and all below it.
+#[tactic(auto, using(crate::proofs::Named::named_there))]
+pub(crate) fn shift<B: Ledger>(
+    tree: &mut Tree<B>,
+    id: &Id,
+    dx: i32,
+    dy: i32,
+) -> Result<(), EditFault>
+    ensures refused { IfErr result (λ f. refusal_of tree.old (Shift id.now dx dy) ≡ test_of f) }
+    ensures accepted { OnOk result (refusal_of tree.old (Shift id.now dx dy) ≡ None) }
+    ensures done { OnOk result (IsEdited (Shift id.now dx dy) tree.old tree.new) }
+    ensures kept { OnErr result (tree.new ≡ tree.old) }
+    ensures memory { IfErr result (λ f. f ≡ EditFault.NoMemory → ⊥) }
+{
+    let Some(key) = tree.find(id) else {
+        return Err(EditFault::UnknownId);
+    };
+    if !fits_shift(tree, key, dx, dy) {
+        return Err(EditFault::OutOfRange);
+    }
+    tree.shift(key, dx, dy);
     Ok(())
 }

@@ -23,16 +23,16 @@ is_id w = nat_le 1 (length w) && nat_le (length w) 64 && list_all is_id_byte w
 abbrev pub id_of : Data → Option (List ℕ)
 id_of d = as_str d >>= λ w. only_if (is_id w) (Some w)
 
--- This project's own choice: `null` for a box without a parent, or the parent's id
-abbrev pub parent_of : Data → Option (Option (List ℕ))
-parent_of d = if is_some (as_null d) then Some None else (id_of d >>= λ w. Some (Some w))
+-- This project's own choice: `null` for none, or an id
+abbrev pub id_or_null : Data → Option (Option (List ℕ))
+id_or_null d = if is_some (as_null d) then Some None else (id_of d >>= λ w. Some (Some w))
 
 -- This project's own choice: a box object, whose style may be absent
 unfoldable pub box_of : Data → Option SceneBox
 box_of d = do
   ms ← as_object d
   id ← (get (codes "id") d >>= id_of)
-  parent ← (get (codes "parent") d >>= parent_of)
+  parent ← (get (codes "parent") d >>= id_or_null)
   rect ← (get (codes "rect") d >>= rect_of)
   style ← optional plain style_of (get (codes "style") d)
   only_if (has_only (codes "id" ∷ codes "parent" ∷ codes "rect" ∷ codes "style" ∷ []) ms)

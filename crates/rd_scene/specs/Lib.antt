@@ -1,6 +1,7 @@
 pub mod Boxes
 pub mod Colors
 pub mod Commands
+pub mod Edits
 pub mod Members
 pub mod Order
 pub mod Planting

@@ -25,6 +25,11 @@ abbrev pub optional : {A : Type 0} → A → (Data → Option A) → Option Data
 optional default read None = Some default
 optional default read (Some d) = read d
 
+-- This project's own choice: a member that is named or not
+abbrev pub if_given : {A : Type 0} → (Data → Option A) → Option Data → Option (Option A)
+if_given read None = Some None
+if_given read (Some d) = read d >>= λ a. Some (Some a)
+
 -- This project's own choice: a number written as a whole number of 64 bits
 abbrev pub whole : Data → Option ℤ
 whole d = as_number d >>= as_i64

@@ -6,8 +6,9 @@ use Rattle.rd_geom.specs.declared.color.Color.{Color}
 use Rattle.rd_style.specs.declared.styles.Style.{Style}
 use Rattle.rd_style.specs.declared.kinds.Position.{Position}
 use Rattle.rd_style.specs.declared.kinds.Position.TheVariants as position
-use Rattle.rd_style.specs.Changes.{plain}
-use Rattle.rd_scene.specs.Members.{◌>>=◌, only_if, has_only, optional, from_to}
+use Rattle.rd_style.specs.declared.styles.StyleChange.{StyleChange}
+use Rattle.rd_style.specs.Changes.{plain, changed}
+use Rattle.rd_scene.specs.Members.{◌>>=◌, only_if, has_only, if_given, from_to}
 use Rattle.rd_scene.specs.Colors.{color_of}
 
 -- CSS 2.2 section 9.3.1: `position`
@@ -27,15 +28,34 @@ is_auto (Some w) = bytes_eq w (codes "auto")
 abbrev pub z_of : Data → Option (Option ℤ)
 z_of d = if is_auto (as_str d) then Some None else (from_to (negsuc 2147483647) (pos 2147483647) d >>= λ z. Some (Some z))
 
--- the default style with these values
-abbrev pub with_values : Position → Option ℤ → Color → Style
-with_values p z background = record plain { position = p; z = z; background = background }
+-- a change that names these members
+abbrev pub naming : Option Position → Option (Option ℤ) → Option Color → StyleChange
+naming p z background = record {
+  position = p;
+  z = z;
+  opacity = None;
+  overflow = None;
+  display = None;
+  float = None;
+  background = background;
+  border_width = None;
+  border_color = None;
+  content = None;
+  outline_width = None;
+  outline_color = None;
+  visibility = None;
+  pointer = None;
+}
 
--- this project's own choice: a style object's members, of which each may be absent
-unfoldable pub style_of : Data → Option Style
-style_of d = do
+-- This project's own choice: a style object names members, of which each may be absent.
+unfoldable pub change_of : Data → Option StyleChange
+change_of d = do
   ms ← as_object d
-  p ← optional plain.position position_of (get (codes "position") d)
-  z ← optional plain.z z_of (get (codes "z-index") d)
-  background ← optional plain.background color_of (get (codes "background") d)
-  only_if (has_only (codes "position" ∷ codes "z-index" ∷ codes "background" ∷ []) ms) (Some (with_values p z background))
+  p ← if_given position_of (get (codes "position") d)
+  z ← if_given z_of (get (codes "z-index") d)
+  background ← if_given color_of (get (codes "background") d)
+  only_if (has_only (codes "position" ∷ codes "z-index" ∷ codes "background" ∷ []) ms) (Some (naming p z background))
+
+-- This project's own choice: the style of a box has the default where a member is absent.
+abbrev pub style_of : Data → Option Style
+style_of d = change_of d >>= λ c. Some (changed plain c)

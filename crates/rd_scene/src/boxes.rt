@@ -16,8 +16,9 @@ use rd_tree::{Id, IdFault};
 use serde_json::Value;
 use std::alloc::Global;
 
+/// A string that is an id.
 #[tactic(auto, using(crate::proofs::Ids::is_id_decides))]
-fn id_of(alloc: Global, v: &Value) -> Result<Id, SceneFault>
+pub(crate) fn id_of(alloc: Global, v: &Value) -> Result<Id, SceneFault>
     ensures { Gives (λ i. i) result (spec.id_of (view v.now)) }
 {
     let Some(text) = v.as_str() else {
@@ -30,8 +31,9 @@ fn id_of(alloc: Global, v: &Value) -> Result<Id, SceneFault>
     }
 }
 
-fn parent_of(alloc: Global, v: &Value) -> Result<Option<Id>, SceneFault>
-    ensures { Gives (λ i. i) result (spec.parent_of (view v.now)) }
+/// `null` for none, or an id.
+pub(crate) fn id_or_null(alloc: Global, v: &Value) -> Result<Option<Id>, SceneFault>
+    ensures { Gives (λ i. i) result (spec.id_or_null (view v.now)) }
 {
     if v.is_null() {
         return Ok(None);
@@ -55,7 +57,7 @@ fn box_of(alloc: Global, v: &Value) -> Result<SceneBox, SceneFault>
     let Some(parent) = member(v, "parent") else {
         return Err(SceneFault::Form);
     };
-    let parent = parent_of(alloc, parent)?;
+    let parent = id_or_null(alloc, parent)?;
     let Some(rect) = member(v, "rect").and_then(rect_of) else {
         return Err(SceneFault::Form);
     };

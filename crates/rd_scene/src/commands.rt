@@ -6,6 +6,7 @@ ghost use Rattle.rd_scene.specs.Commands as spec;
 ghost use Rattle.rd_scene.specs.Members.{each};
 ghost use Rattle.rd_scene.specs.Reading.{Gives};
 
+use crate::edits::edit_named;
 use crate::fault::SceneFault;
 use crate::members::{has_only, member};
 use crate::script::Command;
@@ -22,18 +23,31 @@ fn command_named(word: &str) -> Option<Command>
     }
 }
 
-#[tactic(auto, unfolding(crate::specs::Commands::command_of))]
-fn command_of(v: &Value) -> Option<Command>
-    ensures { result ≡ spec.command_of (view v.now) }
+/// The command, where the value has no other member.
+fn alone(v: &Value, command: Command) -> Option<Command>
+    ensures { result ≡ spec.alone command (view v.now) }
 {
     let members = v.as_object()?;
-    let word = member(v, "do")?;
-    let word = word.as_str()?;
-    let command = command_named(word)?;
     if has_only(members, &["do"]) {
         Some(command)
     } else {
         None
+    }
+}
+
+#[tactic(auto, unfolding(crate::specs::Commands::command_of))]
+fn command_of(alloc: Global, v: &Value) -> Result<Command, SceneFault>
+    ensures { Gives (λ c. c) result (spec.command_of (view v.now)) }
+{
+    let Some(word) = member(v, "do") else {
+        return Err(SceneFault::Form);
+    };
+    let Some(word) = word.as_str() else {
+        return Err(SceneFault::Form);
+    };
+    match command_named(word) {
+        Some(command) => alone(v, command).ok_or(SceneFault::Form),
+        None => Ok(Command::Change(edit_named(alloc, word, v)?)),
     }
 }
 
@@ -44,9 +58,7 @@ pub(crate) fn commands_of(alloc: Global, list: &[Value]) -> Result<Vec<Command>,
 {
     let mut commands = Vec::new(alloc);
     for v in list {
-        let Some(command) = command_of(v) else {
-            return Err(SceneFault::Form);
-        };
+        let command = command_of(alloc, v)?;
         commands.push(command)?;
     }
     Ok(commands)

@@ -6,6 +6,7 @@
 mod boxes;
 mod colors;
 mod commands;
+mod edits;
 mod fault;
 mod members;
 mod order;
@@ -17,6 +18,7 @@ mod styles;
 
 pub use fault::SceneFault;
 pub use planting::plant;
+pub use rd_edits::Edit;
 pub use reader::read;
 pub use script::{Command, SceneBox, Script};
 

@@ -1,5 +1,6 @@
 //! What a script holds.
 
+use rd_edits::Edit;
 use rd_geom::{Rect, Size};
 use rd_style::Style;
 use rd_tree::Id;
@@ -15,8 +16,10 @@ pub struct SceneBox {
 }
 
 /// What is done to a scene.
-#[derive(Debug, Drop)]
+#[derive(Drop)]
 pub enum Command {
+    /// An edit of the tree.
+    Change(Edit),
     /// Paints what changed.
     Paint,
     /// Writes out the display list.

@@ -3,16 +3,16 @@
 ghost use Rattle.std.specs.Prelude.{◌≡◌, option_map, IfSome};
 ghost use Rattle.serde_json.specs.View.{view};
 ghost use Rattle.serde_json.specs.Find.{as_str};
-ghost use Rattle.rd_style.specs.Changes.{plain};
+ghost use Rattle.rd_style.specs.Changes.{plain, changed};
 ghost use Rattle.rd_style.specs.Limits.{Fits};
-ghost use Rattle.rd_scene.specs.Members.{optional};
+ghost use Rattle.rd_scene.specs.Members.{optional, if_given};
 ghost use Rattle.rd_scene.specs.Styles as spec;
 ghost use Rattle.rd_scene.specs.Colors as colors;
 
 use crate::colors::color_of;
 use crate::members::{from_to, has_only, member};
 use rd_geom::Color;
-use rd_style::{Position, Style};
+use rd_style::{Position, Style, StyleChange, changed};
 use serde_json::Value;
 
 fn position_of(v: &Value) -> Option<Position>
@@ -46,53 +46,82 @@ fn z_of(v: &Value) -> Option<Option<i32>>
     Some(Some(z))
 }
 
-fn position_or(default: Position, v: Option<&Value>) -> Option<Position>
-    ensures { result ≡ optional default spec.position_of (option_map (λ v. view v.now) v.entry) }
+fn position_if(v: Option<&Value>) -> Option<Option<Position>>
+    ensures { result ≡ if_given spec.position_of (option_map (λ v. view v.now) v.entry) }
 {
     match v {
-        Some(v) => position_of(v),
-        None => Some(default),
+        Some(v) => Some(Some(position_of(v)?)),
+        None => Some(None),
     }
 }
 
-fn z_or(default: Option<i32>, v: Option<&Value>) -> Option<Option<i32>>
-    ensures { result ≡ optional default spec.z_of (option_map (λ v. view v.now) v.entry) }
+fn z_if(v: Option<&Value>) -> Option<Option<Option<i32>>>
+    ensures { result ≡ if_given spec.z_of (option_map (λ v. view v.now) v.entry) }
 {
     match v {
-        Some(v) => z_of(v),
-        None => Some(default),
+        Some(v) => Some(Some(z_of(v)?)),
+        None => Some(None),
     }
 }
 
-fn color_or(default: Color, v: Option<&Value>) -> Option<Color>
-    ensures { result ≡ optional default colors.color_of (option_map (λ v. view v.now) v.entry) }
+fn color_if(v: Option<&Value>) -> Option<Option<Color>>
+    ensures { result ≡ if_given colors.color_of (option_map (λ v. view v.now) v.entry) }
 {
     match v {
-        Some(v) => color_of(v),
-        None => Some(default),
+        Some(v) => Some(Some(color_of(v)?)),
+        None => Some(None),
     }
 }
 
-#[tactic(auto, unfolding(crate::specs::Styles::style_of))]
+/// A change that names these members.
+fn naming(
+    position: Option<Position>,
+    z: Option<Option<i32>>,
+    background: Option<Color>,
+) -> StyleChange
+    ensures { result ≡ spec.naming position z background }
+{
+    StyleChange {
+        position,
+        z,
+        opacity: None,
+        overflow: None,
+        display: None,
+        float: None,
+        background,
+        border_width: None,
+        border_color: None,
+        content: None,
+        outline_width: None,
+        outline_color: None,
+        visibility: None,
+        pointer: None,
+    }
+}
+
+/// The members of a style object, of which each may be absent.
+#[tactic(auto, unfolding(crate::specs::Styles::change_of))]
+pub(crate) fn change_of(v: &Value) -> Option<StyleChange>
+    ensures value { result ≡ spec.change_of (view v.now) }
+    ensures fits { IfSome result (λ c. Fits (changed plain c)) }
+{
+    let members = v.as_object()?;
+    let position = position_if(member(v, "position"))?;
+    let z = z_if(member(v, "z-index"))?;
+    let background = color_if(member(v, "background"))?;
+    if has_only(members, &["position", "z-index", "background"]) {
+        Some(naming(position, z, background))
+    } else {
+        None
+    }
+}
+
 fn style_of(v: &Value) -> Option<Style>
     ensures value { result ≡ spec.style_of (view v.now) }
     ensures fits { IfSome result (λ s. Fits s) }
 {
-    let members = v.as_object()?;
-    let plain = Style::plain();
-    let position = position_or(plain.position, member(v, "position"))?;
-    let z = z_or(plain.z, member(v, "z-index"))?;
-    let background = color_or(plain.background, member(v, "background"))?;
-    if has_only(members, &["position", "z-index", "background"]) {
-        Some(Style {
-            position,
-            z,
-            background,
-            ..plain
-        })
-    } else {
-        None
-    }
+    let change = change_of(v)?;
+    Some(changed(&Style::plain(), &change))
 }
 
 /// The style that a box's member gives; without it, the default style.

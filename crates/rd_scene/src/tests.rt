@@ -168,6 +168,83 @@ fn scripts_of_the_form(rt: HostRuntime) -> Result<(), Fail> {
 }
 
 #[test]
+fn edits_of_the_form(rt: HostRuntime) -> Result<(), Fail> {
+    let alloc = rt.alloc();
+    for (command, want) in [
+        (
+            "{\"do\":\"insert\",\"id\":\"a\",\"parent\":\"Z\",\"rect\":[0,0,1,1]}",
+            "script",
+        ),
+        (
+            "{\"do\":\"insert\",\"id\":\"a\",\"parent\":\"root\",\"before\":null,\"rect\":[0,0,1,1],\"style\":{}}",
+            "script",
+        ),
+        (
+            "{\"do\":\"insert\",\"id\":\"a\",\"parent\":\"root\",\"before\":\"b\",\"rect\":[0,0,1,1],\"style\":{\"z-index\":\"auto\"}}",
+            "script",
+        ),
+        (
+            "{\"do\":\"insert\",\"id\":\"a\",\"parent\":null,\"rect\":[0,0,1,1]}",
+            "form",
+        ),
+        (
+            "{\"do\":\"insert\",\"id\":\"a\",\"parent\":\"root\"}",
+            "form",
+        ),
+        ("{\"do\":\"style\",\"id\":\"a\",\"style\":{}}", "script"),
+        (
+            "{\"do\":\"style\",\"id\":\"a\",\"style\":{\"position\":\"fixed\",\"background\":\"transparent\"}}",
+            "script",
+        ),
+        ("{\"do\":\"style\",\"id\":\"a\"}", "form"),
+        (
+            "{\"do\":\"style\",\"id\":\"a\",\"style\":{\"position\":1}}",
+            "form",
+        ),
+        (
+            "{\"do\":\"rect\",\"id\":\"a\",\"rect\":[0,0,1000000,0]}",
+            "script",
+        ),
+        (
+            "{\"do\":\"rect\",\"id\":\"a\",\"rect\":[0,0,1000001,0]}",
+            "form",
+        ),
+        (
+            "{\"do\":\"rect\",\"id\":\"a\",\"rect\":[0,0,1,1],\"x\":1}",
+            "form",
+        ),
+        (
+            "{\"do\":\"shift\",\"id\":\"a\",\"dx\":-2000000,\"dy\":2000000}",
+            "script",
+        ),
+        (
+            "{\"do\":\"shift\",\"id\":\"a\",\"dx\":-2000001,\"dy\":0}",
+            "form",
+        ),
+        (
+            "{\"do\":\"shift\",\"id\":\"a b\",\"dx\":0,\"dy\":0}",
+            "form",
+        ),
+    ] {
+        let text = script(alloc, CANVAS, ROOT, command)?;
+        assert_eq!(rt; outcome(alloc, text.as_str()), want, "{text}");
+    }
+    let text = script(
+        alloc,
+        CANVAS,
+        ROOT,
+        "{\"do\":\"shift\",\"id\":\"a\",\"dx\":3,\"dy\":-2}",
+    )?;
+    let script = read(alloc, text.as_bytes())?;
+    let [Command::Change(Edit::Shift { id, dx, dy })] = script.commands.as_slice() else {
+        panic!(&rt; "no shift")
+    };
+    assert_eq!(rt; id.text(), "a");
+    assert_eq!(rt; (*dx, *dy), (3, -2));
+    Ok(())
+}
+
+#[test]
 fn large_scenes(rt: HostRuntime) -> Result<(), Fail> {
     let alloc = rt.alloc();
     for (boxes, deep, want) in [

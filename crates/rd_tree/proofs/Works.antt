@@ -1,13 +1,17 @@
 -- Work on a box, on those below it, and on its later siblings.
-use Rattle.std.proofs.Common.{◌≡◌, refl, ap, ◌∙◌, sym, subst, ℤ, ℕ, zero, suc, ◌+◌, ◌<◌, ◌≤◌, Bool, true, false, ◌||◌, ◌&&◌, not, cond, arith, inl, inr}
-use Rattle.std.specs.Prelude.{Option, Some, None, option_map}
+use Rattle.std.proofs.Common.{◌≡◌, refl, ap, ◌∙◌, sym, subst, ℤ, ℕ, zero, suc, max, ◌+◌, ◌<◌, ◌≤◌, Bool, true, false, ◌||◌, ◌&&◌, not, cond, arith, inl, inr}
+use Rattle.std.proofs.Common.{nat_cmp}
+use Rattle.std.proofs.Math.Dec.{ltb}
+use Rattle.std.proofs.lemmas.Bool.{ltb-true, ltb-false}
+use Rattle.std.specs.Ordering.{ord_max}
+use Rattle.std.specs.Prelude.{◌==◌, Option, Some, None, option_map}
 use Rattle.rd_keys.specs.Keys.{same_key}
 use Rattle.rd_keys.specs.Arena.{Arena}
 use Rattle.rd_keys.proofs.Keys.{same_key-sound, same_key-refl}
 use Rattle.rd_tree.specs.declared.node.Node as inner
 use Rattle.rd_style.specs.Limits.{FitsRect}
 use Rattle.rd_tree.specs.declared.walk.Work.{Work}
-use Rattle.rd_tree.specs.Forest.{Forest, empty, tree, size, has, AreApart, IsApart, AllItems}
+use Rattle.rd_tree.specs.Forest.{Forest, empty, tree, size, height, has, AreApart, IsApart, AllItems}
 use Rattle.rd_tree.specs.Links.{Node, node, with_item, Stands, read, edit, on_each, onward_of}
 use Rattle.rd_tree.specs.Document.{BoxKey, Item, Boxes}
 use Rattle.rd_tree.specs.Linked.{linked, Relinks, IsRead, seen_from}
@@ -325,3 +329,58 @@ here_said a k dx dy h = at (linked a k) refl where
   at : (o : Option (Node BoxKey Item)) → linked a k ≡ o → ShiftFitsAt dx dy o
   at None e = tt
   at (Some n) e = h n e
+
+-- The loop has measured those boxes that are told from the first one on, and no more from this one on.
+pub record Measured (a : Arena inner.Node) (first at : Option BoxKey) (most : ℕ) : Type 0 where
+  pub read : IsRead a at
+  pub sum : max most (height (seen_from a at)) ≡ height (seen_from a first)
+  pub smaller : size (seen_from a at) ≤ size (seen_from a first)
+
+pub record MeasuredStep (a : Arena inner.Node) (first : Option BoxKey) (k : BoxKey) (x z : Option BoxKey) (most : ℕ) : Type 0 where
+  pub read : IsRead a x
+  pub smaller : size (seen_from a x) < size (seen_from a first)
+  pub later : size (seen_from a z) < size (seen_from a (Some k))
+  pub next : (low : ℕ) → low ≡ height (seen_from a x) → Measured a first z (max most (low + 1))
+
+pub measured_step : (a : Arena inner.Node) (first : Option BoxKey) (k : BoxKey) (x z : Option BoxKey) (most : ℕ) → Measured a first (Some k) most → (x, z) ≡ onward_of (linked a k) → MeasuredStep a first k x z most
+measured_step a first k x z most w e =
+    let h : Here a k = here a k w.read in
+    let ex : x ≡ h.x = ap (λ o. o.0) e ∙ ap (λ o. (onward_of o).0) h.found in
+    let ez : z ≡ h.z = ap (λ o. o.1) e ∙ ap (λ o. (onward_of o).1) h.found in
+    let low : IsRead a h.x = record { boxes = h.below; up = Some k; prev = None; last = h.y; stands = h.low; apart = h.apart.3; small = omega (arith, h.small) } in
+    let later : IsRead a h.z = record { boxes = h.rest; up = h.up; prev = Some k; last = h.last; stands = h.later; apart = h.apart.4; small = omega (arith, h.small) } in
+    let sl : seen_from a h.x ≡ h.below = seen_read a h.x low in
+    let sr : seen_from a h.z ≡ h.rest = seen_read a h.z later in
+    let n : size (seen_from a (Some k)) ≡ 1 + (size h.below + size h.rest) = ap size h.seen in
+    let m : size (seen_from a h.x) ≡ size h.below = ap size sl in
+    let r : size (seen_from a h.z) ≡ size h.rest = ap size sr in
+    let tall : height (seen_from a (Some k)) ≡ max (1 + height h.below) (height h.rest) = ap height h.seen in
+    let tl : height (seen_from a h.x) ≡ height h.below = ap height sl in
+    let tr : height (seen_from a h.z) ≡ height h.rest = ap height sr in
+    subst (λ o. MeasuredStep a first k o z most) (sym ex) (subst (λ o. MeasuredStep a first k h.x o most) (sym ez) (record {
+      read = low;
+      smaller = omega (arith, n, m, w.smaller);
+      later = omega (arith, n, r);
+      next = λ l v. record { read = later; sum = omega (arith, w.sum, tall, tl, tr, v); smaller = omega (arith, n, r, w.smaller) };
+    }))
+
+pub nothing_left : (a : Arena inner.Node) (first : Option BoxKey) (most : ℕ) → Measured a first None most → most ≡ height (seen_from a first)
+nothing_left a first most w =
+    let z : height (seen_from a None) ≡ 0 = ap height (nothing a.limit) in
+    omega (arith, w.sum, z) where
+      nothing : (n : ℕ) → read n (linked a) None ≡ empty
+      nothing zero = refl
+      nothing (suc n) = refl
+
+height_size : (f : Boxes) → height f ≤ size f
+height_size empty = omega arith
+height_size (tree k d below rest) = omega (arith, height_size below, height_size rest)
+
+pub height_small : (a : Arena inner.Node) (o : Option BoxKey) → IsRead a o → height (seen_from a o) ≤ a.limit
+height_small a o r = omega (arith, height_size (seen_from a o), ap size (seen_read a o r), r.small)
+
+pub max_is : (a b : ℕ) → ord_max nat_cmp a b ≡ max a b
+max_is a b = elim (cases (ltb b a)) [
+  | inl e ↦ let l : b < a = ltb-true b a e in rw e (omega (arith, l))
+  | inr e ↦ let l : a ≤ b = ltb-false b a e in elim (cases (b == a)) [ inl f ↦ rw (e, f) (omega (arith, l)) | inr f ↦ rw (e, f) (omega (arith, l)) ]
+]

@@ -1,0 +1,158 @@
+//! What no clause says: that each edit can be done, and which number each refusal has.
+
+use super::*;
+use rd_geom::{NoMemory, Rect, Size};
+use rd_style::{Style, StyleChange};
+use rd_tree::{Id, IdFault, Tree};
+use std::alloc::Global;
+use std::marker::Brand;
+use std::process::Abort;
+use std::sync::ledger::Ledger;
+use std::test::Fail;
+
+fn rect(rt: &impl Abort, x: i32, y: i32, w: i32, h: i32) -> Rect {
+    Rect::new(x, y, w, h).expect(rt, "a rectangle")
+}
+
+/// The number of the refusal, or 0.
+fn number<B: Ledger>(tree: &mut Tree<B>, edit: &Edit) -> u8 {
+    match apply(tree, edit) {
+        Ok(()) => 0,
+        Err(fault) => fault.number(),
+    }
+}
+
+/// The root alone, on a canvas of 10 by 10.
+fn planted<B: Ledger>(rt: &impl Abort, alloc: Global) -> Result<Tree<B>, Fail> {
+    let root = Id::new(alloc, "root")?;
+    let rect = rect(rt, 0, 0, 10, 10);
+    assert!(rt; rd_style::fits_rect(rect));
+    let style = Style::plain();
+    assert!(rt; rd_style::fits(&style));
+    Ok(Tree::new(alloc, Size { w: 10, h: 10 }, root, rect, style)?)
+}
+
+fn insertion(
+    alloc: Global,
+    id: &str,
+    parent: &str,
+    before: Option<&str>,
+    rect: Rect,
+) -> Result<Edit, IdFault> {
+    let before = match before {
+        Some(before) => Some(Id::new(alloc, before)?),
+        None => None,
+    };
+    Ok(Edit::Insert {
+        id: Id::new(alloc, id)?,
+        parent: Id::new(alloc, parent)?,
+        before,
+        rect,
+        style: Style::plain(),
+    })
+}
+
+/// A change that names the outline's width.
+fn outlined(width: u16) -> StyleChange {
+    StyleChange {
+        position: None,
+        z: None,
+        opacity: None,
+        overflow: None,
+        display: None,
+        float: None,
+        background: None,
+        border_width: None,
+        border_color: None,
+        content: None,
+        outline_width: Some(width),
+        outline_color: None,
+        visibility: None,
+        pointer: None,
+    }
+}
+
+#[test]
+fn boxes_more(rt: HostRuntime) -> Result<(), Fail> {
+    let alloc = rt.alloc();
+    let mut tree = planted::<Brand>(&rt, alloc)?;
+    let near = rect(&rt, 7, 7, 2, 2);
+    let wide = rect(&rt, 0, 0, 1_000_001, 1);
+    for (id, parent, before, rect, want) in [
+        ("A", "root", None, near, 0),
+        ("B", "root", None, near, 0),
+        ("C", "root", Some("B"), near, 0),
+        ("X", "Z", Some("Z"), wide, 2),
+        ("B", "A", Some("C"), wide, 5),
+        ("X", "A", Some("Z"), near, 5),
+        ("X", "A", Some("A"), near, 5),
+        ("B", "root", None, wide, 6),
+        ("X", "A", None, wide, 9),
+        ("X", "A", None, near, 0),
+    ] {
+        let edit = insertion(alloc, id, parent, before, rect)?;
+        assert_eq!(rt; number(&mut tree, &edit), want, "{id} {parent}");
+    }
+    Ok(())
+}
+
+#[test]
+fn boxes_changed(rt: HostRuntime) -> Result<(), Fail> {
+    let alloc = rt.alloc();
+    let mut tree = planted::<Brand>(&rt, alloc)?;
+    let near = rect(&rt, 7, 7, 2, 2);
+    let wide = rect(&rt, 0, 0, 1_000_001, 1);
+    let edit = insertion(alloc, "C", "root", None, near)?;
+    assert_eq!(rt; number(&mut tree, &edit), 0);
+    for (id, rect, width, dx, want) in [
+        ("Z", near, 1, 0, 1),
+        ("Z", wide, 1001, 2_000_000, 1),
+        ("C", wide, 1001, 999_994, 9),
+        ("C", near, 1000, 999_993, 0),
+    ] {
+        let edit = Edit::SetRect {
+            id: Id::new(alloc, id)?,
+            rect,
+        };
+        assert_eq!(rt; number(&mut tree, &edit), want, "{id} {width}");
+        let edit = Edit::SetStyle {
+            id: Id::new(alloc, id)?,
+            change: outlined(width),
+        };
+        assert_eq!(rt; number(&mut tree, &edit), want, "{id} {width}");
+        let edit = Edit::Shift {
+            id: Id::new(alloc, id)?,
+            dx,
+            dy: 0,
+        };
+        assert_eq!(rt; number(&mut tree, &edit), want, "{id} {width}");
+    }
+    Ok(())
+}
+
+/// The id of the box of this number.
+fn numbered(alloc: Global, number: u32) -> Result<String, NoMemory> {
+    if number == 1 {
+        return String::from_str(alloc, "root");
+    }
+    format!(in alloc; "d{number}")
+}
+
+#[test]
+fn levels_and_boxes(rt: HostRuntime) -> Result<(), Fail> {
+    let alloc = rt.alloc();
+    for (most, deep, want) in [(256, true, 7), (20_000, false, 8)] {
+        let mut tree = planted::<Brand>(&rt, alloc)?;
+        let rect = rect(&rt, 0, 0, 1, 1);
+        for last in 1..most {
+            let parent = numbered(alloc, if deep { last } else { 1 })?;
+            let id = numbered(alloc, last + 1)?;
+            let edit = insertion(alloc, id.as_str(), parent.as_str(), None, rect)?;
+            assert_eq!(rt; number(&mut tree, &edit), 0, "{id}");
+        }
+        let parent = numbered(alloc, if deep { most } else { 1 })?;
+        let edit = insertion(alloc, "x", parent.as_str(), None, rect)?;
+        assert_eq!(rt; number(&mut tree, &edit), want, "{most}");
+    }
+    Ok(())
+}
