@@ -36,7 +36,7 @@ run_on a b d (c ∷ cs) ds t u r s =
 pub paint_goes : (s : State) → IsSound s.tree → (t : State) × (text : List ℕ) × Paints s text t × IsSound t.tree
 paint_goes s h =
     let n = s.paints + 1 in (
-      record { tree = s.tree; last = Some s.tree; pending = false; paints = s.paints + 1; kept = stamped n (fresh_list s.tree) },
+      record { tree = settled_tree s.tree; last = Some s.tree; pending = false; paints = s.paints + 1; kept = stamped n (fresh_list s.tree) },
       paint_line (s.paints + 1) (built s) (kept_on s) (pixels_in (canvas_of s.tree.canvas) (invalid_area s)),
       record {
         stands = rw (leaves-stamped) (stands_for_itself s.tree h.apart);
@@ -44,7 +44,7 @@ paint_goes s h =
         settled = refl;
         told = refl;
       },
-      h,
+      settled_sound s.tree h,
     )
 
 settle_goes : (b : Bool) (s : State) → IsSound s.tree → (t : State) × (text : List ℕ) × Settles b s text t × IsSound t.tree
@@ -92,20 +92,21 @@ gains_none (Some x) (Some y) None a rest p q = absurd q
 gains_none (Some x) (Some y) (Some z) a rest p q = record { part = a; rest = rest; whole = refl; gained = q ∙ p }
 
 pub step_on : (a b e : State) (xs : List Command) (i : ℕ) (d : Command) (t u : List ℕ) → i < length xs
-    → Run a (take i xs) t b → Step b (get_or xs i d) u e → Run a (take (i + 1) xs) (t ++ u) e
-step_on a b e xs i d t u h r s =
-    rw (take_more xs i d h) (run_more a b e (take i xs) (get_or xs i d) t u r s)
+    → d ≡ get_or xs i d → Run a (take i xs) t b → Step b d u e → Run a (take (i + 1) xs) (t ++ u) e
+step_on a b e xs i d t u h is r s =
+    let here : Step b (get_or xs i d) u e = subst (λ (x : Command). Step b x u e) is s in
+    rw (take_more xs i d h) (run_more a b e (take i xs) (get_or xs i d) t u r here)
 
 -- a part of the answer to all, where a step's answer went through in part
 pub part_on : (a b e : State) (xs : List Command) (i : ℕ) (d : Command) (t u : List ℕ) (o m n : Option (List ℕ)) → i < length xs
-    → Run a (take i xs) t b → Step b (get_or xs i d) u e → IsSound e.tree → Appends o m t → GainsPart m n u
+    → d ≡ get_or xs i d → Run a (take i xs) t b → Step b d u e → IsSound e.tree → Appends o m t → GainsPart m n u
     → AnswersPart a xs o n
-part_on a b e xs i d t u o m n h r s w p q =
+part_on a b e xs i d t u o m n h is r s w p q =
     let z = run_goes e (drop (i + 1) xs) w in (
       z.0,
       (t ++ u) ++ z.1,
       subst (λ (cs : List Command). Run a cs ((t ++ u) ++ z.1) (z.0)) (take-append-drop (i + 1) xs)
-          (run_on a e (z.0) (take (i + 1) xs) (drop (i + 1) xs) (t ++ u) (z.1) (step_on a b e xs i d t u h r s) z.2),
+          (run_on a e (z.0) (take (i + 1) xs) (drop (i + 1) xs) (t ++ u) (z.1) (step_on a b e xs i d t u h is r s) z.2),
       gains_more o m n t u (z.1) p q,
     )
 

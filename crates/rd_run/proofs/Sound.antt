@@ -1,26 +1,30 @@
 -- Trees stay sound: each key at one place, on the same canvas.
 use Rattle.std.proofs.Common.{◌≡◌, refl, ap, ◌∙◌, sym, subst, ℕ, ◌+◌, ◌≤◌, ◌<◌, Bool, true, false, ◌&&◌, ◌||◌, cond, Option, Some, None, List, [], ◌∷◌, length, arith, inl, inr, ◌⊎◌}
-use Rattle.std.specs.Prelude.{is_none, ◌==◌}
+use Rattle.std.specs.Prelude.{is_none, ◌==◌, Result, Ok, Err, IfOk}
 use Rattle.rd_geom.specs.Canvas.{IsCanvas}
 use Rattle.rd_keys.specs.Keys.{BoxKey, same_key}
 use Rattle.rd_keys.proofs.Keys.{same_key-sound, same_key-refl}
 use Rattle.rd_style.specs.declared.styles.StyleChange.{StyleChange}
 use Rattle.rd_tree.specs.declared.node.Item.{Item}
-use Rattle.rd_tree.specs.declared.reach.Reach.{Reach}
-use Rattle.rd_tree.specs.declared.reach.Reach.TheVariants.{Nothing, Alone, Subtree}
 use Rattle.rd_tree.specs.Document.{Document, Boxes, IsUsed, named, with_child}
-use Rattle.rd_tree.specs.Forest.{empty, tree, has, children, under, amid, ahead, is_among, each_if, at_box, ◌▷◌, AreApart, IsApart}
-use Rattle.rd_tree.specs.Edits.{restyled, replaced, touched_by, style_reach, rect_reach}
+use Rattle.rd_tree.specs.Forest.{empty, tree, has, children, under, amid, ahead, in_subtree, at_subtree, ◌▷◌, AreApart, IsApart}
+use Rattle.rd_tree.specs.Works.{settled, move_by}
+use Rattle.rd_tree.specs.Edits.{restyled, replaced}
 use Rattle.rd_tree.proofs.Standing.{cases, refute, never, either, from_left, out_of_children, has-join}
 use Rattle.rd_tree.proofs.Under.{apart_under, apart_join}
 use Rattle.rd_tree.proofs.Each.{apart_each}
+use Rattle.rd_tree.proofs.Apart.{restyled-apart, replaced-apart}
 use Rattle.rd_scene.proofs.Names.{named_there}
 use Rattle.rd_edits.specs.declared.edit.Edit.{Edit}
 use Rattle.rd_edits.specs.declared.edit.Edit.TheVariants.{Insert, SetStyle, SetRect, Shift}
 use Rattle.rd_edits.specs.Edited.{IsEdited, IsChanged}
-use Rattle.rd_edits.specs.Refusals.{refusal_of, first_that, is_unknown}
-use Rattle.rd_run.specs.Machine.{settled_tree}
-use Rattle.rd_run.specs.Display.{IsSound}
+use Rattle.rd_edits.specs.Limits.{fits_rect, fits, fits_change, fits_shift}
+use Rattle.rd_edits.specs.Refusals as refusals
+use Rattle.rd_edits.specs.Refusals.{refusal_of, first_that, is_unknown, is_known, is_one, is_elsewhere, is_too_deep, is_full}
+use Rattle.rd_run.specs.Lines.{ok_line}
+use Rattle.rd_run.specs.Machine.{State, settled_tree, Edits}
+use Rattle.rd_run.specs.Display.{IsSound, Shows, Answers}
+use Rattle.rd_run.specs.declared.display.Display.{Display}
 
 -- ---- a new child
 
@@ -104,14 +108,9 @@ module _ (k : BoxKey) (d : Item) where
 -- ---- settled
 
 pub settled_sound : (t : Document) → IsSound t → IsSound (settled_tree t)
-settled_sound t h = record { apart = apart_each (λ k. true) _ same_key t.boxes h.apart; canvas = h.canvas }
+settled_sound t h = record { apart = apart_each (λ k. true) settled same_key t.boxes h.apart; canvas = h.canvas }
 
 -- ---- edited
-
-touched-apart : (r : Reach) (k : BoxKey) (f : Boxes) → IsApart same_key f → IsApart same_key (touched_by r k f)
-touched-apart Nothing k f a = a
-touched-apart Alone k f a = apart_each _ _ same_key f a
-touched-apart Subtree k f a = apart_each _ _ same_key f a
 
 changed_sound : (i : List ℕ) (g : BoxKey → Boxes) (old new : Document) → ((k : BoxKey) → IsApart same_key (g k)) → IsChanged i g old new → IsSound old → IsSound new
 changed_sound i g old new apart h s =
@@ -124,10 +123,12 @@ edited_sound (Insert i parent before rect style) old new h s =
       canvas = s.canvas;
     })
 edited_sound (SetStyle i change) old new h s =
-    changed_sound i (λ k. restyled old.root k change old.boxes) old new (λ k. touched-apart _ k _ (apart_each _ _ same_key old.boxes s.apart)) h s
+    changed_sound i (λ k. restyled old.root k change old.boxes) old new (λ k. restyled-apart old.root k change old.boxes s.apart) h s
 edited_sound (SetRect i rect) old new h s =
-    changed_sound i (λ k. replaced old.root k rect old.boxes) old new (λ k. touched-apart _ k _ (apart_each _ _ same_key old.boxes s.apart)) h s
-edited_sound (Shift i dx dy) old new h s = changed_sound i _ old new (λ k. apart_each _ _ same_key old.boxes s.apart) h s
+    changed_sound i (λ k. replaced old.root k rect old.boxes) old new (λ k. replaced-apart old.root k rect old.boxes s.apart) h s
+edited_sound (Shift i dx dy) old new h s = 
+    changed_sound i (λ k. at_subtree same_key k (move_by dx dy) old.boxes) old new
+      (λ k. apart_each (λ j. in_subtree same_key j k old.boxes) (move_by dx dy) same_key old.boxes s.apart) h s
 
 -- ---- an edit that no test refuses can be done
 
@@ -157,14 +158,31 @@ unused t = record t.root { slot = 1 + (length t.slots + slots_of t.boxes); gener
 
 pub edit_goes : (e : Edit) (t : Document) → refusal_of t e ≡ None → (next : Document) × IsEdited e t next
 edit_goes (Insert i parent before rect style) t h =
-    let p = some_of (named parent t.boxes) (not_first 2 (is_unknown parent t) _ h) in
+    let tests : List (ℕ × Bool) = (5, is_one (λ p. is_elsewhere before p t) parent t) ∷ (6, is_known i t) ∷ (7, is_one (λ p. is_too_deep 1 p t) parent t) ∷ (8, is_full t) ∷ (9, refusals.not (fits_rect rect && fits style)) ∷ [] in
+    let p = some_of (named parent t.boxes) (not_first 2 (is_unknown parent t) tests h) in
     (_, (p.0, unused t, p.1, (λ u. let l = u.0 in omega (arith, l)), beyond (unused t) t.boxes (omega arith), refl))
 edit_goes (SetStyle i change) t h =
-    let k = some_of (named i t.boxes) (not_first 1 (is_unknown i t) _ h) in
+    let k = some_of (named i t.boxes) (not_first 1 (is_unknown i t) ((9, refusals.not (fits_change change)) ∷ []) h) in
     (_, (k.0, k.1, refl))
 edit_goes (SetRect i rect) t h =
-    let k = some_of (named i t.boxes) (not_first 1 (is_unknown i t) _ h) in
+    let k = some_of (named i t.boxes) (not_first 1 (is_unknown i t) ((9, refusals.not (fits_rect rect)) ∷ []) h) in
     (_, (k.0, k.1, refl))
 edit_goes (Shift i dx dy) t h =
-    let k = some_of (named i t.boxes) (not_first 1 (is_unknown i t) _ h) in
+    let k = some_of (named i t.boxes) (not_first 1 (is_unknown i t) ((9, is_one (λ k. refusals.not (fits_shift dx dy k t.boxes)) i t) ∷ []) h) in
     (_, (k.0, k.1, refl))
+
+-- an edit that is done is a step of the machine
+pub changed : (s : State) (t next_t : Document) (d now : Display) (e : Edit) (text : List ℕ) → Shows t d s → refusal_of t e ≡ None → IsEdited e t next_t → text ≡ ok_line
+    → now ≡ record { list = d.list; pending = true; paints = d.paints } → Answers (λ old x new. Edits (refusal_of old.tree e) e old x new) s text next_t now
+changed s t next_t d now e text h r m w n =
+    let next : State = record s { tree = next_t; pending = true } in
+    let none : refusal_of s.tree e ≡ None = ap (λ x. refusal_of x e) h.tree ∙ r in
+    let edited : IsEdited e s.tree next_t = subst (λ (x : Document). IsEdited e x next_t) (sym h.tree) m in
+    (next,
+     subst (λ (o : Option ℕ). Edits o e s text next) (sym none) (w, next_t, edited, refl),
+     rw n (record { tree = refl; pending = refl; paints = h.paints; kept = h.kept; sound = edited_sound e s.tree next_t edited h.sound }))
+
+-- what holds of a success still holds where more follows
+pub ok_map : {A E : Type 0} (P Q : A → Type 0) (r : Result A E) → ((x : A) → P x → Q x) → IfOk r P → IfOk r Q
+ok_map P Q (Ok x) f h = f x h
+ok_map P Q (Err e) f h = tt

@@ -1,0 +1,4 @@
+use Rattle.rd_run.proofs.display.Display.answer.Goals as goal
+
+pub returns-in-Change-clause-ok : goal.returns-in-Change-clause-ok
+returns-in-Change-clause-ok g c = rw c.in-Change.is c.change.ensures.ok
