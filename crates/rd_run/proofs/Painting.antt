@@ -76,12 +76,13 @@ pub painted : (s : State) (t now_t : Document) (old now : Display) (text : List 
 painted s t now_t old now text h m k p n w =
     let next : State = record { tree = settled_tree s.tree; last = Some s.tree; pending = false; paints = s.paints + 1; kept = stamped now.paints now.list } in
     let same : fresh_list s.tree ≡ now.list = ap fresh_list h.tree ∙ sym k in
-    let meets = all_meet s.tree h.sound in
-    (next,
-     record {
-       stands = rw (leaves-stamped, ← same) (stands_for_itself s.tree h.sound.apart);
-       numbers = made_now s now.paints now.list (n ∙ ap (λ m. m + 1) (sym h.paints)) (rw (← same) meets);
-       settled = refl;
-       told = rw (w, count_all _ _ meets, count_none _ _ meets, whole_canvas s.tree.canvas h.sound.canvas.some_wide h.sound.canvas.some_high, h.tree, h.paints) refl;
-     },
-     record { tree = ap settled_tree h.tree ∙ sym m; pending = sym p; paints = ap (λ m. m + 1) h.paints ∙ sym n; kept = refl; sound = settled_sound s.tree h.sound })
+    let meets = all_meet s.tree h.sound in (
+      next,
+      record {
+        stands = rw (leaves-stamped, ← same) (stands_for_itself s.tree h.sound.apart);
+        numbers = made_now s now.paints now.list (n ∙ ap (λ m. m + 1) (sym h.paints)) (rw (← same) meets);
+        settled = refl;
+        told = rw (w, count_all _ _ meets, count_none _ _ meets, whole_canvas s.tree.canvas h.sound.canvas.some_wide h.sound.canvas.some_high, h.tree, h.paints) refl;
+      },
+      record { tree = ap settled_tree h.tree ∙ sym m; pending = sym p; paints = ap (λ m. m + 1) h.paints ∙ sym n; kept = refl; sound = settled_sound s.tree h.sound },
+    )

@@ -84,8 +84,13 @@ module _ (k : BoxKey) (d : Item) where
       let far : same_key m k ≡ false = differ m k (tree m e below rest) n (from_left (same_key m m) (has same_key m below || has same_key m rest) (same_key-refl m)) in
       elim (same_key j m) as (λ v. IsApart same_key (cond v (tree k d empty (tree m e below rest)) (tree m e below (ahead same_key j (tree k d empty empty) rest)))) [
         | true ↦ (refl, n, (λ x h. absurd (let no : false ≡ true = h in cc)), tt, a)
-        | false ↦ (a.0, has-ahead m j rest ∙ rw (far, a.1) refl,
-            (λ x h. has-ahead x j rest ∙ rw (differ x k below u.0 h, a.2 x h) refl), a.3, ahead-apart j rest a.4 u.1)
+        | false ↦ (
+          a.0,
+          has-ahead m j rest ∙ rw (far, a.1) refl,
+          (λ x h. has-ahead x j rest ∙ rw (differ x k below u.0 h, a.2 x h) refl),
+          a.3,
+          ahead-apart j rest a.4 u.1,
+        )
       ]
 
   grown-apart : (before : Option BoxKey) (f : Boxes) → IsApart same_key f → has same_key k f ≡ false → IsApart same_key (grown before f)
@@ -99,7 +104,7 @@ module _ (k : BoxKey) (d : Item) where
       let c : Boxes = children same_key p f in
       let out : has same_key k c ≡ false = out_of_children same_key same_key-sound same_key-refl k p f n in
       apart_under same_key same_key-sound same_key-refl p (grown before c) f a (grown-apart before c (children-apart p f a) out) m
-        (λ x u v. second (same_key x k) (has same_key x c) (sym (has-grown x before c) ∙ u) (differ x k f n v))
+      (λ x u v. second (same_key x k) (has same_key x c) (sym (has-grown x before c) ∙ u) (differ x k f n v))
     where
       second : (b o : Bool) → (b || o) ≡ true → b ≡ false → o ≡ true
       second true o h z = absurd (let no : true ≡ false = z in cc)
@@ -126,9 +131,9 @@ edited_sound (SetStyle i change) old new h s =
     changed_sound i (λ k. restyled old.root k change old.boxes) old new (λ k. restyled-apart old.root k change old.boxes s.apart) h s
 edited_sound (SetRect i rect) old new h s =
     changed_sound i (λ k. replaced old.root k rect old.boxes) old new (λ k. replaced-apart old.root k rect old.boxes s.apart) h s
-edited_sound (Shift i dx dy) old new h s = 
+edited_sound (Shift i dx dy) old new h s =
     changed_sound i (λ k. at_subtree same_key k (move_by dx dy) old.boxes) old new
-      (λ k. apart_each (λ j. in_subtree same_key j k old.boxes) (move_by dx dy) same_key old.boxes s.apart) h s
+    (λ k. apart_each (λ j. in_subtree same_key j k old.boxes) (move_by dx dy) same_key old.boxes s.apart) h s
 
 -- ---- an edit that no test refuses can be done
 
@@ -177,10 +182,11 @@ pub changed : (s : State) (t next_t : Document) (d now : Display) (e : Edit) (te
 changed s t next_t d now e text h r m w n =
     let next : State = record s { tree = next_t; pending = true } in
     let none : refusal_of s.tree e ≡ None = ap (λ x. refusal_of x e) h.tree ∙ r in
-    let edited : IsEdited e s.tree next_t = subst (λ (x : Document). IsEdited e x next_t) (sym h.tree) m in
-    (next,
-     subst (λ (o : Option ℕ). Edits o e s text next) (sym none) (w, next_t, edited, refl),
-     rw n (record { tree = refl; pending = refl; paints = h.paints; kept = h.kept; sound = edited_sound e s.tree next_t edited h.sound }))
+    let edited : IsEdited e s.tree next_t = subst (λ (x : Document). IsEdited e x next_t) (sym h.tree) m in (
+      next,
+      subst (λ (o : Option ℕ). Edits o e s text next) (sym none) (w, next_t, edited, refl),
+      rw n (record { tree = refl; pending = refl; paints = h.paints; kept = h.kept; sound = edited_sound e s.tree next_t edited h.sound }),
+    )
 
 -- what holds of a success still holds where more follows
 pub ok_map : {A E : Type 0} (P Q : A → Type 0) (r : Result A E) → ((x : A) → P x → Q x) → IfOk r P → IfOk r Q

@@ -169,6 +169,43 @@ fn the_base_scene_is_dumped_in_tree_order(rt: HostRuntime) -> Result<(), Fail> {
 }
 
 #[test]
+fn edits_are_done_or_refused_by_the_first_test_that_holds(rt: HostRuntime) -> Result<(), Fail> {
+    let alloc = rt.alloc();
+    let commands = "{\"do\":\"style\",\"id\":\"Z\",\"style\":{}},\
+{\"do\":\"insert\",\"id\":\"X\",\"parent\":\"Z\",\"rect\":[0,0,1,1]},\
+{\"do\":\"insert\",\"id\":\"X\",\"parent\":\"A\",\"before\":\"C\",\"rect\":[0,0,1,1]},\
+{\"do\":\"insert\",\"id\":\"B\",\"parent\":\"root\",\"rect\":[0,0,1,1]},\
+{\"do\":\"shift\",\"id\":\"C\",\"dx\":999994,\"dy\":0},\
+{\"do\":\"shift\",\"id\":\"C\",\"dx\":999993,\"dy\":0},\
+{\"do\":\"rect\",\"id\":\"B\",\"rect\":[6,6,3,3]},\
+{\"do\":\"style\",\"id\":\"A\",\"style\":{\"background\":\"#800000\",\"z-index\":1,\"position\":\"relative\"}},\
+{\"do\":\"insert\",\"id\":\"X\",\"parent\":\"root\",\"before\":\"B\",\"rect\":[1,1,1,1],\"style\":{\"background\":\"#0000ff\"}},\
+{\"do\":\"dump\"},{\"do\":\"dump\"}]}";
+    let base = match BASE.strip_suffix("{\"do\":\"dump\"}]}") {
+        Some(base) => base,
+        None => BASE,
+    };
+    let mut script = String::from_str(alloc, base)?;
+    script.push_str(commands)?;
+    let edited = replayed(alloc, script.as_str())?;
+    let dumped = "dump 4\n\
+item 0 root back 0 0 10 10 0 0 10 10 0 0 0 0 ffffffff auto 2\n\
+item 0 X back 1 1 1 1 1 1 1 1 0 0 0 0 0000ffff auto 2\n\
+item 0 B back 6 6 3 3 6 6 3 3 0 0 0 0 00ff00ff auto 2\n\
+item 0 A back 0 0 4 4 0 0 4 4 0 0 0 0 800000ff auto 2\n";
+    let mut want = String::from_str(
+        alloc,
+        "paint 1 built 4 kept 0 area 100\nrefused 1\nrefused 2\nrefused 5\nrefused 6\nrefused 9\nok\nok\nok\nok\n",
+    )?;
+    want.push_str("paint 2 built 4 kept 0 area 100\n")?;
+    want.push_str(dumped)?;
+    want.push_str(dumped)?;
+    assert_eq!(rt; edited.status, 0);
+    assert_eq!(rt; edited.out.as_str(), want.as_str());
+    Ok(())
+}
+
+#[test]
 fn each_bad_run_has_its_status_and_its_line(rt: HostRuntime) -> Result<(), Fail> {
     let alloc = rt.alloc();
     let usage =

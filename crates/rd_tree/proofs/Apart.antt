@@ -19,9 +19,9 @@ touched_by-apart Subtree k f a = apart_each (λ j. in_subtree same_key j k f) to
 pub restyled-apart : (root k : BoxKey) (c : StyleChange) (f : Boxes) → IsApart same_key f → IsApart same_key (restyled root k c f)
 restyled-apart root k c f a =
     touched_by-apart (option_map_or (λ d. style_reach d.style (same_key k root) c) (item_of same_key k f) Nothing) k (at_box same_key k (restyle c) f)
-      (apart_each (λ j. same_key j k) (restyle c) same_key f a)
+    (apart_each (λ j. same_key j k) (restyle c) same_key f a)
 
 pub replaced-apart : (root k : BoxKey) (r : Rectangle) (f : Boxes) → IsApart same_key f → IsApart same_key (replaced root k r f)
 replaced-apart root k r f a =
     touched_by-apart (option_map_or (λ d. rect_reach d.style (same_key k root)) (item_of same_key k f) Nothing) k (at_box same_key k (with_rect r) f)
-      (apart_each (λ j. same_key j k) (with_rect r) same_key f a)
+    (apart_each (λ j. same_key j k) (with_rect r) same_key f a)
