@@ -189,7 +189,7 @@ fn a_box<'a>(id: &'a str, parent: &'a str, rect: [i32; 4], style: Style) -> Row<
     }
 }
 
-/// A translucent box alone, one whose own background is empty, and the root.
+/// A translucent box alone, one in another, one whose children lie apart, and the root.
 fn groups<B: Ledger>(rt: &impl Abort, alloc: Global, looks: &mut Steps<B>) -> Result<(), Fail> {
     let alone = Case {
         name: "a translucent box",
@@ -216,6 +216,26 @@ fn groups<B: Ledger>(rt: &impl Abort, alloc: Global, looks: &mut Steps<B>) -> Re
         hits: &[(0, 0, "g"), (1, 1, "")],
     };
     check(rt, alloc, &nested, looks)?;
+    let apart = Case {
+        name: "a group of boxes that lie apart",
+        side: 10,
+        rows: &[
+            white(10),
+            a_box("G", "root", [0, 0, 0, 0], translucent(BLACK, 128)),
+            a_box("c1", "G", [0, 0, 2, 2], of_color(RED)),
+            a_box("K", "root", [4, 0, 2, 2], of_color(GREEN)),
+            a_box("c2", "G", [8, 0, 2, 2], of_color(RED)),
+        ],
+        entries: 3,
+        pixels: &[
+            (0, 0, [255, 127, 127]),
+            (3, 0, [255, 255, 255]),
+            (4, 0, [0, 255, 0]),
+            (8, 0, [255, 127, 127]),
+        ],
+        hits: &[(1, 1, "c1"), (4, 0, "K"), (8, 0, "c2"), (8, 2, "root")],
+    };
+    check(rt, alloc, &apart, looks)?;
     let root = Case {
         name: "a translucent root",
         side: 1,
