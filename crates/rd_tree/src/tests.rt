@@ -62,9 +62,13 @@ fn build<B: Ledger>(rt: &impl Abort, alloc: Global, looks: &mut Steps<B>) -> Res
     tree.settle();
     assert!(rt; !tree.touched(a_key));
     assert!(rt; !tree.touched(root));
-    let view = tree.look(root, looks).expect(rt, "the root");
-    assert!(rt; view.is_root);
-    assert_eq!(rt; view.first_child, Some(a_key));
+    match tree.look(root, looks) {
+        Some(view) => {
+            assert!(rt; view.is_root);
+            assert_eq!(rt; view.first_child, Some(a_key));
+        }
+        None => panic!(rt; "the root is gone"),
+    }
     Ok(())
 }
 
