@@ -1,5 +1,5 @@
 -- What edits do to the boxes of a tree. Which boxes an edit touches is this project's own choice.
-use Rattle.std.specs.Prelude.{ℤ, Bool, ◌||◌, if◌then◌else◌, is_some, IfSome}
+use Rattle.std.specs.Prelude.{ℤ, Bool, ◌||◌, if◌then◌else◌, Option, is_some, IfSome}
 use Rattle.std.specs.Option.{option_map_or}
 use Rattle.rd_geom.specs.Plane.{Rectangle}
 use Rattle.rd_style.specs.declared.styles.Style.{Style}
@@ -10,8 +10,8 @@ use Rattle.rd_style.specs.Limits.{FitsRect, Fits}
 use Rattle.rd_keys.specs.Keys.{same_key}
 use Rattle.rd_tree.specs.declared.reach.Reach.{Reach}
 use Rattle.rd_tree.specs.declared.reach.Reach.TheVariants.{Nothing, Alone, Subtree}
-use Rattle.rd_tree.specs.Forest.{item_of, children, at_box, at_subtree, AllItems}
-use Rattle.rd_tree.specs.Document.{BoxKey, Item, Boxes}
+use Rattle.rd_tree.specs.Forest.{keys, item_of, children, under, amid, without, branch, at_box, at_subtree, AllItems}
+use Rattle.rd_tree.specs.Document.{Document, BoxKey, Item, Boxes, with_all_left}
 use Rattle.rd_tree.specs.Works.{touch, shifted, move_by, settled}
 
 -- This project's own choice: does the change name a member?
@@ -46,6 +46,18 @@ restyled root k c f = touched_by (option_map_or (λ d. style_reach d.style (same
 -- the boxes once k has another rectangle
 abbrev pub replaced : BoxKey → BoxKey → Rectangle → Boxes → Boxes
 replaced root k r f = touched_by (option_map_or (λ d. rect_reach d.style (same_key k root)) (item_of same_key k f) Nothing) k (at_box same_key k (with_rect r) f)
+
+-- the tree without a box and all that is below it, whose slots are left
+abbrev pub with_removed : BoxKey → Document → Document
+with_removed k t = record t { boxes = without same_key k t.boxes; slots = with_all_left t.slots (keys (branch same_key k t.boxes)) }
+
+-- the boxes once k, with all below it, is taken from its place and stands below p, before one of its children or last
+abbrev pub put_elsewhere : BoxKey → BoxKey → Option BoxKey → Boxes → Boxes
+put_elsewhere k p before f = let g : Boxes = without same_key k f in under same_key p (amid same_key before (branch same_key k f) (children same_key p g)) g
+
+-- the boxes once k is moved so, which touches it and all below it
+abbrev pub moved : BoxKey → BoxKey → Option BoxKey → Boxes → Boxes
+moved k p before f = put_elsewhere k p before (at_subtree same_key k touch f)
 
 -- The box stays within the limits under this change of style.
 abbrev pub CanRestyle : BoxKey → StyleChange → Boxes → Type 0
