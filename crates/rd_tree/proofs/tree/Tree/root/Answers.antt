@@ -1,5 +1,6 @@
 use Rattle.rd_tree.proofs.Rooting.{rooted_seen}
 use Rattle.rd_tree.proofs.Naming.{fits_seen}
+use Rattle.rd_tree.proofs.Looking.{apart_seen}
 use Rattle.rd_tree.proofs.tree.Tree.root.Goals as goal
 
 pub returns-clause-rooted : goal.returns-clause-rooted
@@ -7,3 +8,6 @@ returns-clause-rooted g c = rw (← c.self.view_is) (rooted_seen c.self.inside.n
 
 pub returns-clause-limits : goal.returns-clause-limits
 returns-clause-limits g c = rw (← c.self.view_is) (fits_seen c.self.inside.nodes c.self.inside.root c.self.inside.ids c.self.invariant)
+
+pub returns-clause-apart : goal.returns-clause-apart
+returns-clause-apart g c = rw (← c.self.view_is) (apart_seen c.self.inside.nodes c.self.inside.root c.self.invariant.tree)
