@@ -59,9 +59,6 @@ shows_start s t d p h e =
       sound = record { apart = planted-apart s t p; canvas = rw (planted-canvas s t p) h };
     })
 
-pub planted_limits : (s : Script) (t : Document) → Plants s t → IsCanvas s.canvas → IsCanvas t.canvas
-planted_limits s t p h = rw (planted-canvas s t p) h
-
 -- an answer to all commands of a script is an allowed text
 pub allowed : (s : Script) (t : Document) (cs : List Command) (o n : Option (List ℕ)) → Plants s t → cs ≡ s.commands → AnswersAll (start t) cs o n
     → (text : List ℕ) × IsAllowedText s text × Appends o n text

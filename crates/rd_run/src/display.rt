@@ -1,7 +1,6 @@
 //! What is displayed between two commands.
 
 ghost use Rattle.std.specs.Prelude.{◌≡◌, ℕ, ◌+◌, ◌*◌, ◌<◌, ◌≤◌, ◌^◌, IfOk, OnErr, string_bytes, unsigned_abs, true};
-ghost use Rattle.rd_geom.specs.Canvas.{IsCanvas};
 ghost use Rattle.rd_list.specs.Entries.{nil};
 ghost use Rattle.rd_edits.specs.Refusals.{refusal_of};
 ghost use Rattle.rd_run.specs.Machine.{State, Step, Paints, Settles, Edits};
@@ -50,10 +49,8 @@ impl Display {
         looks: &mut Steps<B>,
     ) -> Result<String, AllocError>
         requires few { self.old.paints < 2 ^ 40 }
-        requires canvas { IsCanvas tree.old.canvas }
         ensures ok { IfOk result (λ text. (s : State) → Shows tree.old self.old s → Answers Paints s (string_bytes text) tree.new self.new) }
         ensures err { OnErr result (self.new ≡ self.old × tree.new ≡ tree.old) }
-        ensures canvas { tree.new.canvas ≡ tree.old.canvas }
         ensures count { self.new.paints ≤ self.old.paints + 1 }
     {
         let list = fresh_list(alloc, tree, looks)?;
@@ -74,10 +71,8 @@ impl Display {
         looks: &mut Steps<B>,
     ) -> Result<String, AllocError>
         requires few { self.old.paints < 2 ^ 40 }
-        requires canvas { IsCanvas tree.old.canvas }
         ensures ok { IfOk result (λ text. (s : State) → Shows tree.old self.old s → Answers (Settles self.old.pending) s (string_bytes text) tree.new self.new) }
         ensures err { OnErr result (self.new ≡ self.old × tree.new ≡ tree.old) }
-        ensures canvas { tree.new.canvas ≡ tree.old.canvas }
         ensures count { self.new.paints ≤ self.old.paints + 1 }
     {
         if self.pending {
@@ -94,7 +89,6 @@ impl Display {
         edit: &Edit,
     ) -> Result<String, AllocError>
         ensures ok { IfOk result (λ text. (s : State) → Shows tree.old self.old s → Answers (λ old t new. Edits (refusal_of old.tree edit.now) edit.now old t new) s (string_bytes text) tree.new self.new) }
-        ensures canvas { tree.new.canvas ≡ tree.old.canvas }
         ensures count { self.new.paints ≡ self.old.paints }
     {
         match apply(tree, edit) {
@@ -116,9 +110,7 @@ impl Display {
         looks: &mut Steps<B>,
     ) -> Result<String, AllocError>
         requires few { self.old.paints < 2 ^ 40 }
-        requires canvas { IsCanvas tree.old.canvas }
         ensures ok { IfOk result (λ text. (s : State) → Shows tree.old self.old s → Answers (λ old t new. Step old command.now t new) s (string_bytes text) tree.new self.new) }
-        ensures canvas { tree.new.canvas ≡ tree.old.canvas }
         ensures count { self.new.paints ≤ self.old.paints + 1 }
     {
         match command {

@@ -2,7 +2,6 @@
 
 ghost use Rattle.std.specs.Prelude.{◌≡◌, ◌≢◌, ◌⊎◌, ◌↔◌, ℕ, ◌+◌, ◌<◌, ◌≤◌, ◌^◌, List, IfOk, IfSome, IsErrOf, OnErr, OnOk, IsOk, None, map, string_bytes, length};
 ghost use Rattle.std.specs.Io.KnownBytes.{Appends, Keeps, IsAtEnd};
-ghost use Rattle.rd_geom.specs.Canvas.{IsCanvas};
 ghost use Rattle.rd_io.specs.Causes.{Rose, GainsPart};
 ghost use Rattle.rd_scene.specs.Scripts as scripts;
 ghost use Rattle.rd_scene.specs.Planting.{Plants};
@@ -35,12 +34,10 @@ fn answer_one<O: Sink, B: Ledger>(
     looks: &mut Steps<B>,
 ) -> Result<(), Status>
     requires few { display.old.paints < 2 ^ 40 }
-    requires canvas { IsCanvas tree.old.canvas }
     ensures all { OnOk result ((s : State) → Shows tree.old display.old s → (t : State) × (text : List ℕ) × Step s command.now text t × Shows tree.new display.new t × Appends (O.written out.old) (O.written out.new) text) }
     ensures part { IsErrOf result Status.WriteFault → (s : State) → Shows tree.old display.old s → (t : State) × (text : List ℕ) × Step s command.now text t × Shows tree.new display.new t × GainsPart (O.written out.old) (O.written out.new) text }
     ensures none { IsErrOf result Status.NoMemory → Keeps (O.written out.old) (O.written out.new) }
     ensures only { OnErr result (IsErrOf result Status.WriteFault ⊎ IsErrOf result Status.NoMemory) }
-    ensures canvas { tree.new.canvas ≡ tree.old.canvas }
     ensures count { display.new.paints ≤ display.old.paints + 1 }
     ensures later { O.faults out.old ≤ O.faults out.new }
     ensures cause { IsErrOf result Status.WriteFault → Rose (O.faults out.old) (O.faults out.new) }
@@ -66,7 +63,6 @@ fn answer_all<O: Sink, B: Ledger>(
 ) -> Result<(), Status>
     requires none { display.old.paints ≡ 0 }
     requires few { length commands.now ≤ 1000000 }
-    requires canvas { IsCanvas tree.old.canvas }
     ensures all { OnOk result ((s : State) → Shows tree.old display.old s → AnswersAll s commands.now (O.written out.old) (O.written out.new)) }
     ensures part { OnErr result ((s : State) → Shows tree.old display.old s → AnswersPart s commands.now (O.written out.old) (O.written out.new)) }
     ensures only { OnErr result (IsErrOf result Status.WriteFault ⊎ IsErrOf result Status.NoMemory) }

@@ -1,6 +1,5 @@
 //! The fresh list of a tree, by looks at its boxes.
 ghost use Rattle.std.specs.Prelude.{◌≡◌, IfOk, MatchOption, map, ◌∷◌, ◌++◌};
-ghost use Rattle.rd_geom.specs.Canvas.{IsCanvas};
 ghost use Rattle.rd_keys.specs.Keys.{same_key};
 ghost use Rattle.rd_tree.specs.Forest.{empty, from, from_some};
 ghost use Rattle.rd_stack.specs.Seen.{seen};
@@ -125,7 +124,6 @@ pub fn fresh_list<B: Ledger>(
     tree: &Tree<B>,
     looks: &mut Steps<B>,
 ) -> Result<PlainList, NoMemory>
-    requires { IsCanvas tree.now.canvas }
     ensures { IfOk result (λ list. list ≡ spec.fresh_list tree.now) }
 {
     let canvas = tree.canvas().rect();

@@ -1,6 +1,5 @@
 //! The plain program on small documents, of which every pixel and hit was worked out by hand.
 ghost use Rattle.std.specs.Prelude.{◌≡◌, ◌+◌, ◌<◌, ◌≤◌, IfOk, OnOk, length};
-ghost use Rattle.rd_geom.specs.Canvas.{IsCanvas};
 ghost use Rattle.rd_tree.specs.Document.{HasRoom, taken};
 
 use crate::fresh_list;
@@ -96,8 +95,7 @@ fn rect_of(rt: &impl Abort, r: &[i32; 4]) -> Rect {
 
 fn add<B: Ledger>(rt: &impl Abort, alloc: Global, tree: &mut Tree<B>, row: &Row) -> Result<(), Fail>
     requires { HasRoom tree.old }
-    ensures canvas { OnOk result (tree.new.canvas ≡ tree.old.canvas) }
-    ensures taken { OnOk result (taken tree.new ≡ taken tree.old + 1) }
+    ensures { OnOk result (taken tree.new ≡ taken tree.old + 1) }
 {
     let parent = Id::new(alloc, row.parent)?;
     let parent = tree.find(&parent).expect(rt, "the parent");
@@ -116,7 +114,6 @@ fn planted<B: Ledger>(
     side: i32,
     rows: &[Row],
 ) -> Result<Tree<B>, Fail>
-    ensures { IfOk result (λ t. IsCanvas t.canvas) }
 {
     assert!(rt; 1 <= side && side <= 4096);
     let canvas = Size { w: side, h: side };

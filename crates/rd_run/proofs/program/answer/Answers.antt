@@ -1,12 +1,8 @@
 use Rattle.std.proofs.Common.{◌≡◌, ◌∙◌, ap, sym, subst, inl, inr}
 use Rattle.rd_geom.specs.Canvas.{IsCanvas}
 use Rattle.rd_scene.specs.Scripts.{Script}
-use Rattle.rd_run.proofs.Planted.{shows_start, planted_limits, allowed, allowed_part}
+use Rattle.rd_run.proofs.Planted.{shows_start, allowed, allowed_part}
 use Rattle.rd_run.proofs.program.answer.Goals as goal
-
-pub answer_all-requires-clause-canvas : goal.answer_all-requires-clause-canvas
-answer_all-requires-clause-canvas g c =
-    planted_limits c.args.script.now c.in-Ok.tree c.in-Ok.ensures (subst (λ (s : Script). IsCanvas s.canvas) c.script.view_is c.script.invariant.canvas)
 
 pub returns-in-Ok-answer_all-clause-done : goal.returns-in-Ok-answer_all-clause-done
 returns-in-Ok-answer_all-clause-done g c = λ e.

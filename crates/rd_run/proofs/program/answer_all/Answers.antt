@@ -10,7 +10,6 @@ loop-command-preserved g c = record {
       let p = c.loop-command.invariant.so_far s h in
       let q = c.in_ok-answer_one.ensures.all (p.0) p.3 in
       (q.0, p.1 ++ q.1, step_on _ _ _ _ _ _ _ _ c.loop-command-test.true c.command-item.is p.2 q.2, q.3, appends_more _ _ _ _ _ p.4 q.4);
-  canvas = c.answer_one.ensures.canvas ∙ c.loop-command.invariant.canvas;
   few = omega (arith, c.answer_one.ensures.count);
   later = omega (arith, c.answer_one.ensures.later);
 }

@@ -8,7 +8,6 @@ use Rattle.rd_run.proofs.program.answer_all.Given as goal
 abbrev pub invariant-loop-command : goal.invariant-loop-command
 invariant-loop-command g l = record {
   so_far : (s : State) → Shows l.fn.tree l.fn.display s → (t : State) × (text : List ℕ) × Run s (take l.command-index l.commands) text t × Shows l.tree l.display t × Appends (g.O.Sink.written l.fn.out) (g.O.Sink.written l.out) text;
-  canvas : l.tree.canvas ≡ l.fn.tree.canvas;
   few : l.display.paints ≤ l.command-index;
   later : g.O.Sink.faults l.fn.out ≤ g.O.Sink.faults l.out;
 }

@@ -26,4 +26,4 @@ named_there i k empty h = cc
 named_there i k (tree j d below rest) h = there_first i k j d below rest (named_there i k below) (named_there i k rest) h
 
 pub insert-requires-clause-parent : goal.insert-requires-clause-parent
-insert-requires-clause-parent g c = named_there _ c.expect-parent.result c.args.tree.now.boxes (sym c.find.ensures ∙ c.expect-parent.ensures)
+insert-requires-clause-parent g c = named_there _ c.expect-parent.result c.args.tree.now.boxes (sym c.find.ensures.found ∙ c.expect-parent.ensures)
