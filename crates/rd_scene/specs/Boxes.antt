@@ -1,23 +1,13 @@
 -- Boxes as a script writes them. The members are this project's own choice.
-use Rattle.std.specs.Prelude.{ℕ, Bool, ◌&&◌, ◌||◌, ◌==◌, nat_le, if◌then◌else◌, List, [], ◌∷◌, codes, length, Option, Some, None, is_some}
-use Rattle.std.specs.List.{list_all}
+use Rattle.std.specs.Prelude.{ℕ, if◌then◌else◌, List, [], ◌∷◌, codes, length, Option, Some, None, is_some}
 use Rattle.serde_json.specs.Data.{Data}
 use Rattle.serde_json.specs.Find.{get, as_str, as_object, as_null}
 use Rattle.rd_style.specs.Changes.{plain}
 use Rattle.rd_scene.specs.declared.script.SceneBox.{SceneBox}
 use Rattle.rd_scene.specs.Members.{◌>>=◌, only_if, has_only, optional}
+use Rattle.rd_tree.specs.Ids.{is_id}
 use Rattle.rd_scene.specs.Rects.{rect_of}
 use Rattle.rd_scene.specs.Styles.{style_of}
-
--- This project's own choice: an ASCII letter, a digit, `_`, `-`, `.` or `:`
-abbrev pub is_id_byte : ℕ → Bool
-is_id_byte c =
-    (nat_le 48 c && nat_le c 57) || (nat_le 65 c && nat_le c 90) || (nat_le 97 c && nat_le c 122)
-    || (c == 95) || (c == 45) || (c == 46) || (c == 58)
-
--- This project's own choice: an id is 1 to 64 of these
-abbrev pub is_id : List ℕ → Bool
-is_id w = nat_le 1 (length w) && nat_le (length w) 64 && list_all is_id_byte w
 
 -- This project's own choice: a string that is an id
 abbrev pub id_of : Data → Option (List ℕ)

@@ -17,7 +17,6 @@ use serde_json::Value;
 use std::alloc::Global;
 
 /// A string that is an id.
-#[tactic(auto, using(crate::proofs::Ids::is_id_decides))]
 pub(crate) fn id_of(alloc: Global, v: &Value) -> Result<Id, SceneFault>
     ensures { Gives (λ i. i) result (spec.id_of (view v.now)) }
 {

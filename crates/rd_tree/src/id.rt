@@ -1,7 +1,8 @@
 //! The ids of boxes.
 
-ghost use Rattle.std.specs.Prelude.{◌≡◌, ◌↔◌, IfOk, IsTrue, string_bytes};
-ghost use Rattle.rd_tree.specs.Ids.{IsIdByte, IsIdText};
+ghost use Rattle.std.specs.Prelude.{◌≡◌, ◌↔◌, IfOk, true, false, string_bytes};
+ghost use Rattle.std.specs.List.{list_all};
+ghost use Rattle.rd_tree.specs.Ids as ids;
 
 use rd_geom::NoMemory;
 use std::alloc::Global;
@@ -23,40 +24,43 @@ pub struct Id {
 }
 
 impl Model for Id {
-    ghost use Rattle.std.specs.Prelude.{ℕ, List, string_bytes};
-    ghost use Rattle.rd_tree.specs.Ids.{IsIdText};
+    ghost use Rattle.std.specs.Prelude.{◌≡◌, ℕ, List, true, string_bytes};
+    ghost use Rattle.rd_tree.specs.Ids.{is_id};
 
     ghost Value = { List ℕ };
 
     ghost view = { λ i. string_bytes i.text };
 
-    ghost invariant = { λ i. IsIdText (string_bytes i.text) };
+    ghost invariant = { λ i. is_id (string_bytes i.text) ≡ true };
 }
 
 fn is_id_byte(b: u8) -> bool
-    ensures { IsTrue result ↔ IsIdByte b }
+    ensures { result ≡ ids.is_id_byte b }
 {
     matches!(b, b'0'..=b'9' | b'A'..=b'Z' | b'a'..=b'z' | b'_' | b'-' | b'.' | b':')
 }
 
-fn is_id_text(text: &str) -> bool
-    ensures { IsTrue result ↔ IsIdText text.now }
+fn are_id_bytes(bytes: &[u8]) -> bool
+    ensures { result ≡ list_all ids.is_id_byte bytes.now }
+{
+    bytes.iter().all(|b| is_id_byte(*b))
+}
+
+fn is_id(text: &str) -> bool
+    ensures { result ≡ ids.is_id text.now }
 {
     let bytes = text.as_bytes();
-    if bytes.is_empty() || bytes.len() > 64 {
-        return false;
-    }
-    bytes.iter().all(|b| is_id_byte(*b))
+    !bytes.is_empty() && bytes.len() <= 64 && are_id_bytes(bytes)
 }
 
 impl Id {
     /// The id with this text. `Form` where the text is no text of an id, `NoMemory` where it can't be stored.
     pub fn new(alloc: Global, text: &str) -> Result<Id, IdFault>
         ensures same_text { IfOk result (λ id. id ≡ text.now) }
-        ensures well_formed { IfOk result (λ _. IsIdText text.now) }
-        ensures form { (result ≡ Err IdFault.Form) ↔ (IsIdText text.now → ⊥) }
+        ensures well_formed { IfOk result (λ _. ids.is_id text.now ≡ true) }
+        ensures form { (result ≡ Err IdFault.Form) ↔ (ids.is_id text.now ≡ false) }
     {
-        if !is_id_text(text) {
+        if !is_id(text) {
             return Err(IdFault::Form);
         }
         match String::from_str(alloc, text) {
@@ -68,7 +72,7 @@ impl Id {
     /// The text of the id.
     pub fn text(&self) -> &str
         ensures same_text { result.now ≡ self.now }
-        ensures well_formed { IsIdText self.now }
+        ensures well_formed { ids.is_id self.now ≡ true }
     {
         self.text.as_str()
     }
