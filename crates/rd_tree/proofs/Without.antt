@@ -3,7 +3,7 @@ use Rattle.std.proofs.Common.{◌≡◌, refl, ap, ◌∙◌, sym, subst, ◌+�
 use Rattle.std.specs.Prelude.{Option, Some, None}
 use Rattle.rd_tree.specs.Forest.{Forest, empty, tree, size, ◌▷◌, has, children, without, branch, IsApart}
 use Rattle.rd_tree.specs.Links.{Node, node, Stands}
-use Rattle.rd_tree.proofs.Standing.{cases, never, either, from_left, from_right, join-empty, has-join, out_of_children, no_children, differs, differs_back, apart_back}
+use Rattle.rd_tree.proofs.Standing.{cases, never, either, from_left, from_right, join-empty, has-join, out_of_children, no_children, differs, apart_back}
 use Rattle.rd_tree.proofs.Under.{which}
 use Rattle.rd_tree.proofs.Cutting.{no_without}
 
