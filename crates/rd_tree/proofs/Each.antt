@@ -9,7 +9,7 @@ use Rattle.rd_keys.proofs.Calls.{live_occupied}
 use Rattle.rd_style.specs.Limits.{FitsRect, Fits}
 use Rattle.rd_tree.specs.declared.node.Node as inner
 use Rattle.rd_tree.specs.declared.walk.Work.{Work}
-use Rattle.rd_tree.specs.Forest.{Forest, empty, tree, size, ◌▷◌, has, head, from, children, each_if, in_subtree, AllItems, AreApart, IsApart}
+use Rattle.rd_tree.specs.Forest.{Forest, empty, tree, size, ◌▷◌, has, head, from, children, each_if, in_subtree, is_among, AllItems, IsPlaceIn, AreApart, IsApart}
 use Rattle.rd_tree.specs.Links.{Node, node, with_item, Stands, edit, on_each, onward_of}
 use Rattle.rd_tree.specs.Document.{BoxKey, Item, Boxes}
 use Rattle.rd_tree.specs.Linked.{linked, Relinks, IsLinked, IsTree, IsRead, seen, seen_from, item_at, IsIndexed, EachFits, IsSound}
@@ -35,6 +35,10 @@ module _ {K D : Type 0} (p : K → Bool) (g : D → D) where
         here true o e = ap (option_map (with_item g)) e
         here false o e = e
 
+  join-each : (f h : Forest K D) → each_if p g (f ▷ h) ≡ each_if p g f ▷ each_if p g h
+  join-each empty h = refl
+  join-each (tree k d below rest) h = ap (tree k (cond (p k) (g d) d) (each_if p g below)) (join-each rest h)
+
   module _ (same : K → K → Bool) where
     pub has-each : (j : K) (f : Forest K D) → has same j (each_if p g f) ≡ has same j f
     has-each j empty = refl
@@ -44,6 +48,19 @@ module _ {K D : Type 0} (p : K → Bool) (g : D → D) where
     apart_each empty a = tt
     apart_each (tree k d below rest) a =
         (has-each k below ∙ a.0, has-each k rest ∙ a.1, (λ j u. has-each j rest ∙ a.2 j (sym (has-each j below) ∙ u)), apart_each below a.3, apart_each rest a.4)
+
+    pub children-each : (j : K) (f : Forest K D) → children same j (each_if p g f) ≡ each_if p g (children same j f)
+    children-each j empty = refl
+    children-each j (tree k d below rest) =
+        elim (cases (same j k)) [ inl e ↦ rw e refl | inr e ↦ rw (e, children-each j below, children-each j rest) (sym (join-each (children same j below) (children same j rest))) ]
+
+    among-each : (j : K) (f : Forest K D) → is_among same j (each_if p g f) ≡ is_among same j f
+    among-each j empty = refl
+    among-each j (tree k d below rest) = ap (λ b. same j k || b) (among-each j rest)
+
+    pub place_each : (o : Option K) (f : Forest K D) → IsPlaceIn same o f → IsPlaceIn same o (each_if p g f)
+    place_each None f h = tt
+    place_each (Some j) f h = among-each j f ∙ h
 
 -- Only the boxes of the forest are asked.
 pub each_same : {K D : Type 0} (same : K → K → Bool) (reflexive : (a : K) → same a a ≡ true) (p q : K → Bool) (g : D → D) (f : Forest K D) → ((j : K) → has same j f ≡ true → p j ≡ q j) → each_if p g f ≡ each_if q g f

@@ -3,7 +3,7 @@ use Rattle.std.proofs.Common.{◌≡◌, refl, ap, ◌∙◌, sym, subst, ◌+�
 use Rattle.std.specs.Prelude.{Option, Some, None}
 use Rattle.rd_tree.specs.Forest.{Forest, empty, tree, size, ◌▷◌, has, children, under, is_among, ahead, amid, IsPlaceIn, AreApart, IsApart}
 use Rattle.rd_tree.specs.Links.{Node, node, Stands, put, grafted, prev_of, left_of}
-use Rattle.rd_tree.proofs.Standing.{cases, never, either, from_left, from_right, frame, split, agree_put, join-empty, has-join, out_of_children, differs, differs_back}
+use Rattle.rd_tree.proofs.Standing.{cases, never, either, from_left, from_right, frame, split, agree_put, join-empty, has-join, out_of_children, differs, differs_back, apart_back}
 use Rattle.rd_tree.proofs.Under.{which, size-join, apart_join}
 use Rattle.rd_tree.proofs.Cutting.{Among, apart_left, apart_right, apart_between}
 use Rattle.rd_tree.proofs.Grafting.{stands_grafted}
@@ -55,32 +55,33 @@ module _ {K D : Type 0} (same : K → K → Bool) (sound : (a b : K) → same a 
         right = subst (λ v. Stands at (Some p) v one (Some b) last None) e (subst (λ m. Stands at (Some p) t.0 one m last None) t.3.3 t.3);
       }
 
-  -- the siblings once k is one of them
-  pub record Joined (k : K) (d : D) (c g : Forest K D) : Type 0 where
+  -- the siblings once others are among them
+  pub record Joined (one c g : Forest K D) : Type 0 where
     pub apart : IsApart same g
-    pub has_new : has same k g ≡ true
+    pub has_new : (j : K) → has same j one ≡ true → has same j g ≡ true
     pub has_old : (j : K) → has same j c ≡ true → has same j g ≡ true
-    pub no_more : (j : K) → has same j g ≡ true → same j k ≡ false → has same j c ≡ true
-    pub size_is : size g ≡ size c + 1
+    pub no_more : (j : K) → has same j g ≡ true → has same j one ≡ false → has same j c ≡ true
+    pub size_is : size g ≡ size c + size one
 
-  pub joined : (k : K) (d : D) (c xs ys : Forest K D) → IsApart same c → has same k c ≡ false → c ≡ xs ▷ ys → Joined k d c (xs ▷ tree k d empty ys)
-  joined k d c xs ys a n is =
-      let g : Forest K D = xs ▷ tree k d empty ys in
+  pub joined : (one c xs ys : Forest K D) → IsApart same c → IsApart same one → AreApart same c one → c ≡ xs ▷ ys → Joined one c (xs ▷ (one ▷ ys))
+  joined one c xs ys a b away is =
+      let g : Forest K D = xs ▷ (one ▷ ys) in
       let ac : IsApart same (xs ▷ ys) = subst (λ f. IsApart same f) is a in
-      let nc : (has same k xs ≡ false) × (has same k ys ≡ false) = either (has same k xs) (has same k ys) (sym (has-join same sound reflexive k xs ys) ∙ subst (λ f. has same k f ≡ false) is n) in
-      let hg : (j : K) → has same j g ≡ (has same j xs || (same j k || has same j ys)) = λ j. has-join same sound reflexive j xs (tree k d empty ys) in
+      let hg : (j : K) → has same j g ≡ (has same j xs || (has same j one || has same j ys)) = λ j. has-join same sound reflexive j xs (one ▷ ys) ∙ ap (λ t. has same j xs || t) (has-join same sound reflexive j one ys) in
       let hc : (j : K) → has same j c ≡ (has same j xs || has same j ys) = λ j. ap (has same j) is ∙ has-join same sound reflexive j xs ys in
-      let right : IsApart same (tree k d empty ys) = (refl, nc.1, (λ j u. absurd (never false u refl)), tt, apart_right same sound reflexive xs ys ac) in
-      let away : AreApart same xs (tree k d empty ys) = λ j u. rw (differs same sound reflexive xs j k u nc.0, apart_between same sound reflexive xs ys ac j u) refl in
+      let left : AreApart same xs one = λ j u. away j (hc j ∙ from_left (has same j xs) (has same j ys) u) in
+      let right : AreApart same one ys = λ j u. (either (has same j xs) (has same j ys) (sym (hc j) ∙ apart_back same sound reflexive c one away j u)).1 in
+      let later : IsApart same (one ▷ ys) = apart_join same sound reflexive one ys b (apart_right same sound reflexive xs ys ac) right in
+      let between : AreApart same xs (one ▷ ys) = λ j u. has-join same sound reflexive j one ys ∙ rw (left j u, apart_between same sound reflexive xs ys ac j u) refl in
       record {
-        apart = apart_join same sound reflexive xs (tree k d empty ys) (apart_left same sound reflexive xs ys ac) right away;
-        has_new = hg k ∙ from_right (has same k xs) (same k k || has same k ys) (from_left (same k k) (has same k ys) (reflexive k));
+        apart = apart_join same sound reflexive xs (one ▷ ys) (apart_left same sound reflexive xs ys ac) later between;
+        has_new = λ j u. hg j ∙ from_right (has same j xs) (has same j one || has same j ys) (from_left (has same j one) (has same j ys) u);
         has_old = λ j u. hg j ∙ elim (which (has same j xs) (has same j ys) (sym (hc j) ∙ u)) [
-          | inl i ↦ from_left (has same j xs) (same j k || has same j ys) i
-          | inr i ↦ from_right (has same j xs) (same j k || has same j ys) (from_right (same j k) (has same j ys) i)
+          | inl i ↦ from_left (has same j xs) (has same j one || has same j ys) i
+          | inr i ↦ from_right (has same j xs) (has same j one || has same j ys) (from_right (has same j one) (has same j ys) i)
         ];
         no_more = λ j u e. hc j ∙ (rw e at (sym (hg j) ∙ u));
-        size_is = let s : size g ≡ size xs + (1 + (0 + size ys)) = size-join xs (tree k d empty ys) in let t : size c ≡ size xs + size ys = ap size is ∙ size-join xs ys in omega (arith, s, t);
+        size_is = let s : size g ≡ size xs + size (one ▷ ys) = size-join xs (one ▷ ys) in let t : size c ≡ size xs + size ys = ap size is ∙ size-join xs ys in omega (arith, s, size-join one ys, t);
       }
 
   -- Once the links say so, the new box k stands at its place below p.
