@@ -35,11 +35,27 @@ or_none : (a b : Option BoxKey) → or_else a b ≡ None → (a ≡ None) × (b 
 or_none None b h = (refl, h)
 or_none (Some j) b h = cc
 
+-- a box that is named is one of them
+pub named_there : (i : List ℕ) (k : BoxKey) (f : Boxes) → named i f ≡ Some k → has same_key k f ≡ true
+named_there i k empty h = cc
+named_there i k (tree j d below rest) h =
+    elim (cases (bytes_eq d.id i)) [
+      | inl e ↦
+          let h2 : Some j ≡ Some k = rw e at h in
+          let n : j ≡ k = cc (h2) in
+          subst (λ x. has same_key x (tree j d below rest) ≡ true) n (from_left (same_key j j) (has same_key j below || has same_key j rest) (same_key-refl j))
+      | inr e ↦ from_right (same_key k j) (has same_key k below || has same_key k rest)
+          (elim (or_some (named i below) (named i rest) k (rw e at h)) [
+            | inl u ↦ from_left (has same_key k below) (has same_key k rest) (named_there i k below u)
+            | inr u ↦ from_right (has same_key k below) (has same_key k rest) (named_there i k rest u)
+          ])
+    ]
+
 -- the id that links have under a key
 abbrev pub id_at : (BoxKey → Option (Node BoxKey Item)) → BoxKey → Option (List ℕ)
 id_at at k = option_map (λ d. d.id) (option_map (λ n. n.item) (at k))
 
-named_some : (i : List ℕ) (at : BoxKey → Option (Node BoxKey Item)) (up prev : Option BoxKey) (f : Boxes) (first last after : Option BoxKey) (k : BoxKey) → Stands at up prev f first last after → named i f ≡ Some k → id_at at k ≡ Some i
+pub named_some : (i : List ℕ) (at : BoxKey → Option (Node BoxKey Item)) (up prev : Option BoxKey) (f : Boxes) (first last after : Option BoxKey) (k : BoxKey) → Stands at up prev f first last after → named i f ≡ Some k → id_at at k ≡ Some i
 named_some i at up prev empty first last after k s h = cc
 named_some i at up prev (tree j d below rest) first last after k s h =
     elim (cases (bytes_eq d.id i)) [
@@ -55,7 +71,7 @@ named_some i at up prev (tree j d below rest) first last after k s h =
           ]
     ]
 
-named_none : (i : List ℕ) (at : BoxKey → Option (Node BoxKey Item)) (up prev : Option BoxKey) (f : Boxes) (first last after : Option BoxKey) (k : BoxKey) → Stands at up prev f first last after → named i f ≡ None → has same_key k f ≡ true → id_at at k ≡ Some i → ⊥
+pub named_none : (i : List ℕ) (at : BoxKey → Option (Node BoxKey Item)) (up prev : Option BoxKey) (f : Boxes) (first last after : Option BoxKey) (k : BoxKey) → Stands at up prev f first last after → named i f ≡ None → has same_key k f ≡ true → id_at at k ≡ Some i → ⊥
 named_none i at up prev empty first last after k s h m found = never false m refl
 named_none i at up prev (tree j d below rest) first last after k s h m found =
     elim (cases (bytes_eq d.id i)) [
@@ -84,7 +100,7 @@ id_live at k i h = live (at k) h where
   live None h = cc
   live (Some n) h = refl
 
-item_with_id : (o : Option Item) (i : List ℕ) → option_map (λ d. d.id) o ≡ Some i → (d : Item) × (o ≡ Some d) × (d.id ≡ i)
+pub item_with_id : (o : Option Item) (i : List ℕ) → option_map (λ d. d.id) o ≡ Some i → (d : Item) × (o ≡ Some d) × (d.id ≡ i)
 item_with_id None i h = cc
 item_with_id (Some d) i h = (d, refl, cc)
 
