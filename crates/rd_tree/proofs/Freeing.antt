@@ -168,8 +168,9 @@ begun a first ids r = record {
   read = r;
 }
 
-pub ended : {Y S : Type 0} (a0 a : Arena inner.Node) (first : Option BoxKey) (ids0 ids : HashMap (String Y) BoxKey S) → Freed a0 first ids0 a ids None → Frees a0 a (seen_from a0 first) × DropsTexts (seen_from a0 first) ids0 ids
-ended a0 a first ids0 ids w =
+pub ended : {Y S : Type 0} (a0 a : Arena inner.Node) (first : Option BoxKey) (ids0 ids : HashMap (String Y) BoxKey S) (at : Option BoxKey) → Freed a0 first ids0 a ids at → at ≡ None → Frees a0 a (seen_from a0 first) × DropsTexts (seen_from a0 first) ids0 ids
+ended a0 a first ids0 ids at w0 is =
+    let w : Freed a0 first ids0 a ids None = subst (λ q. Freed a0 first ids0 a ids q) is w0 in
     let e : w.gone ≡ seen_from a0 first = sym (join-empty w.gone) ∙ (ap (λ f. w.gone ▷ f) (sym (nothing a.limit)) ∙ w.whole) in
     (subst (λ f. Frees a0 a f) e w.freed, subst (λ f. DropsTexts f ids0 ids) e w.dropped) where
       nothing : (n : ℕ) → read n (linked a) None ≡ empty
@@ -177,14 +178,15 @@ ended a0 a first ids0 ids w =
       nothing (suc n) = refl
 
 -- What is known after one box went: of those below it, and once they went too.
-pub record FreedStep {Y S : Type 0} (a0 : Arena inner.Node) (first : Option BoxKey) (ids0 : HashMap (String Y) BoxKey S) (a a1 : Arena inner.Node) (ids1 : HashMap (String Y) BoxKey S) (k : BoxKey) (x z : Option BoxKey) : Type 0 where
+pub record FreedStep {Y S : Type 0} (a0 : Arena inner.Node) (first : Option BoxKey) (ids0 : HashMap (String Y) BoxKey S) (a a1 : Arena inner.Node) (ids1 : HashMap (String Y) BoxKey S) (at x z : Option BoxKey) : Type 0 where
   pub read : IsRead a1 x
   pub smaller : size (seen_from a1 x) < size (seen_from a0 first)
-  pub next : (a2 : Arena inner.Node) (ids2 : HashMap (String Y) BoxKey S) → Frees a1 a2 (seen_from a1 x) → DropsTexts (seen_from a1 x) ids1 ids2 → Freed a0 first ids0 a2 ids2 z × (size (seen_from a2 z) < size (seen_from a (Some k)))
+  pub next : (a2 : Arena inner.Node) (ids2 : HashMap (String Y) BoxKey S) → Frees a1 a2 (seen_from a1 x) → DropsTexts (seen_from a1 x) ids1 ids2 → Freed a0 first ids0 a2 ids2 z × (size (seen_from a2 z) < size (seen_from a at))
 
-pub freed_step : {Y S : Type 0} (a0 a a1 : Arena inner.Node) (first : Option BoxKey) (ids0 ids ids1 : HashMap (String Y) BoxKey S) (k : BoxKey) (o : Option BoxKey × Option BoxKey) → Freed a0 first ids0 a ids (Some k) →
-    Frees a a1 (topped k (linked a k) empty) → DropsTexts (topped k (linked a k) empty) ids ids1 → o ≡ onward_of (linked a k) → FreedStep a0 first ids0 a a1 ids1 k o.0 o.1
-freed_step a0 a a1 first ids0 ids ids1 k o w r1 t1 e =
+pub freed_step : {Y S : Type 0} (a0 a a1 : Arena inner.Node) (first : Option BoxKey) (ids0 ids ids1 : HashMap (String Y) BoxKey S) (at : Option BoxKey) (k : BoxKey) (o : Option BoxKey × Option BoxKey) → Freed a0 first ids0 a ids at → at ≡ Some k →
+    Frees a a1 (topped k (linked a k) empty) → DropsTexts (topped k (linked a k) empty) ids ids1 → o ≡ onward_of (linked a k) → FreedStep a0 first ids0 a a1 ids1 at o.0 o.1
+freed_step a0 a a1 first ids0 ids ids1 at k o w0 is r1 t1 e =
+    let w : Freed a0 first ids0 a ids (Some k) = subst (λ q. Freed a0 first ids0 a ids q) is w0 in
     let h : Here a k = here a k w.read in
     let both : o ≡ (h.x, h.z) = e ∙ ap onward_of h.found in
     let one : Frees a a1 (tree k h.item empty empty) = subst (λ q. Frees a a1 (topped k q empty)) h.found r1 in
@@ -196,7 +198,7 @@ freed_step a0 a a1 first ids0 ids ids1 k o w r1 t1 e =
     let all : size (seen_from a0 first) ≡ size w.gone + size (seen_from a (Some k)) = ap size (sym w.whole) ∙ size-join w.gone (seen_from a (Some k)) in
     let n : size (seen_from a (Some k)) ≡ 1 + (size h.below + size h.rest) = ap size h.seen in
     let m : size (seen_from a1 h.x) ≡ size h.below = ap size low.1 in
-    subst (λ q. FreedStep a0 first ids0 a a1 ids1 k q.0 q.1) (sym both) (record {
+    subst (λ q. FreedStep a0 first ids0 a a1 ids1 q o.0 o.1) (sym is) (subst (λ q. FreedStep a0 first ids0 a a1 ids1 (Some k) q.0 q.1) (sym both) (record {
       read = low.0;
       smaller = omega (arith, n, m, all);
       next = λ a2 ids2 r2 t2.
@@ -219,4 +221,46 @@ freed_step a0 a a1 first ids0 ids ids1 k o w r1 t1 e =
             },
             omega (arith, v, n),
           );
-    })
+    }))
+
+-- A box goes, and then all below it.
+module _ (a a1 : Arena inner.Node) (k : BoxKey) (o : Option BoxKey × Option BoxKey) (e : o ≡ onward_of (linked a k)) where
+  abbrev low : Boxes
+  low = seen_from a (onward_of (linked a k)).0
+
+  pub below_read : Frees a a1 (topped k (linked a k) empty) → IsRead a (onward_of (linked a k)).0 → has same_key k low ≡ false → (r : IsRead a1 o.0) × (seen_from a1 o.0 ≡ low)
+  below_read freed r out =
+      let told : low ≡ r.boxes = seen_read a (onward_of (linked a k)).0 r in
+      let off : has same_key k r.boxes ≡ false = sym (ap (has same_key k) told) ∙ out in
+      let away : AreApart same_key r.boxes (topped k (linked a k) empty) = λ j m. topped_out (linked a k) j (differs same_key same_key-sound same_key-refl r.boxes j k m off) in
+      let t : (s : IsRead a1 (onward_of (linked a k)).0) × (seen_from a1 (onward_of (linked a k)).0 ≡ r.boxes) =
+      still_read a a1 (topped k (linked a k) empty) r.boxes r.up r.prev (onward_of (linked a k)).0 r.last freed away r.apart r.small r.stands in
+      subst (λ q. (s : IsRead a1 q.0) × (seen_from a1 q.0 ≡ low)) (sym e) (t.0, t.1 ∙ sym told) where
+        topped_out : (q : Option (Node BoxKey Item)) (j : BoxKey) → same_key j k ≡ false → has same_key j (topped k q empty) ≡ false
+        topped_out None j h = refl
+        topped_out (Some n) j h = rw h refl
+
+  nothing_below : linked a k ≡ None → low ≡ empty
+  nothing_below n = ap (λ q. seen_from a (onward_of q).0) n ∙ nothing a.limit where
+    nothing : (m : ℕ) → read m (linked a) None ≡ empty
+    nothing zero = refl
+    nothing (suc m) = refl
+
+  pub branch_freed : (a2 : Arena inner.Node) → Frees a a1 (topped k (linked a k) empty) → IsRead a (onward_of (linked a k)).0 → has same_key k low ≡ false → Frees a1 a2 (seen_from a1 o.0) → Frees a a2 (branch_at a k)
+  branch_freed a2 freed r out rest = at (linked a k) nothing_below freed where
+    later : Frees a1 a2 low
+    later = subst (λ f. Frees a1 a2 f) (below_read freed r out).1 rest
+
+    at : (q : Option (Node BoxKey Item)) → (q ≡ None → low ≡ empty) → Frees a a1 (topped k q empty) → Frees a a2 (topped k q low)
+    at None n f = subst (λ g. Frees a a2 g) (n refl) (gone_join a a1 a2 empty low f later)
+    at (Some x) n f = gone_below k x.item low a a1 a2 f later
+
+  pub branch_dropped : {Y S : Type 0} (ids0 ids1 ids2 : HashMap (String Y) BoxKey S) → Frees a a1 (topped k (linked a k) empty) → IsRead a (onward_of (linked a k)).0 → has same_key k low ≡ false →
+      DropsTexts (topped k (linked a k) empty) ids0 ids1 → DropsTexts (seen_from a1 o.0) ids1 ids2 → DropsTexts (branch_at a k) ids0 ids2
+  branch_dropped ids0 ids1 ids2 freed r out text rest = at (linked a k) nothing_below text where
+    later : DropsTexts low ids1 ids2
+    later = subst (λ f. DropsTexts f ids1 ids2) (below_read freed r out).1 rest
+
+    at : (q : Option (Node BoxKey Item)) → (q ≡ None → low ≡ empty) → DropsTexts (topped k q empty) ids0 ids1 → DropsTexts (topped k q low) ids0 ids2
+    at None n f = subst (λ g. DropsTexts g ids0 ids2) (n refl) (drop_join empty low ids0 ids1 ids2 f later)
+    at (Some x) n f = drop_below k x.item low ids0 ids1 ids2 f later
