@@ -27,7 +27,7 @@ bytes_same a b h = (bytes_eq-Decides a b).0 h
 pub bytes_refl : (a : List ℕ) → bytes_eq a a ≡ true
 bytes_refl a = (bytes_eq-Decides a a).1 refl
 
-or_some : (a b : Option BoxKey) (k : BoxKey) → or_else a b ≡ Some k → (a ≡ Some k) ⊎ (b ≡ Some k)
+pub or_some : (a b : Option BoxKey) (k : BoxKey) → or_else a b ≡ Some k → (a ≡ Some k) ⊎ (b ≡ Some k)
 or_some None b k h = inr h
 or_some (Some j) b k h = inl h
 
@@ -39,7 +39,7 @@ or_none (Some j) b h = cc
 abbrev pub id_at : (BoxKey → Option (Node BoxKey Item)) → BoxKey → Option (List ℕ)
 id_at at k = option_map (λ d. d.id) (option_map (λ n. n.item) (at k))
 
-named_some : (i : List ℕ) (at : BoxKey → Option (Node BoxKey Item)) (up prev : Option BoxKey) (f : Boxes) (first last after : Option BoxKey) (k : BoxKey) → Stands at up prev f first last after → named i f ≡ Some k → id_at at k ≡ Some i
+pub named_some : (i : List ℕ) (at : BoxKey → Option (Node BoxKey Item)) (up prev : Option BoxKey) (f : Boxes) (first last after : Option BoxKey) (k : BoxKey) → Stands at up prev f first last after → named i f ≡ Some k → id_at at k ≡ Some i
 named_some i at up prev empty first last after k s h = cc
 named_some i at up prev (tree j d below rest) first last after k s h =
     elim (cases (bytes_eq d.id i)) [
@@ -55,7 +55,7 @@ named_some i at up prev (tree j d below rest) first last after k s h =
           ]
     ]
 
-named_none : (i : List ℕ) (at : BoxKey → Option (Node BoxKey Item)) (up prev : Option BoxKey) (f : Boxes) (first last after : Option BoxKey) (k : BoxKey) → Stands at up prev f first last after → named i f ≡ None → has same_key k f ≡ true → id_at at k ≡ Some i → ⊥
+pub named_none : (i : List ℕ) (at : BoxKey → Option (Node BoxKey Item)) (up prev : Option BoxKey) (f : Boxes) (first last after : Option BoxKey) (k : BoxKey) → Stands at up prev f first last after → named i f ≡ None → has same_key k f ≡ true → id_at at k ≡ Some i → ⊥
 named_none i at up prev empty first last after k s h m found = never false m refl
 named_none i at up prev (tree j d below rest) first last after k s h m found =
     elim (cases (bytes_eq d.id i)) [
@@ -84,7 +84,7 @@ id_live at k i h = live (at k) h where
   live None h = cc
   live (Some n) h = refl
 
-item_with_id : (o : Option Item) (i : List ℕ) → option_map (λ d. d.id) o ≡ Some i → (d : Item) × (o ≡ Some d) × (d.id ≡ i)
+pub item_with_id : (o : Option Item) (i : List ℕ) → option_map (λ d. d.id) o ≡ Some i → (d : Item) × (o ≡ Some d) × (d.id ≡ i)
 item_with_id None i h = cc
 item_with_id (Some d) i h = (d, refl, cc)
 
