@@ -12,11 +12,11 @@ use Rattle.rd_keys.proofs.Keys.{same_key-sound, same_key-refl}
 use Rattle.rd_keys.proofs.Calls.{value-without, value-gone, live-without, occupied-without}
 use Rattle.rd_tree.specs.declared.node.Node as inner
 use Rattle.rd_tree.specs.Forest.{Forest, empty, tree, keys, size, ◌▷◌, has, AreApart, IsApart}
-use Rattle.rd_tree.specs.Links.{Node, node, Stands, read, onward_of}
+use Rattle.rd_tree.specs.Links.{Node, Stands, read, onward_of}
 use Rattle.rd_tree.specs.Document.{BoxKey, Item, Boxes, Slot, or_else, named, with_left, with_all_left}
 use Rattle.rd_tree.specs.Linked.{plain, linked, mark_of, marks, IsRead, seen_from}
 use Rattle.rd_tree.specs.Frees.{Frees, DropsTexts, topped, branch_at}
-use Rattle.rd_tree.proofs.Standing.{cases, never, from_left, from_right, frame, agree_at, differs, apart_back, has-join, join-empty}
+use Rattle.rd_tree.proofs.Standing.{cases, never, frame, agree_at, differs, apart_back, has-join, join-empty}
 use Rattle.rd_tree.proofs.Under.{size-join}
 use Rattle.rd_tree.proofs.Works.{Here, here, seen_read}
 
@@ -158,15 +158,6 @@ pub record Freed {Y S : Type 0} (a0 : Arena inner.Node) (first : Option BoxKey) 
   pub dropped : DropsTexts gone ids0 ids
   pub whole : gone ▷ seen_from a at ≡ seen_from a0 first
   pub read : IsRead a at
-
-pub begun : {Y S : Type 0} (a : Arena inner.Node) (first : Option BoxKey) (ids : HashMap (String Y) BoxKey S) → IsRead a first → Freed a first ids a ids first
-begun a first ids r = record {
-  gone = empty;
-  freed = record { links = λ j. refl; slots = refl; counted = omega arith; most = omega arith; limit = refl };
-  dropped = λ i. refl;
-  whole = refl;
-  read = r;
-}
 
 pub ended : {Y S : Type 0} (a0 a : Arena inner.Node) (first : Option BoxKey) (ids0 ids : HashMap (String Y) BoxKey S) (at : Option BoxKey) → Freed a0 first ids0 a ids at → at ≡ None → Frees a0 a (seen_from a0 first) × DropsTexts (seen_from a0 first) ids0 ids
 ended a0 a first ids0 ids at w0 is =

@@ -27,13 +27,29 @@ bytes_same a b h = (bytes_eq-Decides a b).0 h
 pub bytes_refl : (a : List ℕ) → bytes_eq a a ≡ true
 bytes_refl a = (bytes_eq-Decides a a).1 refl
 
-pub or_some : (a b : Option BoxKey) (k : BoxKey) → or_else a b ≡ Some k → (a ≡ Some k) ⊎ (b ≡ Some k)
+or_some : (a b : Option BoxKey) (k : BoxKey) → or_else a b ≡ Some k → (a ≡ Some k) ⊎ (b ≡ Some k)
 or_some None b k h = inr h
 or_some (Some j) b k h = inl h
 
 or_none : (a b : Option BoxKey) → or_else a b ≡ None → (a ≡ None) × (b ≡ None)
 or_none None b h = (refl, h)
 or_none (Some j) b h = cc
+
+-- a box that is named is one of them
+pub named_there : (i : List ℕ) (k : BoxKey) (f : Boxes) → named i f ≡ Some k → has same_key k f ≡ true
+named_there i k empty h = cc
+named_there i k (tree j d below rest) h =
+    elim (cases (bytes_eq d.id i)) [
+      | inl e ↦
+          let h2 : Some j ≡ Some k = rw e at h in
+          let n : j ≡ k = cc (h2) in
+          subst (λ x. has same_key x (tree j d below rest) ≡ true) n (from_left (same_key j j) (has same_key j below || has same_key j rest) (same_key-refl j))
+      | inr e ↦ from_right (same_key k j) (has same_key k below || has same_key k rest)
+          (elim (or_some (named i below) (named i rest) k (rw e at h)) [
+            | inl u ↦ from_left (has same_key k below) (has same_key k rest) (named_there i k below u)
+            | inr u ↦ from_right (has same_key k below) (has same_key k rest) (named_there i k rest u)
+          ])
+    ]
 
 -- the id that links have under a key
 abbrev pub id_at : (BoxKey → Option (Node BoxKey Item)) → BoxKey → Option (List ℕ)

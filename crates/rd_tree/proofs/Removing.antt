@@ -1,39 +1,23 @@
 -- A tree from which a box is taken with all below it.
-use Rattle.std.proofs.Common.{◌≡◌, refl, ap, ◌∙◌, sym, subst, ℕ, ◌+◌, ◌≤◌, Bool, true, false, ◌||◌, cond, arith, List, ◌⊎◌, inl, inr}
+use Rattle.std.proofs.Common.{◌≡◌, refl, ap, ◌∙◌, sym, subst, ℕ, Bool, true, false, ◌||◌, cond, arith, List, ◌⊎◌, inl, inr}
 use Rattle.std.specs.Prelude.{Option, Some, None, is_some, option_map, String}
 use Rattle.std.specs.HashMap.{HashMap, get_by_text}
 use Rattle.std.specs.Str.{bytes_eq}
 use Rattle.rd_keys.specs.Keys.{same_key}
-use Rattle.rd_keys.specs.Arena.{Arena, live, occupied}
+use Rattle.rd_keys.specs.Arena.{Arena, occupied}
 use Rattle.rd_keys.proofs.Keys.{same_key-sound, same_key-refl}
 use Rattle.rd_keys.proofs.Calls.{live_occupied}
 use Rattle.rd_tree.specs.declared.node.Node as inner
-use Rattle.rd_tree.specs.Forest.{empty, tree, keys, size, has, without, branch}
+use Rattle.rd_tree.specs.Forest.{empty, tree, keys, has, without, branch}
 use Rattle.rd_tree.specs.Links.{Node, Stands, onward_of, unlinked}
 use Rattle.rd_tree.specs.Document.{BoxKey, Item, Boxes, named, with_all_left}
 use Rattle.rd_tree.specs.Linked.{linked, marks, Relinks, IsTree, IsRead, IsSound, IsIndexed, EachFits, item_at, seen, seen_from}
 use Rattle.rd_tree.specs.Frees.{Frees, DropsTexts, topped, branch_at}
-use Rattle.rd_tree.proofs.Standing.{cases, never, refute, from_left, from_right, frame, agree_at, apart_back}
+use Rattle.rd_tree.proofs.Standing.{cases, never, refute, from_left, from_right, frame, agree_at}
 use Rattle.rd_tree.proofs.Grow.{same_occupied, seen_is}
-use Rattle.rd_tree.proofs.Naming.{or_some, named_some, named_none, item_with_id, id_at}
+use Rattle.rd_tree.proofs.Naming.{named_there, named_some, named_none, item_with_id}
 use Rattle.rd_tree.proofs.Works.{seen_read}
 use Rattle.rd_tree.proofs.Unlinking.{Unlinked, cut_out, items_unlinked}
-
--- a box that is named is one of them
-named_has : (i : List ℕ) (f : Boxes) (k : BoxKey) → named i f ≡ Some k → has same_key k f ≡ true
-named_has i empty k h = cc
-named_has i (tree j d below rest) k h =
-    elim (cases (bytes_eq d.id i)) [
-      | inl e ↦
-          let h2 : Some j ≡ Some k = rw e at h in
-          let n : j ≡ k = cc (h2) in
-          subst (λ x. has same_key x (tree j d below rest) ≡ true) n (from_left (same_key j j) (has same_key j below || has same_key j rest) (same_key-refl j))
-      | inr e ↦ from_right (same_key k j) (has same_key k below || has same_key k rest)
-          (elim (or_some (named i below) (named i rest) k (rw e at h)) [
-            | inl u ↦ from_left (has same_key k below) (has same_key k rest) (named_has i below k u)
-            | inr u ↦ from_right (has same_key k below) (has same_key k rest) (named_has i rest k u)
-          ])
-    ]
 
 -- Where the items of some boxes are gone, and all others are as before.
 abbrev DropsItems : Boxes → (BoxKey → Option Item) → (BoxKey → Option Item) → Type 0
@@ -63,7 +47,7 @@ indexed_dropped at up prev first last after gone old new ids0 ids1 s same less d
       let t : (y : Item) × (old m ≡ Some y) × (y.id ≡ d.id) = item_with_id (old m) d.id i in
       let u : get_by_text ids0 d.id ≡ Some m = subst (λ y. get_by_text ids0 y ≡ Some m) t.2 (x.named m t.0 t.1) in
       let n : m ≡ j = cc (u, x.named j d e) in
-      absurd (never (has same_key j gone) (subst (λ y. has same_key y gone ≡ true) n (named_has d.id gone m h)) out)
+      absurd (never (has same_key j gone) (subst (λ y. has same_key y gone ≡ true) n (named_there d.id m gone h)) out)
 
   live_in : (i : List ℕ) (j : BoxKey) (o : Option BoxKey) → named i gone ≡ o → cond (is_some (named i gone)) None (get_by_text ids0 i) ≡ Some j → option_map (λ y. y.id) (new j) ≡ Some i
   live_in i j (Some m) h g = let q : None ≡ Some j = rw h at g in cc (q)

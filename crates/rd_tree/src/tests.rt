@@ -1,5 +1,6 @@
 //! A small tree, whose boxes and marks were worked out by hand.
-ghost use Rattle.std.specs.Prelude.{◌≡◌, ◌<◌};
+ghost use Rattle.std.specs.Prelude.{◌≡◌, ◌<◌, true};
+ghost use Rattle.rd_tree.specs.Document.{contains};
 
 use super::*;
 use rd_geom::{Rect, Size, Steps};
@@ -69,6 +70,139 @@ fn build<B: Ledger>(rt: &impl Abort, alloc: Global, looks: &mut Steps<B>) -> Res
         }
         None => panic!(rt; "the root is gone"),
     }
+    remove_two(rt, alloc, &mut tree, looks)?;
+    move_two(rt, alloc, &mut tree, looks)
+}
+
+/// The box with this id.
+#[tactic(auto, using(crate::proofs::Naming::named_there))]
+fn box_of<B: Ledger>(rt: &impl Abort, tree: &Tree<B>, id: &Id) -> BoxKey
+    ensures { contains tree.now result ≡ true }
+{
+    match tree.find(id) {
+        Some(key) => key,
+        None => panic!(rt; "no box has this id"),
+    }
+}
+
+/// A box with this id comes last below another.
+fn put<B: Ledger>(
+    rt: &impl Abort,
+    tree: &mut Tree<B>,
+    parent: &Id,
+    id: &Id,
+) -> Result<BoxKey, Fail> {
+    let rect = rect_of(rt, [0, 0, 10, 10]);
+    let style = Style::plain();
+    assert!(rt; fits_rect(rect));
+    assert!(rt; fits(&style));
+    assert!(rt; tree.find(id).is_none());
+    assert!(rt; u64::from(tree.boxes()) + u64::from(tree.retired()) < 20_000);
+    let parent = box_of(rt, tree, parent);
+    Ok(tree.insert(parent, None, id, rect, style)?)
+}
+
+/// The box with this id goes, with all below it.
+fn take<B: Ledger>(rt: &impl Abort, tree: &mut Tree<B>, id: &Id) {
+    let key = box_of(rt, tree, id);
+    assert!(rt; !key.is(tree.root()));
+    tree.remove(key);
+}
+
+/// A box goes to the last place below another.
+fn move_last<B: Ledger>(rt: &impl Abort, tree: &mut Tree<B>, id: &Id, parent: &Id) {
+    let key = box_of(rt, tree, id);
+    let parent = box_of(rt, tree, parent);
+    assert!(rt; !key.is(tree.root()));
+    assert!(rt; !tree.inside(parent, key));
+    tree.relink(key, parent, None);
+}
+
+/// A box goes before a child of another.
+fn move_before<B: Ledger>(rt: &impl Abort, tree: &mut Tree<B>, id: &Id, parent: &Id, before: &Id) {
+    let key = box_of(rt, tree, id);
+    let parent = box_of(rt, tree, parent);
+    let before = box_of(rt, tree, before);
+    assert!(rt; !key.is(tree.root()));
+    assert!(rt; !tree.inside(parent, key));
+    assert!(rt; tree.is_child(before, parent));
+    assert!(rt; !before.is(key));
+    tree.relink(key, parent, Some(before));
+}
+
+/// The first child and the next sibling that a look tells.
+fn seen<B: Ledger>(
+    rt: &impl Abort,
+    tree: &Tree<B>,
+    key: BoxKey,
+    looks: &mut Steps<B>,
+) -> (Option<BoxKey>, Option<BoxKey>) {
+    match tree.look(key, looks) {
+        Some(view) => (view.first_child, view.next_sibling),
+        None => panic!(rt; "the box is gone"),
+    }
+}
+
+fn is_gone<B: Ledger>(tree: &Tree<B>, key: BoxKey, looks: &mut Steps<B>) -> bool {
+    tree.look(key, looks).is_none()
+}
+
+fn remove_two<B: Ledger>(
+    rt: &impl Abort,
+    alloc: Global,
+    tree: &mut Tree<B>,
+    looks: &mut Steps<B>,
+) -> Result<(), Fail> {
+    let a = Id::new(alloc, "A")?;
+    let b = Id::new(alloc, "B")?;
+    let c = Id::new(alloc, "C")?;
+    let boxes = tree.boxes();
+    let upper = put(rt, tree, &a, &b)?;
+    let lower = put(rt, tree, &b, &c)?;
+    tree.settle();
+    assert_eq!(rt; tree.boxes(), boxes + 2);
+    assert!(rt; !tree.touched(lower));
+    take(rt, tree, &b);
+    assert_eq!(rt; tree.boxes(), boxes);
+    assert!(rt; tree.find(&b).is_none());
+    assert!(rt; tree.find(&c).is_none());
+    for key in [upper, lower] {
+        assert!(rt; tree.touched(key));
+        assert!(rt; is_gone(tree, key, looks));
+    }
+    let again = put(rt, tree, &a, &b)?;
+    assert!(rt; !again.is(upper));
+    assert!(rt; !again.is(lower));
+    assert!(rt; is_gone(tree, upper, looks));
+    take(rt, tree, &b);
+    Ok(())
+}
+
+fn move_two<B: Ledger>(
+    rt: &impl Abort,
+    alloc: Global,
+    tree: &mut Tree<B>,
+    looks: &mut Steps<B>,
+) -> Result<(), Fail> {
+    let top = Id::new(alloc, "root")?;
+    let a = Id::new(alloc, "A")?;
+    let b = Id::new(alloc, "B")?;
+    let root = tree.root();
+    let first = box_of(rt, tree, &a);
+    let second = put(rt, tree, &top, &b)?;
+    assert_eq!(rt; seen(rt, tree, root, looks), (Some(first), None));
+    assert_eq!(rt; seen(rt, tree, first, looks), (None, Some(second)));
+    tree.settle();
+    move_before(rt, tree, &b, &top, &a);
+    assert_eq!(rt; seen(rt, tree, root, looks), (Some(second), None));
+    assert_eq!(rt; seen(rt, tree, second, looks), (None, Some(first)));
+    assert_eq!(rt; seen(rt, tree, first, looks), (None, None));
+    assert!(rt; tree.touched(second));
+    assert!(rt; !tree.touched(first));
+    move_last(rt, tree, &a, &b);
+    assert_eq!(rt; seen(rt, tree, root, looks), (Some(second), None));
+    assert_eq!(rt; seen(rt, tree, second, looks), (Some(first), None));
+    assert_eq!(rt; tree.find(&a), Some(first));
     Ok(())
 }
 
