@@ -156,14 +156,14 @@ fn remove_two<B: Ledger>(
     let a = Id::new(alloc, "A")?;
     let b = Id::new(alloc, "B")?;
     let c = Id::new(alloc, "C")?;
-    let boxes = tree.boxes();
+    assert_eq!(rt; tree.boxes(), 2);
     let upper = put(rt, tree, &a, &b)?;
     let lower = put(rt, tree, &b, &c)?;
     tree.settle();
-    assert_eq!(rt; tree.boxes(), boxes + 2);
+    assert_eq!(rt; tree.boxes(), 4);
     assert!(rt; !tree.touched(lower));
     take(rt, tree, &b);
-    assert_eq!(rt; tree.boxes(), boxes);
+    assert_eq!(rt; tree.boxes(), 2);
     assert!(rt; tree.find(&b).is_none());
     assert!(rt; tree.find(&c).is_none());
     for key in [upper, lower] {
