@@ -1,8 +1,7 @@
 -- A tree from which a box is taken with all below it.
-use Rattle.std.proofs.Common.{◌≡◌, refl, ap, ◌∙◌, sym, subst, ℕ, Bool, true, false, ◌||◌, cond, arith, List, ◌⊎◌, inl, inr}
+use Rattle.std.proofs.Common.{◌≡◌, refl, ap, ◌∙◌, sym, subst, ℕ, Bool, true, false, cond, arith, List, ◌⊎◌, inl, inr}
 use Rattle.std.specs.Prelude.{Option, Some, None, is_some, option_map, String}
 use Rattle.std.specs.HashMap.{HashMap, get_by_text}
-use Rattle.std.specs.Str.{bytes_eq}
 use Rattle.rd_keys.specs.Keys.{same_key}
 use Rattle.rd_keys.specs.Arena.{Arena, occupied}
 use Rattle.rd_keys.proofs.Keys.{same_key-sound, same_key-refl}
@@ -13,7 +12,7 @@ use Rattle.rd_tree.specs.Links.{Node, Stands, onward_of, unlinked}
 use Rattle.rd_tree.specs.Document.{BoxKey, Item, Boxes, named, with_all_left}
 use Rattle.rd_tree.specs.Linked.{linked, marks, Relinks, IsTree, IsRead, IsSound, IsIndexed, EachFits, item_at, seen, seen_from}
 use Rattle.rd_tree.specs.Frees.{Frees, DropsTexts, topped, branch_at}
-use Rattle.rd_tree.proofs.Standing.{cases, never, refute, from_left, from_right, frame, agree_at}
+use Rattle.rd_tree.proofs.Standing.{cases, never, refute, frame, agree_at}
 use Rattle.rd_tree.proofs.Grow.{same_occupied, seen_is}
 use Rattle.rd_tree.proofs.Naming.{named_there, named_some, named_none, item_with_id}
 use Rattle.rd_tree.proofs.Works.{seen_read}

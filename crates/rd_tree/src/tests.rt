@@ -130,21 +130,29 @@ fn move_before<B: Ledger>(rt: &impl Abort, tree: &mut Tree<B>, id: &Id, parent: 
     tree.relink(key, parent, Some(before));
 }
 
-/// The first child and the next sibling that a look tells.
-fn seen<B: Ledger>(
+/// A look at the box tells this first child and this next sibling.
+fn shows<B: Ledger>(
     rt: &impl Abort,
     tree: &Tree<B>,
-    key: BoxKey,
     looks: &mut Steps<B>,
-) -> (Option<BoxKey>, Option<BoxKey>) {
+    key: BoxKey,
+    first: Option<BoxKey>,
+    next: Option<BoxKey>,
+) {
     match tree.look(key, looks) {
-        Some(view) => (view.first_child, view.next_sibling),
+        Some(view) => {
+            assert_eq!(rt; view.first_child, first);
+            assert_eq!(rt; view.next_sibling, next);
+        }
         None => panic!(rt; "the box is gone"),
     }
 }
 
-fn is_gone<B: Ledger>(tree: &Tree<B>, key: BoxKey, looks: &mut Steps<B>) -> bool {
-    tree.look(key, looks).is_none()
+/// The key is not live, and no box has the id.
+fn gone<B: Ledger>(rt: &impl Abort, tree: &Tree<B>, looks: &mut Steps<B>, key: BoxKey, id: &Id) {
+    assert!(rt; tree.find(id).is_none());
+    assert!(rt; tree.touched(key));
+    assert!(rt; tree.look(key, looks).is_none());
 }
 
 fn remove_two<B: Ledger>(
@@ -156,24 +164,17 @@ fn remove_two<B: Ledger>(
     let a = Id::new(alloc, "A")?;
     let b = Id::new(alloc, "B")?;
     let c = Id::new(alloc, "C")?;
-    let boxes = tree.boxes();
     let upper = put(rt, tree, &a, &b)?;
     let lower = put(rt, tree, &b, &c)?;
     tree.settle();
-    assert_eq!(rt; tree.boxes(), boxes + 2);
-    assert!(rt; !tree.touched(lower));
+    assert_eq!(rt; tree.boxes(), 4);
     take(rt, tree, &b);
-    assert_eq!(rt; tree.boxes(), boxes);
-    assert!(rt; tree.find(&b).is_none());
-    assert!(rt; tree.find(&c).is_none());
-    for key in [upper, lower] {
-        assert!(rt; tree.touched(key));
-        assert!(rt; is_gone(tree, key, looks));
-    }
+    assert_eq!(rt; tree.boxes(), 2);
+    gone(rt, tree, looks, upper, &b);
+    gone(rt, tree, looks, lower, &c);
     let again = put(rt, tree, &a, &b)?;
     assert!(rt; !again.is(upper));
     assert!(rt; !again.is(lower));
-    assert!(rt; is_gone(tree, upper, looks));
     take(rt, tree, &b);
     Ok(())
 }
@@ -187,22 +188,22 @@ fn move_two<B: Ledger>(
     let top = Id::new(alloc, "root")?;
     let a = Id::new(alloc, "A")?;
     let b = Id::new(alloc, "B")?;
-    let root = tree.root();
+    let root = box_of(rt, tree, &top);
     let first = box_of(rt, tree, &a);
     let second = put(rt, tree, &top, &b)?;
-    assert_eq!(rt; seen(rt, tree, root, looks), (Some(first), None));
-    assert_eq!(rt; seen(rt, tree, first, looks), (None, Some(second)));
+    shows(rt, tree, looks, root, Some(first), None);
+    shows(rt, tree, looks, first, None, Some(second));
     tree.settle();
     move_before(rt, tree, &b, &top, &a);
-    assert_eq!(rt; seen(rt, tree, root, looks), (Some(second), None));
-    assert_eq!(rt; seen(rt, tree, second, looks), (None, Some(first)));
-    assert_eq!(rt; seen(rt, tree, first, looks), (None, None));
+    shows(rt, tree, looks, root, Some(second), None);
+    shows(rt, tree, looks, second, None, Some(first));
+    shows(rt, tree, looks, first, None, None);
     assert!(rt; tree.touched(second));
     assert!(rt; !tree.touched(first));
     move_last(rt, tree, &a, &b);
-    assert_eq!(rt; seen(rt, tree, root, looks), (Some(second), None));
-    assert_eq!(rt; seen(rt, tree, second, looks), (Some(first), None));
-    assert_eq!(rt; tree.find(&a), Some(first));
+    shows(rt, tree, looks, root, Some(second), None);
+    shows(rt, tree, looks, second, Some(first), None);
+    shows(rt, tree, looks, first, None, None);
     Ok(())
 }
 
