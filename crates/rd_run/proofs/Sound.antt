@@ -11,10 +11,10 @@ use Rattle.rd_tree.specs.Forest.{empty, tree, has, children, under, amid, ahead,
 use Rattle.rd_tree.specs.Works.{settled, move_by}
 use Rattle.rd_tree.specs.Edits.{restyled, replaced}
 use Rattle.rd_tree.proofs.Standing.{cases, refute, never, either, from_left, out_of_children, has-join}
+use Rattle.rd_tree.proofs.Finding.{named_there}
 use Rattle.rd_tree.proofs.Under.{apart_under, apart_join}
 use Rattle.rd_tree.proofs.Each.{apart_each}
 use Rattle.rd_tree.proofs.Apart.{restyled-apart, replaced-apart}
-use Rattle.rd_scene.proofs.Names.{named_there}
 use Rattle.rd_edits.specs.declared.edit.Edit.{Edit}
 use Rattle.rd_edits.specs.declared.edit.Edit.TheVariants.{Insert, SetStyle, SetRect, Shift}
 use Rattle.rd_edits.specs.Edited.{IsEdited, IsChanged}

@@ -3,13 +3,10 @@ use Rattle.std.proofs.Common.{ℕ, ◌≤◌, ◌&&◌, nat_le, List, length, re
 use Rattle.std.specs.Bool.{Decides}
 use Rattle.std.specs.List.{list_all}
 use Rattle.std.proofs.lemmas.Bool.Decides.{Decides-at, Decides-and, Decides-or, Decides-eqb, Decides-like, Decides-by_and}
-use Rattle.std.proofs.lemmas.Bool.{leb-true, le-leb}
 use Rattle.std.proofs.Math.Bool.{or_assoc}
 use Rattle.rd_tree.specs.Ids.{IsIdByte, IsIdText}
+use Rattle.rd_edits.proofs.Within.{at_most}
 use Rattle.rd_scene.specs.Boxes.{is_id, is_id_byte}
-
-at_most : (a b : ℕ) → Decides (nat_le a b) (a ≤ b)
-at_most a b = (leb-true a b, le-leb a b)
 
 from_to : (c low high : ℕ) → Decides (nat_le low c && nat_le c high) ((low ≤ c) × (c ≤ high))
 from_to c low high = Decides-and _ _ (at_most low c) (at_most c high)
