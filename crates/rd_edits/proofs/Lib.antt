@@ -1,3 +1,2 @@
 pub mod Within
 pub mod Restyling
-pub mod Named

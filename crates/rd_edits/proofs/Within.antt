@@ -17,7 +17,7 @@ use Rattle.rd_tree.specs.Works.{shifted}
 use Rattle.rd_tree.specs.Edits.{CanShift}
 use Rattle.rd_edits.specs.Limits.{is_between, fits_rect, fits, all_of, fits_shift}
 
-at_most : (a b : ℕ) → Decides (nat_le a b) (a ≤ b)
+pub at_most : (a b : ℕ) → Decides (nat_le a b) (a ≤ b)
 at_most a b = (leb-true a b, le-leb a b)
 
 at_most_int : (a b : ℤ) → Decides (int_le a b) (a ≤ℤ b)

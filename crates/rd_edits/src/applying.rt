@@ -8,6 +8,7 @@ ghost use Rattle.rd_edits.specs.Refusals.{refusal_of};
 use crate::edit::Edit;
 use crate::fault::EditFault;
 use crate::insert::insert;
+use crate::moves::{move_to, remove};
 use crate::values::{set_rect, set_style, shift};
 use rd_tree::Tree;
 use std::sync::ledger::Ledger;
@@ -29,6 +30,8 @@ pub fn apply<B: Ledger>(tree: &mut Tree<B>, edit: &Edit) -> Result<(), EditFault
             rect,
             style,
         } => insert(tree, id, parent, before, *rect, style),
+        Edit::Remove { id } => remove(tree, id),
+        Edit::Move { id, parent, before } => move_to(tree, id, parent, before),
         Edit::SetStyle { id, change } => set_style(tree, id, change),
         Edit::SetRect { id, rect } => set_rect(tree, id, *rect),
         Edit::Shift { id, dx, dy } => shift(tree, id, *dx, *dy),

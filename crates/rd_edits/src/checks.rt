@@ -1,6 +1,6 @@
 //! What an edit is tested for.
 
-ghost use Rattle.std.specs.Prelude.{◌≡◌, ◌↔◌, ◌+◌, IsTrue, IfSome, OnSome, IfNone, true, false};
+ghost use Rattle.std.specs.Prelude.{◌≡◌, ◌↔◌, ◌+◌, IsTrue, IfSome, OnSome, IfNone, Some, true, false};
 ghost use Rattle.rd_keys.specs.Keys.{same_key};
 ghost use Rattle.rd_style.specs.Limits.{Fits, FitsRect};
 ghost use Rattle.rd_tree.specs.Document.{contains, HasRoom};
@@ -53,6 +53,24 @@ pub(crate) fn fits_shift<B: Ledger>(tree: &Tree<B>, key: BoxKey, dx: i32, dy: i3
     tree.shift_fits(key, dx, dy)
 }
 
+/// Is the box the root?
+pub(crate) fn is_root<B: Ledger>(tree: &Tree<B>, key: BoxKey) -> bool
+    ensures { result ≡ refusals.is_root key tree.now }
+{
+    key.is(tree.root())
+}
+
+/// Is it the place before the box itself?
+pub(crate) fn is_before_itself(key: BoxKey, place: Option<BoxKey>) -> bool
+    ensures test { result ≡ refusals.is_before_itself key place }
+    ensures other { result ≡ false → place ≡ Some key → ⊥ }
+{
+    match place {
+        Some(at) => at.is(key),
+        None => false,
+    }
+}
+
 /// Would so many levels below the parent go too deep?
 pub(crate) fn is_too_deep<B: Ledger>(tree: &Tree<B>, parent: BoxKey, levels: u32) -> bool
     requires { contains tree.now parent ≡ true }
@@ -71,7 +89,7 @@ pub(crate) fn is_full<B: Ledger>(tree: &Tree<B>) -> bool
 
 /// The place among the children of the parent: before the box given, or last where none is given. None where the box given
 /// is no child of the parent.
-#[tactic(auto, using(crate::proofs::Named::named_there))]
+#[tactic(auto, using(rd_tree::proofs::Finding::named_there))]
 pub(crate) fn place_of<B: Ledger>(
     tree: &Tree<B>,
     parent: BoxKey,

@@ -15,6 +15,17 @@ pub enum Edit {
         rect: Rect,
         style: Style,
     },
+    /// A box, which is not the root, and all below it taken away.
+    Remove {
+        id: Id,
+    },
+    /// A box, which is not the root, and all below it put below a parent, before one of its children or last. Their
+    /// rectangles stay.
+    Move {
+        id: Id,
+        parent: Id,
+        before: Option<Id>,
+    },
     /// Other values for the members of a box's style that are named.
     SetStyle {
         id: Id,

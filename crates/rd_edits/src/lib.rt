@@ -8,6 +8,7 @@ mod checks;
 mod edit;
 mod fault;
 mod insert;
+mod moves;
 mod values;
 
 pub use applying::apply;

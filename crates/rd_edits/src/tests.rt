@@ -52,6 +52,24 @@ fn insertion(
     })
 }
 
+fn removal(alloc: Global, id: &str) -> Result<Edit, IdFault> {
+    Ok(Edit::Remove {
+        id: Id::new(alloc, id)?,
+    })
+}
+
+fn movement(alloc: Global, id: &str, parent: &str, before: Option<&str>) -> Result<Edit, IdFault> {
+    let before = match before {
+        Some(before) => Some(Id::new(alloc, before)?),
+        None => None,
+    };
+    Ok(Edit::Move {
+        id: Id::new(alloc, id)?,
+        parent: Id::new(alloc, parent)?,
+        before,
+    })
+}
+
 /// A change that names the outline's width.
 fn outlined(width: u16) -> StyleChange {
     StyleChange {
@@ -91,6 +109,69 @@ fn boxes_more(rt: HostRuntime) -> Result<(), Fail> {
         ("X", "A", None, near, 0),
     ] {
         let edit = insertion(alloc, id, parent, before, rect)?;
+        assert_eq!(rt; number(&mut tree, &edit), want, "{id} {parent}");
+    }
+    Ok(())
+}
+
+#[test]
+fn boxes_fewer(rt: HostRuntime) -> Result<(), Fail> {
+    let alloc = rt.alloc();
+    let mut tree = planted::<Brand>(&rt, alloc)?;
+    let near = rect(&rt, 7, 7, 2, 2);
+    for (id, parent) in [("A", "root"), ("A1", "A"), ("B", "root")] {
+        let edit = insertion(alloc, id, parent, None, near)?;
+        assert_eq!(rt; number(&mut tree, &edit), 0, "{id}");
+    }
+    for (id, want) in [
+        ("Z", 1),
+        ("root", 3),
+        ("A", 0),
+        ("A", 1),
+        ("A1", 1),
+        ("B", 0),
+    ] {
+        let edit = removal(alloc, id)?;
+        assert_eq!(rt; number(&mut tree, &edit), want, "{id}");
+    }
+    for (id, parent, want) in [("B", "A", 2), ("A1", "root", 0), ("A", "A1", 0)] {
+        let edit = insertion(alloc, id, parent, None, near)?;
+        assert_eq!(rt; number(&mut tree, &edit), want, "{id} {parent}");
+    }
+    Ok(())
+}
+
+#[test]
+fn boxes_elsewhere(rt: HostRuntime) -> Result<(), Fail> {
+    let alloc = rt.alloc();
+    let mut tree = planted::<Brand>(&rt, alloc)?;
+    let near = rect(&rt, 7, 7, 2, 2);
+    for (id, parent) in [("A", "root"), ("A1", "A"), ("B", "root"), ("C", "root")] {
+        let edit = insertion(alloc, id, parent, None, near)?;
+        assert_eq!(rt; number(&mut tree, &edit), 0, "{id}");
+    }
+    for (id, parent, before, want) in [
+        ("Z", "Y", None, 1),
+        ("Z", "root", Some("Y"), 1),
+        ("A", "Z", Some("Y"), 2),
+        ("root", "Z", None, 2),
+        ("root", "A", Some("Z"), 3),
+        ("A", "A", Some("Z"), 4),
+        ("A", "A1", None, 4),
+        ("A", "root", Some("Z"), 5),
+        ("A", "root", Some("A1"), 5),
+        ("A", "root", Some("A"), 5),
+        ("A", "B", Some("C"), 5),
+        ("A", "root", None, 0),
+        ("C", "root", Some("B"), 0),
+        ("A", "B", None, 0),
+        ("C", "B", Some("A"), 0),
+        ("C", "root", Some("A"), 5),
+        ("B", "A1", None, 4),
+        ("A1", "root", Some("B"), 0),
+        ("B", "A1", None, 0),
+    ] {
+        let edit = movement(alloc, id, parent, before)?;
         assert_eq!(rt; number(&mut tree, &edit), want, "{id} {parent}");
     }
     Ok(())
@@ -153,6 +234,36 @@ fn levels_and_boxes(rt: HostRuntime) -> Result<(), Fail> {
         let parent = numbered(alloc, if deep { most } else { 1 })?;
         let edit = insertion(alloc, "x", parent.as_str(), None, rect)?;
         assert_eq!(rt; number(&mut tree, &edit), want, "{most}");
+    }
+    Ok(())
+}
+
+#[test]
+fn levels_that_move(rt: HostRuntime) -> Result<(), Fail> {
+    let alloc = rt.alloc();
+    let mut tree = planted::<Brand>(&rt, alloc)?;
+    let rect = rect(&rt, 0, 0, 1, 1);
+    for last in 1..256 {
+        let parent = numbered(alloc, last)?;
+        let id = numbered(alloc, last + 1)?;
+        let edit = insertion(alloc, id.as_str(), parent.as_str(), None, rect)?;
+        assert_eq!(rt; number(&mut tree, &edit), 0, "{id}");
+    }
+    for (id, parent) in [("p", "root"), ("q", "p")] {
+        let edit = insertion(alloc, id, parent, None, rect)?;
+        assert_eq!(rt; number(&mut tree, &edit), 0, "{id}");
+    }
+    for (id, parent, before, want) in [
+        ("p", "d256", None, 7),
+        ("p", "d255", Some("p"), 5),
+        ("p", "d255", Some("d256"), 7),
+        ("p", "d254", Some("d255"), 0),
+        ("q", "d256", None, 7),
+        ("q", "d255", None, 0),
+        ("p", "d255", Some("q"), 0),
+    ] {
+        let edit = movement(alloc, id, parent, before)?;
+        assert_eq!(rt; number(&mut tree, &edit), want, "{id} {parent}");
     }
     Ok(())
 }

@@ -3,7 +3,7 @@ use Rattle.std.proofs.Common.{◌≡◌, ℕ, suc, ◌+◌, ◌*◌, Bool, true,
 use Rattle.std.specs.List.{AllByRecursion, All, fold}
 use Rattle.rd_item.specs.declared.leaf.Leaf.{Leaf}
 use Rattle.rd_list.specs.Entries.{Entries, nil, leaf, group, flat}
-use Rattle.rd_list.specs.Lists.{StandsFor}
+use Rattle.rd_list.specs.Lists.{StandsFor, meets_any}
 use Rattle.rd_geom.specs.Canvas.{canvas_of}
 use Rattle.rd_tree.specs.Document.{Document}
 use Rattle.rd_stack.specs.Fresh.{fresh_list}
@@ -11,7 +11,7 @@ use Rattle.rd_geom.specs.Plane.{Rectangle, common, has_none, meets}
 use Rattle.rd_stack.specs.Laws.{IsOnCanvas}
 use Rattle.rd_stack.proofs.Promises.{stands_for_itself, shows_on_canvas}
 use Rattle.rd_run.specs.Lines.{KeptItem, paint_line}
-use Rattle.rd_run.specs.Machine.{State, settled_tree, Paints, leaves, invalid_area, meets_any, made_after, pixels_in, built, kept_on}
+use Rattle.rd_run.specs.Machine.{State, settled_tree, Paints, leaves, invalid_area, made_after, pixels_in, built, kept_on}
 use Rattle.rd_run.specs.Display.{Shows, Answers, IsSound, stamped}
 use Rattle.rd_run.specs.declared.display.Display.{Display}
 use Rattle.rd_run.proofs.Pixels.{whole_canvas}

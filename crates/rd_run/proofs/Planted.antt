@@ -13,8 +13,7 @@ use Rattle.rd_list.specs.Entries.{nil}
 use Rattle.rd_scene.specs.declared.script.Command.{Command}
 use Rattle.rd_scene.specs.Scripts.{Script}
 use Rattle.rd_scene.specs.Planting.{Plants, Grows, Adds, AddsAll, IsAlone, item_of, parent_in}
-use Rattle.rd_scene.proofs.Names.{parent_there}
-use Rattle.rd_run.proofs.Sound.{child_apart}
+use Rattle.rd_run.proofs.Apart.{child_apart}
 use Rattle.rd_run.specs.Machine.{start, Run, IsAllowedText}
 use Rattle.rd_run.specs.Display.{Shows}
 use Rattle.rd_run.specs.Answered.{AnswersAll, AnswersPart}
@@ -22,7 +21,7 @@ use Rattle.rd_run.specs.declared.display.Display.{Display}
 
 added : (b : SceneBox) (old new : Document) → Adds b old new → IsApart same_key old.boxes → IsApart same_key new.boxes
 added b old new h a =
-    subst (λ (t : Document). IsApart same_key t.boxes) (sym h.4) (child_apart (h.1) (item_of b) (h.0) None old.boxes a (parent_there old.boxes b (h.0) h.2) h.5)
+    subst (λ (t : Document). IsApart same_key t.boxes) (sym h.4) (child_apart (h.1) (item_of b) (h.0) None old.boxes a h.5)
 
 all_added : (bs : List SceneBox) (old new : Document) → AddsAll bs old new → IsApart same_key old.boxes → IsApart same_key new.boxes
 all_added [] old new h a = subst (λ (t : Document). IsApart same_key t.boxes) (sym h) a

@@ -1,10 +1,10 @@
 -- The machine: what the program may answer to the commands of a script. This project's own choice.
 use Rattle.std.specs.Prelude.{◌≡◌, ℕ, zero, suc, ◌+◌, ◌*◌, ℤ, pos, Bool, true, false, not, if◌then◌else◌, List, [], ◌∷◌, ◌++◌, length, count_by, Option, Some, None, unsigned_abs}
 use Rattle.std.specs.List.{list_any, AllByRecursion}
-use Rattle.rd_geom.specs.Plane.{Rectangle, holds_pixel, common, has_none}
+use Rattle.rd_geom.specs.Plane.{Rectangle, holds_pixel}
 use Rattle.rd_item.specs.declared.leaf.Leaf.{Leaf}
 use Rattle.rd_list.specs.Entries.{Entries, nil, leaf, group, flat}
-use Rattle.rd_list.specs.Lists.{StandsFor, same_leaf}
+use Rattle.rd_list.specs.Lists.{StandsFor, same_leaf, meets_any}
 use Rattle.rd_tree.specs.Document.{Document}
 use Rattle.rd_tree.specs.Forest.{each_if}
 use Rattle.rd_tree.specs.Works.{settled}
@@ -41,10 +41,6 @@ leaves (group k opacity inner rest) = group k opacity (leaves inner) (leaves res
 -- The invalid area, as rectangles: for now every paint paints the whole canvas.
 abbrev pub invalid_area : State → List Rectangle
 invalid_area s = canvas_of s.tree.canvas ∷ []
-
--- does a leaf meet one of these rectangles?
-abbrev pub meets_any : List Rectangle → Leaf → Bool
-meets_any rects l = list_any (λ r. not (has_none (common r l.visible))) rects
 
 -- the sum of f over the numbers below n
 abbrev pub sum_below : ℕ → (ℕ → ℕ) → ℕ

@@ -121,6 +121,18 @@ fn replayed(alloc: Global, input: &str) -> Result<Ended, Fail> {
     )
 }
 
+/// The answers to these commands in place of the last command of a scene's script, which is a dump.
+fn edited(alloc: Global, scene: &str, commands: &str) -> Result<Ended, Fail> {
+    let painted = match scene.strip_suffix("{\"do\":\"dump\"}]}") {
+        Some(painted) => painted,
+        None => scene,
+    };
+    let mut script = String::from_str(alloc, painted)?;
+    script.push_str(commands)?;
+    script.push_str("]}")?;
+    replayed(alloc, script.as_str())
+}
+
 #[test]
 fn four_layers_are_painted_by_level(rt: HostRuntime) -> Result<(), Fail> {
     let alloc = rt.alloc();
@@ -180,14 +192,8 @@ fn edits_are_done_or_refused_by_the_first_test_that_holds(rt: HostRuntime) -> Re
 {\"do\":\"rect\",\"id\":\"B\",\"rect\":[6,6,3,3]},\
 {\"do\":\"style\",\"id\":\"A\",\"style\":{\"background\":\"#800000\",\"z-index\":1,\"position\":\"relative\"}},\
 {\"do\":\"insert\",\"id\":\"X\",\"parent\":\"root\",\"before\":\"B\",\"rect\":[1,1,1,1],\"style\":{\"background\":\"#0000ff\"}},\
-{\"do\":\"dump\"},{\"do\":\"dump\"}]}";
-    let base = match BASE.strip_suffix("{\"do\":\"dump\"}]}") {
-        Some(base) => base,
-        None => BASE,
-    };
-    let mut script = String::from_str(alloc, base)?;
-    script.push_str(commands)?;
-    let edited = replayed(alloc, script.as_str())?;
+{\"do\":\"dump\"},{\"do\":\"dump\"}";
+    let edited = edited(alloc, BASE, commands)?;
     let dumped = "dump 4\n\
 item 0 root back 0 0 10 10 0 0 10 10 0 0 0 0 ffffffff auto 2\n\
 item 0 X back 1 1 1 1 1 1 1 1 0 0 0 0 0000ffff auto 2\n\
@@ -202,6 +208,90 @@ item 0 A back 0 0 4 4 0 0 4 4 0 0 0 0 800000ff auto 2\n";
     want.push_str(dumped)?;
     assert_eq!(rt; edited.status, 0);
     assert_eq!(rt; edited.out.as_str(), want.as_str());
+    Ok(())
+}
+
+#[test]
+fn a_removal_or_a_move_is_refused_by_the_first_test_that_holds(
+    rt: HostRuntime,
+) -> Result<(), Fail> {
+    let alloc = rt.alloc();
+    let commands = "{\"do\":\"remove\",\"id\":\"Z\"},\
+{\"do\":\"move\",\"id\":\"A\",\"parent\":\"Z\"},\
+{\"do\":\"move\",\"id\":\"root\",\"parent\":\"Z\"},\
+{\"do\":\"remove\",\"id\":\"root\"},\
+{\"do\":\"insert\",\"id\":\"X\",\"parent\":\"A\",\"before\":\"C\",\"rect\":[0,0,1,1]},\
+{\"do\":\"move\",\"id\":\"A\",\"parent\":\"root\",\"before\":\"A\"},\
+{\"do\":\"insert\",\"id\":\"B\",\"parent\":\"root\",\"rect\":[0,0,1,1]}";
+    let refused = edited(alloc, BASE, commands)?;
+    assert_eq!(rt; refused.status, 0);
+    assert_eq!(rt;
+        refused.out.as_str(),
+        "paint 1 built 4 kept 0 area 100\nrefused 1\nrefused 2\nrefused 2\nrefused 3\nrefused 5\nrefused 5\nrefused 6\n"
+    );
+    Ok(())
+}
+
+#[test]
+fn no_box_goes_below_itself(rt: HostRuntime) -> Result<(), Fail> {
+    let alloc = rt.alloc();
+    let scene = BASE.replace(
+        alloc,
+        "}}],",
+        "}},{\"id\":\"A1\",\"parent\":\"A\",\"rect\":[0,0,1,1],\"style\":{\"background\":\"#0000ff\"}}],",
+    )?;
+    let commands = "{\"do\":\"move\",\"id\":\"A\",\"parent\":\"A1\"},{\"do\":\"paint\"}";
+    let refused = edited(alloc, scene.as_str(), commands)?;
+    assert_eq!(rt; refused.status, 0);
+    assert_eq!(rt;
+        refused.out.as_str(),
+        "paint 1 built 5 kept 0 area 100\nrefused 4\npaint 2 built 5 kept 0 area 100\n"
+    );
+    Ok(())
+}
+
+#[test]
+fn a_removed_id_is_free_and_a_new_box_stands_last(rt: HostRuntime) -> Result<(), Fail> {
+    let alloc = rt.alloc();
+    let commands = "{\"do\":\"remove\",\"id\":\"A\"},\
+{\"do\":\"insert\",\"id\":\"A\",\"parent\":\"root\",\"rect\":[0,6,2,2],\"style\":{\"background\":\"#ffff00\"}},\
+{\"do\":\"paint\"},{\"do\":\"dump\"}";
+    let again = edited(alloc, BASE, commands)?;
+    let mut want = String::from_str(
+        alloc,
+        "paint 1 built 4 kept 0 area 100\nok\nok\npaint 2 built 4 kept 0 area 100\n",
+    )?;
+    want.push_str(
+        "dump 4\n\
+item 0 root back 0 0 10 10 0 0 10 10 0 0 0 0 ffffffff auto 2\n\
+item 0 B back 2 2 4 4 2 2 4 4 0 0 0 0 00ff00ff auto 2\n\
+item 0 C back 7 7 2 2 7 7 2 2 0 0 0 0 0000ffff auto 2\n\
+item 0 A back 0 6 2 2 0 6 2 2 0 0 0 0 ffff00ff auto 2\n",
+    )?;
+    assert_eq!(rt; again.status, 0);
+    assert_eq!(rt; again.out.as_str(), want.as_str());
+    Ok(())
+}
+
+#[test]
+fn a_moved_branch_is_painted_at_its_new_place(rt: HostRuntime) -> Result<(), Fail> {
+    let alloc = rt.alloc();
+    let commands = "{\"do\":\"move\",\"id\":\"B\",\"parent\":\"C\"},\
+{\"do\":\"move\",\"id\":\"C\",\"parent\":\"root\",\"before\":\"A\"},{\"do\":\"dump\"}";
+    let moved = edited(alloc, BASE, commands)?;
+    let mut want = String::from_str(
+        alloc,
+        "paint 1 built 4 kept 0 area 100\nok\nok\npaint 2 built 4 kept 0 area 100\n",
+    )?;
+    want.push_str(
+        "dump 4\n\
+item 0 root back 0 0 10 10 0 0 10 10 0 0 0 0 ffffffff auto 2\n\
+item 0 C back 7 7 2 2 7 7 2 2 0 0 0 0 0000ffff auto 2\n\
+item 0 B back 2 2 4 4 2 2 4 4 0 0 0 0 00ff00ff auto 2\n\
+item 0 A back 0 0 4 4 0 0 4 4 0 0 0 0 ff0000ff auto 2\n",
+    )?;
+    assert_eq!(rt; moved.status, 0);
+    assert_eq!(rt; moved.out.as_str(), want.as_str());
     Ok(())
 }
 

@@ -4,7 +4,7 @@ use Rattle.serde_json.specs.Data.{Data}
 use Rattle.serde_json.specs.Find.{get, as_object}
 use Rattle.rd_style.specs.Changes.{plain}
 use Rattle.rd_edits.specs.declared.edit.Edit.{Edit}
-use Rattle.rd_edits.specs.declared.edit.Edit.TheVariants.{Insert, SetStyle, SetRect, Shift}
+use Rattle.rd_edits.specs.declared.edit.Edit.TheVariants.{Insert, Remove, Move, SetStyle, SetRect, Shift}
 use Rattle.rd_scene.specs.Members.{◌>>=◌, only_if, has_only, optional, from_to}
 use Rattle.rd_scene.specs.Rects.{rect_of}
 use Rattle.rd_scene.specs.Styles.{change_of, style_of}
@@ -21,6 +21,22 @@ insert_of d = do
   style ← optional plain style_of (get (codes "style") d)
   only_if (has_only (codes "do" ∷ codes "id" ∷ codes "parent" ∷ codes "before" ∷ codes "rect" ∷ codes "style" ∷ []) ms)
       (Some (Insert id parent before rect style))
+
+-- This project's own choice: `remove` has an id.
+unfoldable pub remove_of : Data → Option Edit
+remove_of d = do
+  ms ← as_object d
+  id ← (get (codes "id") d >>= id_of)
+  only_if (has_only (codes "do" ∷ codes "id" ∷ []) ms) (Some (Remove id))
+
+-- This project's own choice: `move` has an id, a parent and perhaps a box to stand before.
+unfoldable pub move_of : Data → Option Edit
+move_of d = do
+  ms ← as_object d
+  id ← (get (codes "id") d >>= id_of)
+  parent ← (get (codes "parent") d >>= id_of)
+  before ← optional None id_or_null (get (codes "before") d)
+  only_if (has_only (codes "do" ∷ codes "id" ∷ codes "parent" ∷ codes "before" ∷ []) ms) (Some (Move id parent before))
 
 -- This project's own choice: `style` has an id and the members of the style that are named.
 unfoldable pub set_style_of : Data → Option Edit
@@ -55,6 +71,8 @@ shift_of d = do
 abbrev pub edit_named : List ℕ → Data → Option Edit
 edit_named w d =
     if bytes_eq w (codes "insert") then insert_of d else
+    if bytes_eq w (codes "remove") then remove_of d else
+    if bytes_eq w (codes "move") then move_of d else
     if bytes_eq w (codes "style") then set_style_of d else
     if bytes_eq w (codes "rect") then set_rect_of d else
     if bytes_eq w (codes "shift") then shift_of d else None

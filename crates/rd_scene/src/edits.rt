@@ -61,6 +61,45 @@ fn insert_of(alloc: Global, v: &Value) -> Result<Edit, SceneFault>
     })
 }
 
+#[tactic(auto, unfolding(crate::specs::Edits::remove_of))]
+fn remove_of(alloc: Global, v: &Value) -> Result<Edit, SceneFault>
+    ensures { Gives (λ e. e) result (spec.remove_of (view v.now)) }
+{
+    let Some(members) = v.as_object() else {
+        return Err(SceneFault::Form);
+    };
+    let Some(id) = member(v, "id") else {
+        return Err(SceneFault::Form);
+    };
+    let id = id_of(alloc, id)?;
+    if !has_only(members, &["do", "id"]) {
+        return Err(SceneFault::Form);
+    }
+    Ok(Edit::Remove { id })
+}
+
+#[tactic(auto, unfolding(crate::specs::Edits::move_of))]
+fn move_of(alloc: Global, v: &Value) -> Result<Edit, SceneFault>
+    ensures { Gives (λ e. e) result (spec.move_of (view v.now)) }
+{
+    let Some(members) = v.as_object() else {
+        return Err(SceneFault::Form);
+    };
+    let Some(id) = member(v, "id") else {
+        return Err(SceneFault::Form);
+    };
+    let id = id_of(alloc, id)?;
+    let Some(parent) = member(v, "parent") else {
+        return Err(SceneFault::Form);
+    };
+    let parent = id_of(alloc, parent)?;
+    let before = before_of(alloc, member(v, "before"))?;
+    if !has_only(members, &["do", "id", "parent", "before"]) {
+        return Err(SceneFault::Form);
+    }
+    Ok(Edit::Move { id, parent, before })
+}
+
 #[tactic(auto, unfolding(crate::specs::Edits::set_style_of))]
 fn set_style_of(alloc: Global, v: &Value) -> Result<Edit, SceneFault>
     ensures { Gives (λ e. e) result (spec.set_style_of (view v.now)) }
@@ -136,6 +175,8 @@ pub(crate) fn edit_named(alloc: Global, word: &str, v: &Value) -> Result<Edit, S
 {
     match word {
         "insert" => insert_of(alloc, v),
+        "remove" => remove_of(alloc, v),
+        "move" => move_of(alloc, v),
         "style" => set_style_of(alloc, v),
         "rect" => set_rect_of(alloc, v),
         "shift" => shift_of(alloc, v),

@@ -191,6 +191,31 @@ fn edits_of_the_form(rt: HostRuntime) -> Result<(), Fail> {
             "{\"do\":\"insert\",\"id\":\"a\",\"parent\":\"root\"}",
             "form",
         ),
+        ("{\"do\":\"remove\",\"id\":\"a\"}", "script"),
+        ("{\"do\":\"remove\",\"id\":null}", "form"),
+        (
+            "{\"do\":\"remove\",\"id\":\"a\",\"parent\":\"root\"}",
+            "form",
+        ),
+        ("{\"do\":\"move\",\"id\":\"a\",\"parent\":\"Z\"}", "script"),
+        (
+            "{\"do\":\"move\",\"id\":\"a\",\"parent\":\"Z\",\"before\":null}",
+            "script",
+        ),
+        (
+            "{\"do\":\"move\",\"id\":\"a\",\"parent\":\"a\",\"before\":\"a\"}",
+            "script",
+        ),
+        ("{\"do\":\"move\",\"id\":\"a\"}", "form"),
+        ("{\"do\":\"move\",\"id\":\"a\",\"parent\":null}", "form"),
+        (
+            "{\"do\":\"move\",\"id\":\"a\",\"parent\":\"Z\",\"before\":1}",
+            "form",
+        ),
+        (
+            "{\"do\":\"move\",\"id\":\"a\",\"parent\":\"Z\",\"rect\":[0,0,1,1]}",
+            "form",
+        ),
         ("{\"do\":\"style\",\"id\":\"a\",\"style\":{}}", "script"),
         (
             "{\"do\":\"style\",\"id\":\"a\",\"style\":{\"position\":\"fixed\",\"background\":\"transparent\"}}",
@@ -241,6 +266,30 @@ fn edits_of_the_form(rt: HostRuntime) -> Result<(), Fail> {
     };
     assert_eq!(rt; id.text(), "a");
     assert_eq!(rt; (*dx, *dy), (3, -2));
+    let text = script(
+        alloc,
+        CANVAS,
+        ROOT,
+        "{\"do\":\"move\",\"id\":\"a\",\"parent\":\"b\",\"before\":\"c\"},{\"do\":\"remove\",\"id\":\"d\"}",
+    )?;
+    let script = read(alloc, text.as_bytes())?;
+    let [
+        Command::Change(
+            Edit::Move {
+                id,
+                parent,
+                before: Some(before),
+            },
+        ),
+        Command::Change(Edit::Remove { id: gone }),
+    ] = script.commands.as_slice()
+    else {
+        panic!(&rt; "no move and no removal")
+    };
+    assert_eq!(rt; id.text(), "a");
+    assert_eq!(rt; parent.text(), "b");
+    assert_eq!(rt; before.text(), "c");
+    assert_eq!(rt; gone.text(), "d");
     Ok(())
 }
 

@@ -1,11 +1,11 @@
--- A box with an id is in the forest.
+-- A box that an id names is in the forest.
 use Rattle.std.proofs.Common.{◌≡◌, ℕ, Bool, true, false, ◌||◌, cond, List, refl, ◌∙◌, Option, Some, None, bytes_eq}
 use Rattle.rd_keys.specs.Keys.{same_key}
 use Rattle.rd_keys.proofs.Keys.{same_key-refl}
-use Rattle.rd_tree.proofs.Standing.{from_left, from_right}
 use Rattle.rd_tree.specs.declared.node.Item.{Item}
 use Rattle.rd_tree.specs.Forest.{empty, tree, has}
 use Rattle.rd_tree.specs.Document.{BoxKey, Boxes, named, or_else}
+use Rattle.rd_tree.proofs.Standing.{from_left, from_right}
 
 there_first : (i : List ℕ) (k j : BoxKey) (d : Item) (below rest : Boxes) → (named i below ≡ Some k → has same_key k below ≡ true)
     → (named i rest ≡ Some k → has same_key k rest ≡ true) → named i (tree j d below rest) ≡ Some k → has same_key k (tree j d below rest) ≡ true

@@ -1,0 +1,103 @@
+-- Boxes stay apart where some are put among them.
+use Rattle.std.proofs.Common.{◌≡◌, refl, ◌∙◌, sym, subst, Bool, true, false, ◌||◌, cond, Option, Some, None, inl, inr}
+use Rattle.rd_keys.specs.Keys.{same_key}
+use Rattle.rd_keys.proofs.Keys.{same_key-sound, same_key-refl}
+use Rattle.rd_tree.specs.declared.node.Item.{Item}
+use Rattle.rd_tree.specs.Document.{BoxKey, Boxes, with_child}
+use Rattle.rd_tree.specs.Forest.{empty, tree, has, from, children, under, amid, ahead, without, without_siblings, branch, in_subtree, at_subtree, ◌▷◌, AreApart, IsApart}
+use Rattle.rd_tree.specs.Works.{touch}
+use Rattle.rd_tree.specs.Edits.{moved}
+use Rattle.rd_tree.proofs.Standing.{cases, either, from_left, from_right, join-empty, has-join, out_of_children, differs_back}
+use Rattle.rd_tree.proofs.Under.{no_under, apart_under, apart_join}
+use Rattle.rd_tree.proofs.Cutting.{in_children}
+use Rattle.rd_tree.proofs.Placing.{Joined, joined}
+use Rattle.rd_tree.proofs.Without.{apart_without, stays_out}
+use Rattle.rd_tree.proofs.Each.{apart_each}
+
+-- the children of a box are apart where all are
+children-apart : (p : BoxKey) (f : Boxes) → IsApart same_key f → IsApart same_key (children same_key p f)
+children-apart p empty a = tt
+children-apart p (tree k d below rest) a =
+    elim (same_key p k) as (λ v. IsApart same_key (cond v below (children same_key p below ▷ children same_key p rest))) [
+      | true ↦ a.3
+      | false ↦ apart_join same_key same_key-sound same_key-refl (children same_key p below) (children same_key p rest) (children-apart p below a.3) (children-apart p rest a.4)
+          (λ j h. out_of_children same_key same_key-sound same_key-refl j p rest (a.2 j (in_children same_key same_key-sound same_key-refl j p below h)))
+    ]
+
+-- Some siblings stand before a place among them, and the others after it.
+record Split (before : Option BoxKey) (c : Boxes) : Type 0 where
+  xs : Boxes
+  ys : Boxes
+  is : c ≡ xs ▷ ys
+  amid_is : (g : Boxes) → amid same_key before g c ≡ xs ▷ (g ▷ ys)
+
+split : (before : Option BoxKey) (c : Boxes) → Split before c
+split None c = record { xs = c; ys = empty; is = sym (join-empty c); amid_is = λ g. rw (join-empty g) refl }
+split (Some j) empty = record { xs = empty; ys = empty; is = refl; amid_is = λ g. sym (join-empty g) }
+split (Some j) (tree m e below rest) =
+    elim (cases (same_key j m)) [
+      | inl h ↦ record { xs = empty; ys = tree m e below rest; is = refl; amid_is = λ g. rw h refl }
+      | inr h ↦
+          let s : Split (Some j) rest = split (Some j) rest in
+          record { xs = tree m e below s.xs; ys = s.ys; is = rw (← s.is) refl; amid_is = λ g. rw (h, s.amid_is g) refl }
+    ]
+
+-- Boxes that are nowhere in the forest are put among the children of p.
+put_apart : (p : BoxKey) (before : Option BoxKey) (b f : Boxes) → IsApart same_key f → IsApart same_key b → AreApart same_key f b → IsApart same_key (under same_key p (amid same_key before b (children same_key p f)) f)
+put_apart p before b f a ab away =
+    let c : Boxes = children same_key p f in
+    let s : Split before c = split before c in
+    let below : AreApart same_key c b = λ j h. away j (in_children same_key same_key-sound same_key-refl j p f h) in
+    let w : Joined same_key same_key-sound same_key-refl b c (s.xs ▷ (b ▷ s.ys)) = joined same_key same_key-sound same_key-refl b c s.xs s.ys (children-apart p f a) ab below s.is in
+    elim (cases (has same_key p f)) [
+      | inl e ↦ rw (s.amid_is b) (apart_under same_key same_key-sound same_key-refl p (s.xs ▷ (b ▷ s.ys)) f a w.apart e (λ j u v. w.no_more j u (away j v)))
+      | inr e ↦ rw (no_under same_key same_key-sound same_key-refl p (amid same_key before b c) f e) a
+    ]
+
+-- a new child under a key that no box has leaves all apart
+pub child_apart : (k : BoxKey) (d : Item) (p : BoxKey) (before : Option BoxKey) (f : Boxes) → IsApart same_key f → has same_key k f ≡ false → IsApart same_key (with_child p before k d f)
+child_apart k d p before f a n =
+    put_apart p before (tree k d empty empty) f a (refl, refl, (λ j h. refl), tt, tt) (λ j h. rw (sides j (differs_back same_key same_key-sound same_key-refl f k j n h)) refl)
+  where
+    sides : (j : BoxKey) → same_key k j ≡ false → same_key j k ≡ false
+    sides j e = elim (cases (same_key j k)) [ inl u ↦ absurd (let v : same_key k j ≡ true = rw (same_key-sound j k u) (same_key-refl k) in cc) | inr u ↦ u ]
+
+-- ---- moved
+
+branch-apart : (k : BoxKey) (f : Boxes) → IsApart same_key f → IsApart same_key (branch same_key k f)
+branch-apart k empty a = tt
+branch-apart k (tree j d below rest) a =
+    elim (same_key k j) as (λ v. IsApart same_key (without_siblings (cond v (tree j d below rest) (cond (has same_key k below) (from same_key k below) (from same_key k rest))))) [
+      | true ↦ (a.0, refl, (λ i h. refl), a.3, tt)
+      | false ↦ elim (has same_key k below) as (λ v. IsApart same_key (without_siblings (cond v (from same_key k below) (from same_key k rest)))) [
+        | true ↦ branch-apart k below a.3
+        | false ↦ branch-apart k rest a.4
+      ]
+    ]
+
+-- what is neither the box nor below it
+out_of_branch : (j k : BoxKey) (f : Boxes) → same_key j k ≡ false → has same_key j (children same_key k f) ≡ false → has same_key j (branch same_key k f) ≡ false
+out_of_branch j k empty n h = refl
+out_of_branch j k (tree i d below rest) n h =
+    elim (cases (same_key k i)) [
+      | inl e ↦
+          let u : has same_key j below ≡ false = rw e at h in
+          let v : same_key j i ≡ false = subst (λ x. same_key j x ≡ false) (same_key-sound k i e) n in
+          rw e (rw (u, v) refl)
+      | inr e ↦
+          let c : (has same_key j (children same_key k below) || has same_key j (children same_key k rest)) ≡ false =
+          sym (has-join same_key same_key-sound same_key-refl j (children same_key k below) (children same_key k rest)) ∙ (rw e at h) in
+          let s : (has same_key j (children same_key k below) ≡ false) × (has same_key j (children same_key k rest) ≡ false) = either (has same_key j (children same_key k below)) (has same_key j (children same_key k rest)) c in
+          rw e (elim (has same_key k below) as (λ v. has same_key j (without_siblings (cond v (from same_key k below) (from same_key k rest))) ≡ false) [
+            | true ↦ out_of_branch j k below n s.0
+            | false ↦ out_of_branch j k rest n s.1
+          ])
+    ]
+
+-- a box that moves with all below it leaves all apart
+pub moved_apart : (k p : BoxKey) (before : Option BoxKey) (f : Boxes) → IsApart same_key f → IsApart same_key (moved k p before f)
+moved_apart k p before f a =
+    let g : Boxes = at_subtree same_key k touch f in
+    let ag : IsApart same_key g = apart_each (λ j. in_subtree same_key j k f) touch same_key f a in
+    let away : AreApart same_key (without same_key k g) (branch same_key k g) = λ j h. let s = stays_out same_key same_key-sound same_key-refl j k g ag h in out_of_branch j k g s.0 s.1 in
+    put_apart p before (branch same_key k g) (without same_key k g) (apart_without same_key same_key-sound same_key-refl k g ag) (branch-apart k g ag) away
