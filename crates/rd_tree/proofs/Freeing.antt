@@ -31,6 +31,11 @@ module _ {K D : Type 0} where
   keys-join (tree k d below rest) g =
       ap (λ l. k ∷ l) (ap (λ l. keys below ++ l) (keys-join rest g) ∙ sym (append_assoc (keys below) (keys rest) (keys g)))
 
+-- Nothing is read from no key on.
+read-none : (n : ℕ) (at : BoxKey → Option (Node BoxKey Item)) → read n at None ≡ empty
+read-none zero at = refl
+read-none (suc n) at = refl
+
 left_append : (m : List Slot) (ks ls : List BoxKey) → with_all_left m (ks ++ ls) ≡ with_all_left (with_all_left m ks) ls
 left_append m [] ls = refl
 left_append m (k ∷ ks) ls = left_append (with_left m k) ks ls
@@ -162,11 +167,8 @@ pub record Freed {Y S : Type 0} (a0 : Arena inner.Node) (first : Option BoxKey) 
 pub ended : {Y S : Type 0} (a0 a : Arena inner.Node) (first : Option BoxKey) (ids0 ids : HashMap (String Y) BoxKey S) (at : Option BoxKey) → Freed a0 first ids0 a ids at → at ≡ None → Frees a0 a (seen_from a0 first) × DropsTexts (seen_from a0 first) ids0 ids
 ended a0 a first ids0 ids at w0 is =
     let w : Freed a0 first ids0 a ids None = subst (λ q. Freed a0 first ids0 a ids q) is w0 in
-    let e : w.gone ≡ seen_from a0 first = sym (join-empty w.gone) ∙ (ap (λ f. w.gone ▷ f) (sym (nothing a.limit)) ∙ w.whole) in
-    (subst (λ f. Frees a0 a f) e w.freed, subst (λ f. DropsTexts f ids0 ids) e w.dropped) where
-      nothing : (n : ℕ) → read n (linked a) None ≡ empty
-      nothing zero = refl
-      nothing (suc n) = refl
+    let e : w.gone ≡ seen_from a0 first = sym (join-empty w.gone) ∙ (ap (λ f. w.gone ▷ f) (sym (read-none a.limit (linked a))) ∙ w.whole) in
+    (subst (λ f. Frees a0 a f) e w.freed, subst (λ f. DropsTexts f ids0 ids) e w.dropped)
 
 -- What is known after one box went: of those below it, and once they went too.
 pub record FreedStep {Y S : Type 0} (a0 : Arena inner.Node) (first : Option BoxKey) (ids0 : HashMap (String Y) BoxKey S) (a a1 : Arena inner.Node) (ids1 : HashMap (String Y) BoxKey S) (at x z : Option BoxKey) : Type 0 where
@@ -232,10 +234,7 @@ module _ (a a1 : Arena inner.Node) (k : BoxKey) (o : Option BoxKey × Option Box
         topped_out (Some n) j h = rw h refl
 
   nothing_below : linked a k ≡ None → low ≡ empty
-  nothing_below n = ap (λ q. seen_from a (onward_of q).0) n ∙ nothing a.limit where
-    nothing : (m : ℕ) → read m (linked a) None ≡ empty
-    nothing zero = refl
-    nothing (suc m) = refl
+  nothing_below n = ap (λ q. seen_from a (onward_of q).0) n ∙ read-none a.limit (linked a)
 
   pub branch_freed : (a2 : Arena inner.Node) → Frees a a1 (topped k (linked a k) empty) → IsRead a (onward_of (linked a k)).0 → has same_key k low ≡ false → Frees a1 a2 (seen_from a1 o.0) → Frees a a2 (branch_at a k)
   branch_freed a2 freed r out rest = at (linked a k) nothing_below freed where
