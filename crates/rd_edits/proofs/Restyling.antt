@@ -10,6 +10,7 @@ use Rattle.rd_tree.specs.Forest.{empty, tree, from, has, top}
 use Rattle.rd_tree.specs.declared.node.Item.{Item}
 use Rattle.rd_tree.specs.Document.{BoxKey, Boxes, AllFit}
 use Rattle.rd_tree.specs.Edits.{CanRestyle}
+use Rattle.rd_tree.proofs.Looking.{fit_from}
 
 side : (f : Sides → ℕ) (o : Option Sides) (s z : Sides) → f s ≤ 1000 → f (unwrap_or o z) ≤ 1000 → f (unwrap_or o s) ≤ 1000
 side f None s z h g = h
@@ -27,22 +28,6 @@ restyled_fits s c h g = record {
   left = side (λ w. w.left) c.border_width s.border_width plain.border_width h.left g.left;
   outline = width c.outline_width s.outline_width plain.outline_width h.outline g.outline;
 }
-
-fit_at : (k j : BoxKey) (d : Item) (below rest : Boxes) → AllFit (tree j d below rest) → AllFit (from same_key k below) → AllFit (from same_key k rest)
-    → AllFit (from same_key k (tree j d below rest))
-fit_at k j d below rest h low later = here (same_key k j)
-  where
-    deeper : (b : Bool) → AllFit (cond b (from same_key k below) (from same_key k rest))
-    deeper true = low
-    deeper false = later
-
-    here : (b : Bool) → AllFit (cond b (tree j d below rest) (cond (has same_key k below) (from same_key k below) (from same_key k rest)))
-    here true = h
-    here false = deeper (has same_key k below)
-
-fit_from : (k : BoxKey) (f : Boxes) → AllFit f → AllFit (from same_key k f)
-fit_from k empty h = tt
-fit_from k (tree j d below rest) h = fit_at k j d below rest h (fit_from k below h.2) (fit_from k rest h.3)
 
 -- Where all boxes are within the limits, one whose named widths are too stays so.
 pub stays_within : (k : BoxKey) (c : StyleChange) (f : Boxes) → AllFit f → Fits (changed plain c) → CanRestyle k c f

@@ -4,7 +4,8 @@ ghost use Rattle.std.specs.Prelude.{◌≡◌, ◌↔◌, ◌+◌, IsTrue, IfSom
 ghost use Rattle.rd_keys.specs.Keys.{same_key};
 ghost use Rattle.rd_style.specs.Limits.{Fits, FitsRect};
 ghost use Rattle.rd_tree.specs.Document.{contains, HasRoom};
-ghost use Rattle.rd_tree.specs.Edits.{CanRestyle, CanShift};
+ghost use Rattle.rd_style.specs.Changes as styles;
+ghost use Rattle.rd_tree.specs.Edits.{CanShift};
 ghost use Rattle.rd_tree.specs.Forest.{children, IsPlaceIn};
 ghost use Rattle.rd_edits.specs.Edited as edited;
 ghost use Rattle.rd_edits.specs.Limits as limits;
@@ -33,14 +34,11 @@ pub(crate) fn fits(s: &Style) -> bool
     rd_style::fits(s)
 }
 
-/// Are the widths that the change names within the limits? The box keeps to them then, since its other widths do.
-#[tactic(auto, using(crate::proofs::Restyling::stays_within))]
-pub(crate) fn fits_change<B: Ledger>(tree: &Tree<B>, key: BoxKey, c: &StyleChange) -> bool
+/// Are the widths that the change names within the limits? Any box keeps to them then, since its other widths do.
+pub(crate) fn fits_change(c: &StyleChange) -> bool
     ensures test { result ≡ limits.fits_change c.now }
-    ensures fits { IsTrue result → CanRestyle key c.now tree.now.boxes }
+    ensures fits { IsTrue result → Fits (styles.changed styles.plain c.now) }
 {
-    // All boxes of a tree are within the limits, as its root tells.
-    let _ = tree.root();
     fits(&changed(&Style::plain(), c))
 }
 
@@ -89,7 +87,7 @@ pub(crate) fn is_full<B: Ledger>(tree: &Tree<B>) -> bool
 
 /// The place among the children of the parent: before the box given, or last where none is given. None where the box given
 /// is no child of the parent.
-#[tactic(auto, using(rd_tree::proofs::Finding::named_there))]
+#[tactic(auto, using(rd_tree::proofs::Naming::named_there))]
 pub(crate) fn place_of<B: Ledger>(
     tree: &Tree<B>,
     parent: BoxKey,

@@ -14,7 +14,7 @@ use rd_tree::{Id, Tree};
 use std::sync::ledger::Ledger;
 
 /// Puts a new box below its parent.
-#[tactic(auto, using(rd_tree::proofs::Finding::named_there))]
+#[tactic(auto, using(rd_tree::proofs::Naming::named_there))]
 pub(crate) fn insert<B: Ledger>(
     tree: &mut Tree<B>,
     id: &Id,

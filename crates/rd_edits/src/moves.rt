@@ -12,7 +12,7 @@ use rd_tree::{Id, Tree};
 use std::sync::ledger::Ledger;
 
 /// Takes away a box and all below it.
-#[tactic(auto, using(rd_tree::proofs::Finding::named_there))]
+#[tactic(auto, using(rd_tree::proofs::Naming::named_there))]
 pub(crate) fn remove<B: Ledger>(tree: &mut Tree<B>, id: &Id) -> Result<(), EditFault>
     ensures refused { IfErr result (λ f. refusal_of tree.old (Remove id.now) ≡ test_of f) }
     ensures accepted { OnOk result (refusal_of tree.old (Remove id.now) ≡ None) }
@@ -31,7 +31,7 @@ pub(crate) fn remove<B: Ledger>(tree: &mut Tree<B>, id: &Id) -> Result<(), EditF
 }
 
 /// Puts a box and all below it at another place.
-#[tactic(auto, using(rd_tree::proofs::Finding::named_there))]
+#[tactic(auto, using(rd_tree::proofs::Naming::named_there))]
 pub(crate) fn move_to<B: Ledger>(
     tree: &mut Tree<B>,
     id: &Id,

@@ -14,7 +14,7 @@ use rd_tree::{Id, Tree};
 use std::sync::ledger::Ledger;
 
 /// Changes the style of a box.
-#[tactic(auto, using(rd_tree::proofs::Finding::named_there))]
+#[tactic(auto, using(rd_tree::proofs::Naming::named_there, crate::proofs::Restyling::stays_within))]
 pub(crate) fn set_style<B: Ledger>(
     tree: &mut Tree<B>,
     id: &Id,
@@ -29,7 +29,7 @@ pub(crate) fn set_style<B: Ledger>(
     let Some(key) = tree.find(id) else {
         return Err(EditFault::UnknownId);
     };
-    if !fits_change(tree, key, change) {
+    if !fits_change(change) {
         return Err(EditFault::OutOfRange);
     }
     tree.change(key, change);
@@ -37,7 +37,7 @@ pub(crate) fn set_style<B: Ledger>(
 }
 
 /// Gives a box another rectangle.
-#[tactic(auto, using(rd_tree::proofs::Finding::named_there))]
+#[tactic(auto, using(rd_tree::proofs::Naming::named_there))]
 pub(crate) fn set_rect<B: Ledger>(tree: &mut Tree<B>, id: &Id, rect: Rect) -> Result<(), EditFault>
     ensures refused { IfErr result (λ f. refusal_of tree.old (SetRect id.now rect) ≡ test_of f) }
     ensures accepted { OnOk result (refusal_of tree.old (SetRect id.now rect) ≡ None) }
@@ -56,7 +56,7 @@ pub(crate) fn set_rect<B: Ledger>(tree: &mut Tree<B>, id: &Id, rect: Rect) -> Re
 }
 
 /// Moves a box and all below it.
-#[tactic(auto, using(rd_tree::proofs::Finding::named_there))]
+#[tactic(auto, using(rd_tree::proofs::Naming::named_there))]
 pub(crate) fn shift<B: Ledger>(
     tree: &mut Tree<B>,
     id: &Id,

@@ -1,7 +1,7 @@
 -- Which ids a forest has once a box is added.
 use Rattle.std.proofs.Common.{◌≡◌, ℕ, Bool, true, false, ◌||◌, ◌&&◌, cond, List, refl, sym, ◌∙◌, ap, Option, Some, None, is_some, option_and_then, bytes_eq}
 use Rattle.rd_keys.specs.Keys.{same_key}
-use Rattle.rd_tree.proofs.Finding.{named_there}
+use Rattle.rd_tree.proofs.Naming.{named_there}
 use Rattle.rd_tree.specs.declared.node.Item.{Item}
 use Rattle.rd_tree.specs.Forest.{empty, tree, has, children, under, ◌▷◌}
 use Rattle.rd_tree.specs.Document.{BoxKey, Boxes, named, or_else, with_child}

@@ -11,19 +11,12 @@ use Rattle.rd_tree.specs.declared.node.Item.{Item}
 use Rattle.rd_tree.specs.Document.{Boxes, AllFit}
 use Rattle.rd_tree.specs.Shown.{Shown, shown}
 use Rattle.rd_tree.proofs.Looking as looking
+use Rattle.rd_tree.proofs.Looking.{fit_from}
 use Rattle.rd_tree.proofs.Standing.{cases}
 use Rattle.rd_stack.specs.Spots.{BoxData}
 use Rattle.rd_stack.specs.Fresh.{box, painted, with_below}
 use Rattle.rd_stack.specs.Painting.{Painted}
 use Rattle.rd_stack.specs.Looks.{Onward}
-
-fit_from : (k : BoxKey) (f : Boxes) → AllFit f → AllFit (from same_key k f)
-fit_from k empty a = tt
-fit_from k (tree j d below rest) a =
-    elim (cases (same_key k j)) [
-      | inl e ↦ rw e a
-      | inr e ↦ elim (cases (has same_key k below)) [ inl u ↦ rw (e, u) (fit_from k below a.2) | inr u ↦ rw (e, u) (fit_from k rest a.3) ]
-    ]
 
 placed_as : (q : Rectangle) (s : Style) (r : Rectangle) (t : Style) → q ≡ r → s ≡ t → FitsRect r → Fits t → IsPlaced (grown q s.outline_width)
 placed_as q s r t e h f g = rw (e, h) (grown_is_placed r t.outline_width f g.outline)

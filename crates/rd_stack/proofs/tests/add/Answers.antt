@@ -1,5 +1,5 @@
 use Rattle.std.proofs.Common.{◌∙◌, sym}
-use Rattle.rd_tree.proofs.Finding.{named_there}
+use Rattle.rd_tree.proofs.Naming.{named_there}
 use Rattle.rd_stack.proofs.tests.add.Goals as goal
 
 pub insert-requires-clause-parent : goal.insert-requires-clause-parent
