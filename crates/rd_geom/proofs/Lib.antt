@@ -1,2 +1,3 @@
+pub mod Hulls
 pub mod Products
 pub mod Pixels
