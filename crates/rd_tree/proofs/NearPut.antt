@@ -1,5 +1,5 @@
--- What is told of each box once one more box, with all below it, stands among the children of another.
-use Rattle.std.proofs.Common.{◌≡◌, refl, ap, ◌∙◌, sym, subst, ◌+◌, Bool, true, false, ◌||◌, cond, arith, inl, inr}
+-- What is told of each box once one more box stands, with all below it, among the children of another.
+use Rattle.std.proofs.Common.{◌≡◌, refl, ap, ◌∙◌, sym, ℕ, ◌+◌, Bool, true, false, ◌||◌, cond, arith}
 use Rattle.rd_geom.specs.Plane.{Rectangle, hull_of}
 use Rattle.rd_keys.specs.Keys.{same_key}
 use Rattle.rd_keys.proofs.Keys.{same_key-sound, same_key-refl}
@@ -7,199 +7,91 @@ use Rattle.rd_tree.specs.declared.near.Near.{Near}
 use Rattle.rd_tree.specs.Forest.{Forest, empty, tree, ◌▷◌, has, children, in_subtree, under, AreApart, IsApart}
 use Rattle.rd_tree.specs.Document.{BoxKey, Item, Boxes}
 use Rattle.rd_tree.specs.Near.{breadth, touched_in, extent, hull_in, near_first, near_of}
-use Rattle.rd_tree.proofs.Standing.{cases, never, either, from_left, from_right, has-join, differs_back, apart_back}
-use Rattle.rd_tree.proofs.Under.{which}
-use Rattle.rd_tree.proofs.Putting.{under_by}
-use Rattle.rd_tree.proofs.Subtrees.{subtree-here, subtree-inner, subtree-later, not_in_subtree}
-use Rattle.rd_tree.proofs.NearSums.{breadth-join, touched-join}
-use Rattle.rd_tree.proofs.NearHull.{hull-later, hull-inner, hull-amid}
+use Rattle.rd_tree.proofs.Standing.{either, out_of_children, differs_back, apart_back}
+use Rattle.rd_tree.proofs.Subtrees.{has_inner, has_later, children-past, children-one}
+use Rattle.rd_tree.proofs.NearHull.{hull-later}
 use Rattle.rd_tree.proofs.NearOf.{near-here, near-inner, near-later, near-past, near-one}
+use Rattle.rd_tree.proofs.Telling.{Sums, Tells, has-new, breadth-new, touched-new, hull-new, told_put, told_new}
 
-between : (x s b y : Bool) → (x || (s || (b || y))) ≡ ((x || y) || (s || (b || false)))
-between true s b y = refl
-between false true b true = refl
-between false true b false = refl
-between false false true true = refl
-between false false true false = refl
-between false false false true = refl
-between false false false false = refl
+abbrev near : ℕ → ℕ → Rectangle → Near
+near c t h = record { children = c; touched = t; hull = h }
 
-inside : (s c o r : Bool) → (s || ((c || o) || r)) ≡ ((s || (c || r)) || o)
-inside true c o r = refl
-inside false true o r = refl
-inside false false true true = refl
-inside false false true false = refl
-inside false false false r = grind arith
+same_near : (c t c2 t2 : ℕ) (h h2 : Rectangle) → c ≡ c2 → t ≡ t2 → h ≡ h2 → near c t h ≡ near c2 t2 h2
+same_near c t c2 t2 h h2 p q r = rw (p, q, r) refl
 
-beside : (s l r o : Bool) → (s || (l || (r || o))) ≡ ((s || (l || r)) || o)
-beside true l r o = refl
-beside false true r o = refl
-beside false false r o = refl
+-- once b stands below it, as its own child or deeper
+abbrev pub more_near : Bool → Boxes → Near → Near
+more_near own b n = record { children = n.children + (cond own 1 0); touched = n.touched + touched_in b; hull = hull_of n.hull (hull_in b) }
 
-out_of_both : (b c : Bool) → b ≡ false → c ≡ false → (b || c) ≡ false
-out_of_both b c h k = rw (h, k) refl
+more_first : (own : Bool) (b : Boxes) (i : BoxKey) (c : Item) (low more : Boxes) → breadth more ≡ breadth low + cond own 1 0 → touched_in more ≡ touched_in low + touched_in b → hull_in more ≡ hull_of (hull_in low) (hull_in b) →
+    near_first (tree i c more empty) ≡ more_near own b (near_first (tree i c low empty))
+more_first own b i c low more p q r = same_near (breadth more) (touched_in more) (breadth low + cond own 1 0) (touched_in low + touched_in b) (hull_of (extent c) (hull_in more)) (hull_of (hull_of (extent c) (hull_in low)) (hull_in b))
+    p q (ap (hull_of (extent c)) r ∙ hull-later (extent c) (hull_in low) (hull_in b))
 
-module _ (k : BoxKey) (d : Item) (below xs ys : Boxes) where
+none_more : (n : ℕ) → n ≡ n + 0
+none_more n = omega arith
+
+module _ (k : BoxKey) (d : Item) (below xs ys : Boxes) (p : BoxKey) where
   abbrev one : Boxes
   one = tree k d below empty
-
-  abbrev old : Boxes
-  old = xs ▷ ys
 
   abbrev new : Boxes
   new = xs ▷ tree k d below ys
 
-  has-new : (j : BoxKey) → has same_key j new ≡ (has same_key j old || has same_key j one)
-  has-new j =
-      has-join same_key same_key-sound same_key-refl j xs (tree k d below ys)
-      ∙ (between (has same_key j xs) (same_key j k) (has same_key j below) (has same_key j ys)
-      ∙ ap (λ b. b || (same_key j k || (has same_key j below || false))) (sym (has-join same_key same_key-sound same_key-refl j xs ys)))
-
-  -- The same boxes with this one: what is in them, and their sums.
-  pub record Sums (g f : Boxes) : Type 0 where
-    pub has_is : (j : BoxKey) → has same_key j f ≡ (has same_key j g || has same_key j one)
-    pub breadth_is : breadth f ≡ breadth g
-    pub touched_is : touched_in f ≡ touched_in g + touched_in one
-    pub hull_is : hull_in f ≡ hull_of (hull_in g) (hull_in one)
-
-  breadth-new : breadth new ≡ breadth old + 1
-  breadth-new = omega (arith, breadth-join xs (tree k d below ys), breadth-join xs ys)
-
-  touched-new : touched_in new ≡ touched_in old + touched_in one
-  touched-new = omega (arith, touched-join xs (tree k d below ys), touched-join xs ys)
-
-  hull-new : hull_in new ≡ hull_of (hull_in old) (hull_in one)
-  hull-new = hull-amid k d below xs ys
-
-  sums_here : (i : BoxKey) (c : Item) (rest : Boxes) → Sums (tree i c old rest) (tree i c new rest)
-  sums_here i c rest = record {
-    has_is = λ j. ap (λ b. same_key j i || (b || has same_key j rest)) (has-new j) ∙ inside (same_key j i) (has same_key j old) (has same_key j one) (has same_key j rest);
-    breadth_is = refl;
-    touched_is = omega (arith, touched-new);
-    hull_is = ap (λ h. hull_of (hull_of (extent c) h) (hull_in rest)) hull-new ∙ hull-inner (extent c) (hull_in old) (hull_in one) (hull_in rest);
+  near_tells : Tells k d below xs ys near_of p (λ j. more_near (same_key p j) one)
+  near_tells = record {
+    here = λ j i c low rest e. near-here j i c low rest e ∙ sym (near-here j i c low empty e);
+    inner = λ j i c low rest e u o. near-inner j i c low rest e u;
+    later = λ j i c low rest e o. near-later j i c low rest e o;
+    past = λ j o. near-past j k d below xs ys o;
+    fresh = λ j o v. near-one j k d below xs ys o v;
+    at = λ j i c e v. near-here j i c new empty v
+        ∙ (more_first (same_key p j) one i c (xs ▷ ys) new (breadth-new k d below xs ys ∙ ap (λ b. breadth (xs ▷ ys) + cond b 1 0) (sym e)) (touched-new k d below xs ys) (hull-new k d below xs ys)
+        ∙ ap (more_near (same_key p j) one) (sym (near-here j i c (xs ▷ ys) empty v)));
+    up = λ j i c low more e v r. near-here j i c more empty v
+        ∙ (more_first (same_key p j) one i c low more (r.breadth_is ∙ (none_more (breadth low) ∙ ap (λ b. breadth low + cond b 1 0) (sym e))) r.touched_is r.hull_is
+        ∙ ap (more_near (same_key p j) one) (sym (near-here j i c low empty v)));
   }
 
-  sums_inner : (i : BoxKey) (c : Item) (low rest more : Boxes) → Sums low more → Sums (tree i c low rest) (tree i c more rest)
-  sums_inner i c low rest more r = record {
-    has_is = λ j. ap (λ b. same_key j i || (b || has same_key j rest)) (r.has_is j) ∙ inside (same_key j i) (has same_key j low) (has same_key j one) (has same_key j rest);
-    breadth_is = refl;
-    touched_is = omega (arith, r.touched_is);
-    hull_is = ap (λ h. hull_of (hull_of (extent c) h) (hull_in rest)) r.hull_is ∙ hull-inner (extent c) (hull_in low) (hull_in one) (hull_in rest);
+  below_tells : (q : BoxKey) → Tells k d below xs ys (λ j f. has same_key q (children same_key j f)) p (λ j b. b || has same_key q one)
+  below_tells q = record {
+    here = λ j i c low rest e. rw e refl;
+    inner = λ j i c low rest e u o. has_inner same_key same_key-sound same_key-refl q j i c low rest e o;
+    later = λ j i c low rest e o. has_later same_key same_key-sound same_key-refl q j i c low rest e o;
+    past = λ j o.
+        let s : (same_key j k ≡ false) × ((has same_key j below || false) ≡ false) = either (same_key j k) (has same_key j below || false) o in
+        ap (has same_key q) (children-past same_key same_key-sound same_key-refl j k d below xs ys s.0 (either (has same_key j below) false s.1).0);
+    fresh = λ j o v. ap (has same_key q) (children-one same_key same_key-sound same_key-refl j k d below xs ys o v);
+    at = λ j i c e v. rw v (has-new k d below xs ys q);
+    up = λ j i c low more e v r. rw v (r.has_is q);
   }
 
-  sums_later : (i : BoxKey) (c : Item) (low rest more : Boxes) → Sums rest more → Sums (tree i c low rest) (tree i c low more)
-  sums_later i c low rest more r = record {
-    has_is = λ j. ap (λ b. same_key j i || (has same_key j low || b)) (r.has_is j) ∙ beside (same_key j i) (has same_key j low) (has same_key j rest) (has same_key j one);
-    breadth_is = ap (λ n. 1 + n) r.breadth_is;
-    touched_is = omega (arith, r.touched_is);
-    hull_is = ap (hull_of (hull_of (extent c) (hull_in low))) r.hull_is ∙ hull-later (hull_of (extent c) (hull_in low)) (hull_in rest) (hull_in one);
-  }
+  module _ (g : Boxes) (a : IsApart same_key g) (m : has same_key p g ≡ true) (is : children same_key p g ≡ xs ▷ ys) (w : AreApart same_key g one) (j : BoxKey) where
+    pub near-put : has same_key j g ≡ true → near_of j (under same_key p new g) ≡ cond (in_subtree same_key p j g) (more_near (same_key p j) one (near_of j g)) (near_of j g)
+    near-put u = told_put k d below xs ys near_of p (λ i. more_near (same_key p i) one) near_tells g a m is w j u
 
-  pub sums_put : (p : BoxKey) (g : Boxes) → IsApart same_key g → has same_key p g ≡ true → children same_key p g ≡ xs ▷ ys → Sums g (under same_key p new g)
-  sums_put p g a m is = under_by same_key same_key-sound same_key-refl Sums p old new g
-      (λ i c rest e q. sums_here i c rest) (λ i c low rest more e u q r. sums_inner i c low rest more r) (λ i c low rest more e u q r. sums_later i c low rest more r) a m is
+    pub near-put_new : has same_key j one ≡ true → near_of j (under same_key p new g) ≡ near_of j one
+    near-put_new u = told_new k d below xs ys near_of p (λ i. more_near (same_key p i) one) near_tells g a m is w j u
 
-  -- What is told of each box by it and all below it, and how the box that is put changes it.
-  pub record Tells {X : Type 0} (T : BoxKey → Boxes → X) (p : BoxKey) (change : BoxKey → X → X) : Type 0 where
-    pub here : (j i : BoxKey) (c : Item) (low rest : Boxes) → same_key j i ≡ true → T j (tree i c low rest) ≡ T j (tree i c low empty)
-    pub inner : (j i : BoxKey) (c : Item) (low rest : Boxes) → same_key j i ≡ false → has same_key j low ≡ true → has same_key j rest ≡ false → T j (tree i c low rest) ≡ T j low
-    pub later : (j i : BoxKey) (c : Item) (low rest : Boxes) → same_key j i ≡ false → has same_key j low ≡ false → T j (tree i c low rest) ≡ T j rest
-    pub past : (j : BoxKey) → has same_key j one ≡ false → T j new ≡ T j old
-    pub at : (j i : BoxKey) (c : Item) → same_key p j ≡ true → same_key j i ≡ true → T j (tree i c new empty) ≡ change j (T j (tree i c old empty))
-    pub up : (j i : BoxKey) (c : Item) (low more : Boxes) → same_key p j ≡ false → same_key j i ≡ true → Sums low more → T j (tree i c more empty) ≡ change j (T j (tree i c low empty))
+    below-put : (q : BoxKey) → has same_key j g ≡ true → has same_key q (children same_key j (under same_key p new g)) ≡ cond (in_subtree same_key p j g) (has same_key q (children same_key j g) || has same_key q one) (has same_key q (children same_key j g))
+    below-put q u = told_put k d below xs ys (λ i f. has same_key q (children same_key i f)) p (λ i b. b || has same_key q one) (below_tells q) g a m is w j u
 
-  module _ {X : Type 0} (T : BoxKey → Boxes → X) (p : BoxKey) (change : BoxKey → X → X) (t : Tells T p change) where
-    abbrev Told : Boxes → Boxes → Type 0
-    Told x y = AreApart same_key x one → (j : BoxKey) → has same_key j x ≡ true → T j y ≡ cond (in_subtree same_key p j x) (change j (T j x)) (T j x)
+    -- What was there is below the same boxes.
+    pub subtree-put : (q : BoxKey) → has same_key j g ≡ true → has same_key q one ≡ false → in_subtree same_key q j (under same_key p new g) ≡ in_subtree same_key q j g
+    subtree-put q u o = ap (λ b. same_key q j || b) (below-put q u ∙ (ap (λ b. cond (in_subtree same_key p j g) (has same_key q (children same_key j g) || b) (has same_key q (children same_key j g))) o ∙ either_way (in_subtree same_key p j g) (has same_key q (children same_key j g)))) where
+      either_way : (b c : Bool) → cond b (c || false) c ≡ c
+      either_way true true = refl
+      either_way true false = refl
+      either_way false c = refl
 
-    above : (j : BoxKey) (x y : Boxes) → in_subtree same_key p j x ≡ true → T j y ≡ change j (T j x) → T j y ≡ cond (in_subtree same_key p j x) (change j (T j x)) (T j x)
-    above j x y s e = e ∙ ap (λ b. cond b (change j (T j x)) (T j x)) (sym s)
-
-    off : (j : BoxKey) (x y : Boxes) → in_subtree same_key p j x ≡ false → T j y ≡ T j x → T j y ≡ cond (in_subtree same_key p j x) (change j (T j x)) (T j x)
-    off j x y s e = e ∙ ap (λ b. cond b (change j (T j x)) (T j x)) (sym s)
-
-    carried : (j : BoxKey) (x y x2 y2 : Boxes) → T j y2 ≡ T j y → T j x2 ≡ T j x → in_subtree same_key p j x2 ≡ in_subtree same_key p j x → T j y ≡ cond (in_subtree same_key p j x) (change j (T j x)) (T j x) →
-        T j y2 ≡ cond (in_subtree same_key p j x2) (change j (T j x2)) (T j x2)
-    carried j x y x2 y2 e n s h = e ∙ (h ∙ (ap (λ b. cond b (change j (T j x)) (T j x)) (sym s) ∙ ap (λ z. cond (in_subtree same_key p j x2) (change j z) z) (sym n)))
-
-    not_new : (x y : Boxes) (j : BoxKey) → Sums x y → has same_key j x ≡ false → has same_key j one ≡ false → has same_key j y ≡ false
-    not_new x y j r h o = r.has_is j ∙ out_of_both (has same_key j x) (has same_key j one) h o
-
-    told_here : (i : BoxKey) (c : Item) (rest : Boxes) → same_key p i ≡ true → IsApart same_key (tree i c old rest) → Told (tree i c old rest) (tree i c new rest)
-    told_here i c rest e q w j m =
-        let n : p ≡ i = same_key-sound p i e in
-        let po : has same_key p old ≡ false = subst (λ z. has same_key z old ≡ false) (sym n) q.0 in
-        let pr : has same_key p rest ≡ false = subst (λ z. has same_key z rest ≡ false) (sym n) q.1 in
-        let x : Boxes = tree i c old rest in
-        let y : Boxes = tree i c new rest in
-        elim (cases (same_key j i)) [
-          | inl v ↦
-              let is : same_key p j ≡ true = ap (same_key p) (same_key-sound j i v) ∙ e in
-              above j x y (subtree-here same_key same_key-sound same_key-refl p j i c old rest v ∙ from_left (same_key p j) (has same_key p old) is)
-              (t.here j i c new rest v ∙ (t.at j i c is v ∙ ap (change j) (sym (t.here j i c old rest v))))
-          | inr v ↦ elim (cases (has same_key j old)) [
-            | inl u ↦
-                let jr : has same_key j rest ≡ false = q.2 j u in
-                off j x y (subtree-inner same_key same_key-sound same_key-refl p j i c old rest v jr ∙ not_in_subtree same_key same_key-sound same_key-refl p j old (differs_back same_key same_key-sound same_key-refl old p j po u) po)
-                (t.inner j i c new rest v (has-new j ∙ from_left (has same_key j old) (has same_key j one) u) jr ∙ (t.past j (w j m) ∙ sym (t.inner j i c old rest v u jr)))
-            | inr u ↦
-                let jr : has same_key j rest ≡ true = rw (v, u) at m in
-                off j x y (subtree-later same_key same_key-sound same_key-refl p j i c old rest v u ∙ not_in_subtree same_key same_key-sound same_key-refl p j rest (differs_back same_key same_key-sound same_key-refl rest p j pr jr) pr)
-                (t.later j i c new rest v (has-new j ∙ out_of_both (has same_key j old) (has same_key j one) u (w j m)) ∙ sym (t.later j i c old rest v u))
-          ]
-        ]
-
-    told_inner : (i : BoxKey) (c : Item) (low rest more : Boxes) → same_key p i ≡ false → has same_key p low ≡ true → IsApart same_key (tree i c low rest) → Sums low more → Told low more → Told (tree i c low rest) (tree i c more rest)
-    told_inner i c low rest more e pl q r h w j m =
-        let pr : has same_key p rest ≡ false = q.2 p pl in
-        let x : Boxes = tree i c low rest in
-        let y : Boxes = tree i c more rest in
-        elim (cases (same_key j i)) [
-          | inl v ↦
-              above j x y (subtree-here same_key same_key-sound same_key-refl p j i c low rest v ∙ from_right (same_key p j) (has same_key p low) pl)
-              (t.here j i c more rest v ∙ (t.up j i c low more (ap (same_key p) (same_key-sound j i v) ∙ e) v r ∙ ap (change j) (sym (t.here j i c low rest v))))
-          | inr v ↦ elim (cases (has same_key j low)) [
-            | inl u ↦
-                let jr : has same_key j rest ≡ false = q.2 j u in
-                let wl : AreApart same_key low one = λ l z. w l (from_right (same_key l i) (has same_key l low || has same_key l rest) (from_left (has same_key l low) (has same_key l rest) z)) in
-                carried j low more x y (t.inner j i c more rest v (r.has_is j ∙ from_left (has same_key j low) (has same_key j one) u) jr) (t.inner j i c low rest v u jr) (subtree-inner same_key same_key-sound same_key-refl p j i c low rest v jr) (h wl j u)
-            | inr u ↦
-                let jr : has same_key j rest ≡ true = rw (v, u) at m in
-                off j x y (subtree-later same_key same_key-sound same_key-refl p j i c low rest v u ∙ not_in_subtree same_key same_key-sound same_key-refl p j rest (differs_back same_key same_key-sound same_key-refl rest p j pr jr) pr)
-                (t.later j i c more rest v (not_new low more j r u (w j m)) ∙ sym (t.later j i c low rest v u))
-          ]
-        ]
-
-    told_later : (i : BoxKey) (c : Item) (low rest more : Boxes) → same_key p i ≡ false → has same_key p rest ≡ true → IsApart same_key (tree i c low rest) → Sums rest more → Told rest more → Told (tree i c low rest) (tree i c low more)
-    told_later i c low rest more e pr q r h w j m =
-        let pl : has same_key p low ≡ false = apart_back same_key same_key-sound same_key-refl low rest q.2 p pr in
-        let x : Boxes = tree i c low rest in
-        let y : Boxes = tree i c low more in
-        elim (cases (same_key j i)) [
-          | inl v ↦
-              off j x y (subtree-here same_key same_key-sound same_key-refl p j i c low rest v ∙ out_of_both (same_key p j) (has same_key p low) (ap (same_key p) (same_key-sound j i v) ∙ e) pl)
-              (t.here j i c low more v ∙ sym (t.here j i c low rest v))
-          | inr v ↦ elim (cases (has same_key j low)) [
-            | inl u ↦
-                let jr : has same_key j rest ≡ false = q.2 j u in
-                off j x y (subtree-inner same_key same_key-sound same_key-refl p j i c low rest v jr ∙ not_in_subtree same_key same_key-sound same_key-refl p j low (differs_back same_key same_key-sound same_key-refl low p j pl u) pl)
-                (t.inner j i c low more v u (not_new rest more j r jr (w j m)) ∙ sym (t.inner j i c low rest v u jr))
-            | inr u ↦
-                let jr : has same_key j rest ≡ true = rw (v, u) at m in
-                let wr : AreApart same_key rest one = λ l z. w l (from_right (same_key l i) (has same_key l low || has same_key l rest) (from_right (has same_key l low) (has same_key l rest) z)) in
-                carried j rest more x y (t.later j i c low more v u) (t.later j i c low rest v u) (subtree-later same_key same_key-sound same_key-refl p j i c low rest v u) (h wr j jr)
-          ]
-        ]
-
-    abbrev Both : Boxes → Boxes → Type 0
-    Both x y = Sums x y × Told x y
-
-    pub told_put : (g : Boxes) → IsApart same_key g → has same_key p g ≡ true → children same_key p g ≡ xs ▷ ys → AreApart same_key g one → (j : BoxKey) → has same_key j g ≡ true →
-        T j (under same_key p new g) ≡ cond (in_subtree same_key p j g) (change j (T j g)) (T j g)
-    told_put g a m is w j u =
-        let r : Both g (under same_key p new g) = under_by same_key same_key-sound same_key-refl Both p old new g
-        (λ i c rest e q. (sums_here i c rest, told_here i c rest e q))
-        (λ i c low rest more e v q r. (sums_inner i c low rest more r.0, told_inner i c low rest more e v q r.0 r.1))
-        (λ i c low rest more e v q r. (sums_later i c low rest more r.0, told_later i c low rest more e v q r.0 r.1))
-        a m is in
-        r.1 w j u
+    -- What is new is below p and the boxes above it.
+    pub subtree-put_new : (q : BoxKey) → has same_key j g ≡ true → has same_key q one ≡ true → in_subtree same_key q j (under same_key p new g) ≡ in_subtree same_key p j g
+    subtree-put_new q u i =
+        let o : has same_key q g ≡ false = apart_back same_key same_key-sound same_key-refl g one w q i in
+        let qj : same_key q j ≡ false = differs_back same_key same_key-sound same_key-refl g q j o u in
+        let qc : has same_key q (children same_key j g) ≡ false = out_of_children same_key same_key-sound same_key-refl q j g o in
+        ap (λ b. b || has same_key q (children same_key j (under same_key p new g))) qj
+        ∙ (below-put q u ∙ (ap (λ b. cond (in_subtree same_key p j g) (b || has same_key q one) b) qc ∙ (ap (λ b. cond (in_subtree same_key p j g) b false) i ∙ itself (in_subtree same_key p j g)))) where
+          itself : (b : Bool) → cond b true false ≡ b
+          itself true = refl
+          itself false = refl
