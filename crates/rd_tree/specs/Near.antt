@@ -1,5 +1,5 @@
 -- What a tree tells of all that is below a box. It is this project's own choice.
-use Rattle.std.specs.Prelude.{ℕ, ◌+◌, Bool, false, if◌then◌else◌, List, slice_index_or, Option, Some, None}
+use Rattle.std.specs.Prelude.{ℕ, ◌+◌, Bool, false, ◌||◌, if◌then◌else◌, List, slice_index_or, Option, Some, None}
 use Rattle.rd_geom.specs.Plane.{Rectangle, no_pixels, hull_of, grown}
 use Rattle.rd_keys.specs.Keys.{same_key}
 use Rattle.rd_tree.specs.Forest.{Forest, empty, tree, from, in_subtree}
@@ -15,6 +15,11 @@ breadth (tree k d below rest) = 1 + breadth rest
 abbrev pub touched_in : Boxes → ℕ
 touched_in empty = 0
 touched_in (tree k d below rest) = (if d.touched then 1 else 0) + (touched_in below + touched_in rest)
+
+-- Is some box touched, those below counted too?
+abbrev pub any_touched : Boxes → Bool
+any_touched empty = false
+any_touched (tree k d below rest) = d.touched || (any_touched below || any_touched rest)
 
 -- CSS 2.2 section 18.4: a border box with its outline round it
 abbrev pub extent : Item → Rectangle
