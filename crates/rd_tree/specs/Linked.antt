@@ -1,5 +1,5 @@
 -- An arena of nodes that are linked as a forest.
-use Rattle.std.specs.Prelude.{◌≡◌, ℕ, ◌≤◌, Bool, true, List, map, Option, Some, None, option_map, is_some, if◌then◌else◌}
+use Rattle.std.specs.Prelude.{◌≡◌, ℕ, ◌≤◌, nat_lt, Bool, true, List, map, Option, Some, None, option_map, is_some, if◌then◌else◌}
 use Rattle.std.specs.HashMap.{HashMap, get_by_text}
 use Rattle.std.specs.Prelude.{String}
 use Rattle.std.specs.Str.{bytes_eq}
@@ -11,6 +11,7 @@ use Rattle.rd_tree.specs.Forest.{size, has, IsApart}
 use Rattle.rd_tree.specs.Links.{Node, Stands, read}
 use Rattle.rd_tree.specs.Document.{BoxKey, Item, Boxes, Slot}
 use Rattle.rd_style.specs.Limits.{FitsRect, Fits}
+use Rattle.rd_tree.specs.declared.near.Near.{Near}
 use Rattle.rd_tree.specs.Shown.{Shown}
 
 abbrev pub plain : inner.Node → Node BoxKey Item
@@ -61,7 +62,7 @@ AddsText i k old new = (j : List ℕ) → get_by_text new j ≡ (if bytes_eq i j
 abbrev pub EachFits : (BoxKey → Option Item) → Type 0
 EachFits at = (k : BoxKey) (d : Item) → at k ≡ Some d → FitsRect d.rect × Fits d.style
 
--- What the fields of a tree always keep.
+-- What the nodes, the root and the index of a tree always keep.
 pub record IsSound {Y S : Type 0} (a : Arena inner.Node) (root : BoxKey) (ids : HashMap (String Y) BoxKey S) : Type 0 where
   pub tree : IsTree a root
   pub indexed : IsIndexed (item_at a) ids
@@ -71,9 +72,14 @@ pub record IsSound {Y S : Type 0} (a : Arena inner.Node) (root : BoxKey) (ids : 
 abbrev pub seen : Arena inner.Node → BoxKey → Boxes
 seen a root = read a.limit (linked a) (Some root)
 
--- what a node shows of its box
-abbrev pub shown_of : BoxKey → Bool → inner.Node → Shown
-shown_of k is_root n = record { key = k; rect = n.item.rect; style = n.item.style; is_root = is_root; first_child = n.links.first; next_sibling = n.links.next; touched = n.item.touched }
+-- what a node and its row show of its box
+abbrev pub shown_of : BoxKey → Bool → inner.Node → Near → Shown
+shown_of k is_root n row =
+    record {
+      key = k; rect = n.item.rect; style = n.item.style; is_root = is_root;
+      children = row.children; first_child = n.links.first; next_sibling = n.links.next;
+      hull = row.hull; touched = n.item.touched; touched_below = nat_lt 0 row.touched;
+    }
 
 -- the boxes that the links tell from one on: it, those below it, and its later siblings with theirs
 abbrev pub seen_from : Arena inner.Node → Option BoxKey → Boxes

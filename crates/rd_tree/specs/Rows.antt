@@ -9,7 +9,9 @@ use Rattle.rd_style.specs.Limits.{FitsRect, Fits}
 use Rattle.rd_tree.specs.Forest.{empty, tree, size, has, IsApart}
 use Rattle.rd_tree.specs.Links.{Node, Stands}
 use Rattle.rd_tree.specs.Document.{BoxKey, Item, Boxes, AllFit}
-use Rattle.rd_tree.specs.Linked.{linked}
+use Rattle.std.specs.HashMap.{HashMap}
+use Rattle.std.specs.Prelude.{String}
+use Rattle.rd_tree.specs.Linked.{linked, seen, IsSound}
 use Rattle.rd_tree.specs.Near.{near_of, near_at, is_above, extent}
 
 -- The row of k is this one, and those of all other slots are as they were.
@@ -100,3 +102,13 @@ extent_under (Some n) = extent n.item
 abbrev pub IsFitAt : Option (Node BoxKey Item) → Type 0
 IsFitAt None = Unit {0}
 IsFitAt (Some n) = FitsRect n.item.rect × Fits n.item.style
+
+-- The table has a row for each slot, and the right one for each box.
+pub record IsNear (a : Arena inner.Node) (rows : List Near) (f : Boxes) : Type 0 where
+  pub all_rows : length a.slots ≤ length rows
+  pub right : (k : BoxKey) → has same_key k f ≡ true → near_at rows k ≡ near_of k f
+
+-- What the fields of a tree always keep.
+pub record IsKept {Y S : Type 0} (a : Arena inner.Node) (root : BoxKey) (ids : HashMap (String Y) BoxKey S) (rows : List Near) : Type 0 where
+  pub sound : IsSound a root ids
+  pub near : IsNear a rows (seen a root)

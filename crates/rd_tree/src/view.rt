@@ -4,6 +4,7 @@ ghost use Rattle.std.specs.Prelude.{◌≡◌};
 ghost use Rattle.rd_tree.specs.Shown.{told};
 ghost use Rattle.rd_tree.specs.Linked.{shown_of};
 
+use crate::near::Near;
 use crate::node::Node;
 use rd_geom::Rect;
 use rd_keys::BoxKey;
@@ -20,25 +21,35 @@ pub struct BoxView<'a> {
     pub style: &'a Style,
     /// Is it the root?
     pub is_root: bool,
+    /// How many children it has.
+    pub children: u32,
     /// The first of its children.
     pub first_child: Option<BoxKey>,
     /// The next child of its parent.
     pub next_sibling: Option<BoxKey>,
+    /// The least rectangle with the border boxes of it and of all below it, each with its outline round it, those of
+    /// hidden boxes too, in pixels of the canvas.
+    pub hull: Rect,
     /// Was it touched since the marks were last cleared?
     pub touched: bool,
+    /// Was a box below it touched since then?
+    pub touched_below: bool,
 }
 
-/// What a node shows of its box.
-pub(crate) fn view_of(key: BoxKey, is_root: bool, node: &Node) -> BoxView<'_>
-    ensures { told result ≡ shown_of key is_root node.now }
+/// What a node and its row show of its box.
+pub(crate) fn view_of(key: BoxKey, is_root: bool, node: &Node, row: Near) -> BoxView<'_>
+    ensures { told result ≡ shown_of key is_root node.now row }
 {
     BoxView {
         key,
         rect: node.item.rect,
         style: &node.item.style,
         is_root,
+        children: row.children,
         first_child: node.links.first,
         next_sibling: node.links.next,
+        hull: row.hull,
         touched: node.item.touched,
+        touched_below: row.touched > 0,
     }
 }

@@ -14,21 +14,21 @@ use Rattle.rd_tree.proofs.tree.Tree.change.Goals as goal
 pub touch-requires-clause-read : goal.touch-requires-clause-read
 touch-requires-clause-read g c =
     let m : has same_key c.args.key (seen c.self.inside.nodes c.self.inside.root) ≡ true = (rw (← c.self.view_is) at c.requires.live) in
-    let s1 : IsSound c.restyle-reach.new.nodes c.self.inside.root c.self.inside.ids × (seen c.restyle-reach.new.nodes c.self.inside.root ≡ at_box same_key c.args.key (restyle c.args.c.now) (seen c.self.inside.nodes c.self.inside.root)) = styled c.self.inside.nodes c.restyle-reach.new.nodes c.self.inside.root c.args.key c.self.inside.ids c.args.c.now c.self.invariant (rw (← c.self.view_is) at c.requires.fits) c.restyle-reach.ensures.restyled in
+    let s1 : IsSound c.restyle-reach.new.nodes c.self.inside.root c.self.inside.ids × (seen c.restyle-reach.new.nodes c.self.inside.root ≡ at_box same_key c.args.key (restyle c.args.c.now) (seen c.self.inside.nodes c.self.inside.root)) = styled c.self.inside.nodes c.restyle-reach.new.nodes c.self.inside.root c.args.key c.self.inside.ids c.args.c.now c.self.invariant.sound (rw (← c.self.view_is) at c.requires.fits) c.restyle-reach.ensures.restyled in
     let m1 : has same_key c.args.key (seen c.restyle-reach.new.nodes c.self.inside.root) ≡ true = still_has (λ j. same_key j c.args.key) (restyle c.args.c.now) c.args.key (seen c.self.inside.nodes c.self.inside.root) (seen c.restyle-reach.new.nodes c.self.inside.root) s1.1 m in
     (under_box c.restyle-reach.new.nodes c.self.inside.root c.args.key s1.0.tree m1).read
 
 pub touch-requires-clause-apart : goal.touch-requires-clause-apart
 touch-requires-clause-apart g c =
     let m : has same_key c.args.key (seen c.self.inside.nodes c.self.inside.root) ≡ true = (rw (← c.self.view_is) at c.requires.live) in
-    let s1 : IsSound c.restyle-reach.new.nodes c.self.inside.root c.self.inside.ids × (seen c.restyle-reach.new.nodes c.self.inside.root ≡ at_box same_key c.args.key (restyle c.args.c.now) (seen c.self.inside.nodes c.self.inside.root)) = styled c.self.inside.nodes c.restyle-reach.new.nodes c.self.inside.root c.args.key c.self.inside.ids c.args.c.now c.self.invariant (rw (← c.self.view_is) at c.requires.fits) c.restyle-reach.ensures.restyled in
+    let s1 : IsSound c.restyle-reach.new.nodes c.self.inside.root c.self.inside.ids × (seen c.restyle-reach.new.nodes c.self.inside.root ≡ at_box same_key c.args.key (restyle c.args.c.now) (seen c.self.inside.nodes c.self.inside.root)) = styled c.self.inside.nodes c.restyle-reach.new.nodes c.self.inside.root c.args.key c.self.inside.ids c.args.c.now c.self.invariant.sound (rw (← c.self.view_is) at c.requires.fits) c.restyle-reach.ensures.restyled in
     let m1 : has same_key c.args.key (seen c.restyle-reach.new.nodes c.self.inside.root) ≡ true = still_has (λ j. same_key j c.args.key) (restyle c.args.c.now) c.args.key (seen c.self.inside.nodes c.self.inside.root) (seen c.restyle-reach.new.nodes c.self.inside.root) s1.1 m in
     (under_box c.restyle-reach.new.nodes c.self.inside.root c.args.key s1.0.tree m1).out
 
 pub invariant_of-self : goal.invariant_of-self
 invariant_of-self g c =
     let m : has same_key c.args.key (seen c.self.inside.nodes c.self.inside.root) ≡ true = (rw (← c.self.view_is) at c.requires.live) in
-    let s1 : IsSound c.restyle-reach.new.nodes c.self.inside.root c.self.inside.ids × (seen c.restyle-reach.new.nodes c.self.inside.root ≡ at_box same_key c.args.key (restyle c.args.c.now) (seen c.self.inside.nodes c.self.inside.root)) = styled c.self.inside.nodes c.restyle-reach.new.nodes c.self.inside.root c.args.key c.self.inside.ids c.args.c.now c.self.invariant (rw (← c.self.view_is) at c.requires.fits) c.restyle-reach.ensures.restyled in
+    let s1 : IsSound c.restyle-reach.new.nodes c.self.inside.root c.self.inside.ids × (seen c.restyle-reach.new.nodes c.self.inside.root ≡ at_box same_key c.args.key (restyle c.args.c.now) (seen c.self.inside.nodes c.self.inside.root)) = styled c.self.inside.nodes c.restyle-reach.new.nodes c.self.inside.root c.args.key c.self.inside.ids c.args.c.now c.self.invariant.sound (rw (← c.self.view_is) at c.requires.fits) c.restyle-reach.ensures.restyled in
     let m1 : has same_key c.args.key (seen c.restyle-reach.new.nodes c.self.inside.root) ≡ true = still_has (λ j. same_key j c.args.key) (restyle c.args.c.now) c.args.key (seen c.self.inside.nodes c.self.inside.root) (seen c.restyle-reach.new.nodes c.self.inside.root) s1.1 m in
     let s2 : IsSound c.touch.new.nodes c.self.inside.root c.self.inside.ids × (seen c.touch.new.nodes c.self.inside.root ≡ touched_by c.restyle-reach.result c.args.key (seen c.restyle-reach.new.nodes c.self.inside.root)) = touched_sound c.restyle-reach.new.nodes c.touch.new.nodes c.self.inside.root c.args.key c.self.inside.ids c.restyle-reach.result s1.0 m1 c.touch.ensures in
     s2.0
@@ -36,11 +36,11 @@ invariant_of-self g c =
 pub returns : goal.returns
 returns g c =
     let m : has same_key c.args.key (seen c.self.inside.nodes c.self.inside.root) ≡ true = (rw (← c.self.view_is) at c.requires.live) in
-    let s1 : IsSound c.restyle-reach.new.nodes c.self.inside.root c.self.inside.ids × (seen c.restyle-reach.new.nodes c.self.inside.root ≡ at_box same_key c.args.key (restyle c.args.c.now) (seen c.self.inside.nodes c.self.inside.root)) = styled c.self.inside.nodes c.restyle-reach.new.nodes c.self.inside.root c.args.key c.self.inside.ids c.args.c.now c.self.invariant (rw (← c.self.view_is) at c.requires.fits) c.restyle-reach.ensures.restyled in
+    let s1 : IsSound c.restyle-reach.new.nodes c.self.inside.root c.self.inside.ids × (seen c.restyle-reach.new.nodes c.self.inside.root ≡ at_box same_key c.args.key (restyle c.args.c.now) (seen c.self.inside.nodes c.self.inside.root)) = styled c.self.inside.nodes c.restyle-reach.new.nodes c.self.inside.root c.args.key c.self.inside.ids c.args.c.now c.self.invariant.sound (rw (← c.self.view_is) at c.requires.fits) c.restyle-reach.ensures.restyled in
     let m1 : has same_key c.args.key (seen c.restyle-reach.new.nodes c.self.inside.root) ≡ true = still_has (λ j. same_key j c.args.key) (restyle c.args.c.now) c.args.key (seen c.self.inside.nodes c.self.inside.root) (seen c.restyle-reach.new.nodes c.self.inside.root) s1.1 m in
     let s2 : IsSound c.touch.new.nodes c.self.inside.root c.self.inside.ids × (seen c.touch.new.nodes c.self.inside.root ≡ touched_by c.restyle-reach.result c.args.key (seen c.restyle-reach.new.nodes c.self.inside.root)) = touched_sound c.restyle-reach.new.nodes c.touch.new.nodes c.self.inside.root c.args.key c.self.inside.ids c.restyle-reach.result s1.0 m1 c.touch.ensures in
     let r : c.restyle-reach.result ≡ option_map_or (λ d. style_reach d.style (same_key c.args.key c.self.inside.root) c.args.c.now) (top (from same_key c.args.key (seen c.self.inside.nodes c.self.inside.root))) Nothing =
-    reach_of c.self.inside.nodes c.self.inside.root c.args.key c.restyle-reach.result c.is-is_root.result (λ b d. style_reach d.style b c.args.c.now) c.self.invariant.tree c.is-is_root.ensures c.restyle-reach.ensures.reach in
+    reach_of c.self.inside.nodes c.self.inside.root c.args.key c.restyle-reach.result c.is-is_root.result (λ b d. style_reach d.style b c.args.c.now) c.self.invariant.sound.tree c.is-is_root.ensures c.restyle-reach.ensures.reach in
     let b : seen c.touch.new.nodes c.self.inside.root ≡ restyled c.self.inside.root c.args.key c.args.c.now (seen c.self.inside.nodes c.self.inside.root) =
     s2.1 ∙ (ap (touched_by c.restyle-reach.result c.args.key) s1.1 ∙ ap (λ q. touched_by q c.args.key (at_box same_key c.args.key (restyle c.args.c.now) (seen c.self.inside.nodes c.self.inside.root))) r) in
     let k : marks c.touch.new.nodes ≡ marks c.self.inside.nodes = c.touch.ensures.same_slots ∙ c.restyle-reach.ensures.restyled.same_slots in

@@ -4,4 +4,4 @@ use Rattle.rd_tree.proofs.Marks.{taken-marks}
 use Rattle.rd_tree.proofs.tree.Tree.retired.Goals as goal
 
 pub returns : goal.returns
-returns g c = rw (← c.self.view_is) (ap (λ n. n + c.retired.result) (size_seen c.self.inside.nodes c.self.inside.root c.self.invariant.tree) ∙ (c.retired.ensures.together ∙ sym (taken-marks c.self.inside.nodes)))
+returns g c = rw (← c.self.view_is) (ap (λ n. n + c.retired.result) (size_seen c.self.inside.nodes c.self.inside.root c.self.invariant.sound.tree) ∙ (c.retired.ensures.together ∙ sym (taken-marks c.self.inside.nodes)))

@@ -4,10 +4,10 @@ use Rattle.rd_tree.proofs.Looking.{apart_seen}
 use Rattle.rd_tree.proofs.tree.Tree.root.Goals as goal
 
 pub returns-clause-rooted : goal.returns-clause-rooted
-returns-clause-rooted g c = rw (← c.self.view_is) (rooted_seen c.self.inside.nodes c.self.inside.root c.self.invariant.tree)
+returns-clause-rooted g c = rw (← c.self.view_is) (rooted_seen c.self.inside.nodes c.self.inside.root c.self.invariant.sound.tree)
 
 pub returns-clause-limits : goal.returns-clause-limits
-returns-clause-limits g c = rw (← c.self.view_is) (fits_seen c.self.inside.nodes c.self.inside.root c.self.inside.ids c.self.invariant)
+returns-clause-limits g c = rw (← c.self.view_is) (fits_seen c.self.inside.nodes c.self.inside.root c.self.inside.ids c.self.invariant.sound)
 
 pub returns-clause-apart : goal.returns-clause-apart
-returns-clause-apart g c = rw (← c.self.view_is) (apart_seen c.self.inside.nodes c.self.inside.root c.self.invariant.tree)
+returns-clause-apart g c = rw (← c.self.view_is) (apart_seen c.self.inside.nodes c.self.inside.root c.self.invariant.sound.tree)

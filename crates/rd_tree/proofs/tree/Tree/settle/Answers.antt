@@ -8,16 +8,16 @@ use Rattle.rd_tree.proofs.Editing.{settled_sound}
 use Rattle.rd_tree.proofs.tree.Tree.settle.Goals as goal
 
 pub work_from-requires-clause-read : goal.work_from-requires-clause-read
-work_from-requires-clause-read g c = read_root c.self.inside.nodes c.self.inside.root c.self.invariant.tree
+work_from-requires-clause-read g c = read_root c.self.inside.nodes c.self.inside.root c.self.invariant.sound.tree
 
 pub work_from-requires-clause-allowed : goal.work_from-requires-clause-allowed
 work_from-requires-clause-allowed g c = all_items (Allows Settle) _ (λ d. tt)
 
 pub invariant_of-self : goal.invariant_of-self
-invariant_of-self g c = (settled_sound c.self.inside.nodes c.work_from.new.nodes c.self.inside.root c.self.inside.ids c.self.invariant c.work_from.ensures).0
+invariant_of-self g c = (settled_sound c.self.inside.nodes c.work_from.new.nodes c.self.inside.root c.self.inside.ids c.self.invariant.sound c.work_from.ensures).0
 
 pub returns : goal.returns
 returns g c =
-    let s : IsSound c.work_from.new.nodes c.self.inside.root c.self.inside.ids × (seen c.work_from.new.nodes c.self.inside.root ≡ each_if (λ j. true) settled (seen c.self.inside.nodes c.self.inside.root)) = settled_sound c.self.inside.nodes c.work_from.new.nodes c.self.inside.root c.self.inside.ids c.self.invariant c.work_from.ensures in
+    let s : IsSound c.work_from.new.nodes c.self.inside.root c.self.inside.ids × (seen c.work_from.new.nodes c.self.inside.root ≡ each_if (λ j. true) settled (seen c.self.inside.nodes c.self.inside.root)) = settled_sound c.self.inside.nodes c.work_from.new.nodes c.self.inside.root c.self.inside.ids c.self.invariant.sound c.work_from.ensures in
     let k : marks c.work_from.new.nodes ≡ marks c.self.inside.nodes = c.work_from.ensures.same_slots in
     rw (← c.self.view_is, s.1, k) refl

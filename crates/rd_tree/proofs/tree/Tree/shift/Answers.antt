@@ -16,20 +16,20 @@ work_below-requires-clause-here g c =
     let x : to_z w32 (of_z w32 c.args.dx) ≡ c.args.dx = to_z-of_z w32 c.args.dx c.ranges.dx in
     let y : to_z w32 (of_z w32 c.args.dy) ≡ c.args.dy = to_z-of_z w32 c.args.dy c.ranges.dy in
     let w : c.shift-work.result ≡ Shift c.args.dx c.args.dy = c.shift-work.ensures ∙ (ap (λ z. Shift z (to_z w32 (of_z w32 c.args.dy))) x ∙ ap (λ z. Shift c.args.dx z) y) in
-    subst (λ q. AllowsAt q (linked c.self.inside.nodes c.args.key)) (sym w) (shift_allowed c.self.inside.nodes c.self.inside.root c.args.key c.args.dx c.args.dy c.self.invariant.tree (rw (← c.self.view_is) at c.requires.live) (rw (← c.self.view_is) at c.requires.fits)).0
+    subst (λ q. AllowsAt q (linked c.self.inside.nodes c.args.key)) (sym w) (shift_allowed c.self.inside.nodes c.self.inside.root c.args.key c.args.dx c.args.dy c.self.invariant.sound.tree (rw (← c.self.view_is) at c.requires.live) (rw (← c.self.view_is) at c.requires.fits)).0
 
 pub work_below-requires-clause-read : goal.work_below-requires-clause-read
-work_below-requires-clause-read g c = (under_box c.self.inside.nodes c.self.inside.root c.args.key c.self.invariant.tree (rw (← c.self.view_is) at c.requires.live)).read
+work_below-requires-clause-read g c = (under_box c.self.inside.nodes c.self.inside.root c.args.key c.self.invariant.sound.tree (rw (← c.self.view_is) at c.requires.live)).read
 
 pub work_below-requires-clause-apart : goal.work_below-requires-clause-apart
-work_below-requires-clause-apart g c = (under_box c.self.inside.nodes c.self.inside.root c.args.key c.self.invariant.tree (rw (← c.self.view_is) at c.requires.live)).out
+work_below-requires-clause-apart g c = (under_box c.self.inside.nodes c.self.inside.root c.args.key c.self.invariant.sound.tree (rw (← c.self.view_is) at c.requires.live)).out
 
 pub work_below-requires-clause-allowed : goal.work_below-requires-clause-allowed
 work_below-requires-clause-allowed g c =
     let x : to_z w32 (of_z w32 c.args.dx) ≡ c.args.dx = to_z-of_z w32 c.args.dx c.ranges.dx in
     let y : to_z w32 (of_z w32 c.args.dy) ≡ c.args.dy = to_z-of_z w32 c.args.dy c.ranges.dy in
     let w : c.shift-work.result ≡ Shift c.args.dx c.args.dy = c.shift-work.ensures ∙ (ap (λ z. Shift z (to_z w32 (of_z w32 c.args.dy))) x ∙ ap (λ z. Shift c.args.dx z) y) in
-    subst (λ q. AllItems (Allows q) (seen_from c.self.inside.nodes (onward_of (linked c.self.inside.nodes c.args.key)).0)) (sym w) (shift_allowed c.self.inside.nodes c.self.inside.root c.args.key c.args.dx c.args.dy c.self.invariant.tree (rw (← c.self.view_is) at c.requires.live) (rw (← c.self.view_is) at c.requires.fits)).1
+    subst (λ q. AllItems (Allows q) (seen_from c.self.inside.nodes (onward_of (linked c.self.inside.nodes c.args.key)).0)) (sym w) (shift_allowed c.self.inside.nodes c.self.inside.root c.args.key c.args.dx c.args.dy c.self.invariant.sound.tree (rw (← c.self.view_is) at c.requires.live) (rw (← c.self.view_is) at c.requires.fits)).1
 
 pub invariant_of-self : goal.invariant_of-self
 invariant_of-self g c =
@@ -38,7 +38,7 @@ invariant_of-self g c =
     let w : c.shift-work.result ≡ Shift c.args.dx c.args.dy = c.shift-work.ensures ∙ (ap (λ z. Shift z (to_z w32 (of_z w32 c.args.dy))) x ∙ ap (λ z. Shift c.args.dx z) y) in
     let r : Relinks c.self.inside.nodes c.work_below.new.nodes (on_each (λ j. same_key j c.args.key || has same_key j (seen_from c.self.inside.nodes (onward_of (linked c.self.inside.nodes c.args.key)).0)) (move_by c.args.dx c.args.dy) (linked c.self.inside.nodes)) =
     subst (λ q. Relinks c.self.inside.nodes c.work_below.new.nodes (on_each (λ j. same_key j c.args.key || has same_key j (seen_from c.self.inside.nodes (onward_of (linked c.self.inside.nodes c.args.key)).0)) (done q) (linked c.self.inside.nodes))) w c.work_below.ensures in
-    (shift_sound c.self.inside.nodes c.work_below.new.nodes c.self.inside.root c.args.key c.self.inside.ids c.args.dx c.args.dy c.self.invariant (rw (← c.self.view_is) at c.requires.live) (rw (← c.self.view_is) at c.requires.fits) r).0
+    (shift_sound c.self.inside.nodes c.work_below.new.nodes c.self.inside.root c.args.key c.self.inside.ids c.args.dx c.args.dy c.self.invariant.sound (rw (← c.self.view_is) at c.requires.live) (rw (← c.self.view_is) at c.requires.fits) r).0
 
 pub returns : goal.returns
 returns g c =
@@ -48,6 +48,6 @@ returns g c =
     let r : Relinks c.self.inside.nodes c.work_below.new.nodes (on_each (λ j. same_key j c.args.key || has same_key j (seen_from c.self.inside.nodes (onward_of (linked c.self.inside.nodes c.args.key)).0)) (move_by c.args.dx c.args.dy) (linked c.self.inside.nodes)) =
     subst (λ q. Relinks c.self.inside.nodes c.work_below.new.nodes (on_each (λ j. same_key j c.args.key || has same_key j (seen_from c.self.inside.nodes (onward_of (linked c.self.inside.nodes c.args.key)).0)) (done q) (linked c.self.inside.nodes))) w c.work_below.ensures in
     let s : IsSound c.work_below.new.nodes c.self.inside.root c.self.inside.ids × (seen c.work_below.new.nodes c.self.inside.root ≡ at_subtree same_key c.args.key (move_by c.args.dx c.args.dy) (seen c.self.inside.nodes c.self.inside.root)) =
-    shift_sound c.self.inside.nodes c.work_below.new.nodes c.self.inside.root c.args.key c.self.inside.ids c.args.dx c.args.dy c.self.invariant (rw (← c.self.view_is) at c.requires.live) (rw (← c.self.view_is) at c.requires.fits) r in
+    shift_sound c.self.inside.nodes c.work_below.new.nodes c.self.inside.root c.args.key c.self.inside.ids c.args.dx c.args.dy c.self.invariant.sound (rw (← c.self.view_is) at c.requires.live) (rw (← c.self.view_is) at c.requires.fits) r in
     let k : marks c.work_below.new.nodes ≡ marks c.self.inside.nodes = c.work_below.ensures.same_slots in
     rw (← c.self.view_is, s.1, k) refl
