@@ -1,6 +1,7 @@
 -- What a tree tells of all that is below a box. It is this project's own choice.
 use Rattle.std.specs.Prelude.{ℕ, ◌+◌, Bool, false, ◌||◌, if◌then◌else◌, List, slice_index_or, Option, Some, None}
 use Rattle.rd_geom.specs.Plane.{Rectangle, no_pixels, hull_of, grown}
+use Rattle.rd_style.specs.declared.styles.Style.{Style}
 use Rattle.rd_keys.specs.Keys.{same_key}
 use Rattle.rd_tree.specs.Forest.{Forest, empty, tree, from, in_subtree}
 use Rattle.rd_tree.specs.declared.near.Near.{Near}
@@ -22,8 +23,12 @@ any_touched empty = false
 any_touched (tree k d below rest) = d.touched || (any_touched below || any_touched rest)
 
 -- CSS 2.2 section 18.4: a border box with its outline round it
+abbrev pub outlined : Rectangle → Style → Rectangle
+outlined r s = grown r s.outline_width
+
+-- the same of an item
 abbrev pub extent : Item → Rectangle
-extent d = grown d.rect d.style.outline_width
+extent d = outlined d.rect d.style
 
 -- the least rectangle with the border boxes of all, each with its outline, those of hidden boxes too
 abbrev pub hull_in : Boxes → Rectangle

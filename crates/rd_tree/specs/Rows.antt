@@ -18,6 +18,10 @@ use Rattle.rd_tree.specs.Near.{near_of, near_at, is_above, extent}
 abbrev pub Puts : List Near → List Near → BoxKey → Near → Type 0
 Puts old new k row = (j : BoxKey) → near_at new j ≡ (if j.slot == k.slot then row else near_at old j)
 
+-- of a box without children, whose hull this is
+abbrev pub alone : Rectangle → Near
+alone r = record { children = 0; touched = 0; hull = r }
+
 abbrev pub with_children : ℕ → Near → Near
 with_children n row = record row { children = n }
 

@@ -2,7 +2,7 @@
 ghost use Rattle.std.specs.Prelude.{◌≡◌, ◌+◌, ◌-◌, ◌<◌, ◌≤◌, ◌⊎◌, length, vec_len, vec_capacity};
 ghost use Rattle.rd_tree.specs.Forest.{empty};
 ghost use Rattle.rd_tree.specs.Near.{near_first, near_at};
-ghost use Rattle.rd_tree.specs.Rows.{Puts, IsMarkable, with_children, with_hull, marked};
+ghost use Rattle.rd_tree.specs.Rows.{Puts, IsMarkable, alone, with_children, with_hull, marked};
 
 use rd_geom::Rect;
 use rd_keys::BoxKey;
@@ -23,6 +23,17 @@ pub(crate) fn none() -> Near
         children: 0,
         touched: 0,
         hull: Rect::EMPTY,
+    }
+}
+
+/// Of a box without children, whose hull this is.
+pub(crate) fn near_alone(hull: Rect) -> Near
+    ensures { result ≡ alone hull }
+{
+    Near {
+        children: 0,
+        touched: 0,
+        hull,
     }
 }
 
