@@ -35,7 +35,7 @@ module _ {K D : Type 0} (p : K → Bool) (g : D → D) where
         here true o e = ap (option_map (with_item g)) e
         here false o e = e
 
-  join-each : (f h : Forest K D) → each_if p g (f ▷ h) ≡ each_if p g f ▷ each_if p g h
+  pub join-each : (f h : Forest K D) → each_if p g (f ▷ h) ≡ each_if p g f ▷ each_if p g h
   join-each empty h = refl
   join-each (tree k d below rest) h = ap (tree k (cond (p k) (g d) d) (each_if p g below)) (join-each rest h)
 

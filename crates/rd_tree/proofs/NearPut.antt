@@ -76,6 +76,9 @@ module _ (k : BoxKey) (d : Item) (below xs ys : Boxes) (p : BoxKey) where
     below-put : (q : BoxKey) → has same_key j g ≡ true → has same_key q (children same_key j (under same_key p new g)) ≡ cond (in_subtree same_key p j g) (has same_key q (children same_key j g) || has same_key q one) (has same_key q (children same_key j g))
     below-put q u = told_put k d below xs ys (λ i f. has same_key q (children same_key i f)) p (λ i b. b || has same_key q one) (below_tells q) g a m is w j u
 
+    pub below-put_new : (q : BoxKey) → has same_key j one ≡ true → has same_key q (children same_key j (under same_key p new g)) ≡ has same_key q (children same_key j one)
+    below-put_new q u = told_new k d below xs ys (λ i f. has same_key q (children same_key i f)) p (λ i b. b || has same_key q one) (below_tells q) g a m is w j u
+
     -- What was there is below the same boxes.
     pub subtree-put : (q : BoxKey) → has same_key j g ≡ true → has same_key q one ≡ false → in_subtree same_key q j (under same_key p new g) ≡ in_subtree same_key q j g
     subtree-put q u o = ap (λ b. same_key q j || b) (below-put q u ∙ (ap (λ b. cond (in_subtree same_key p j g) (has same_key q (children same_key j g) || b) (has same_key q (children same_key j g))) o ∙ either_way (in_subtree same_key p j g) (has same_key q (children same_key j g)))) where

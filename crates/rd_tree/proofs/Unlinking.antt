@@ -67,7 +67,7 @@ module _ {K D : Type 0} (same : K → K → Bool) (sound : (a b : K) → same a 
       (some_edit same (Some p) (with_ends (but x.prev x.next a) (but x.next x.prev b)) (edit_if same x.next (with_prev x.prev) (edit_if same x.prev (with_next x.next) at)) j h))
 
   -- Among siblings of which there is one, a box is that one.
-  sole : (r k : K) (d i : D) (below before low after : Forest K D) → tree r d below empty ≡ before ▷ tree k i low after → k ≡ r
+  pub sole : (r k : K) (d i : D) (below before low after : Forest K D) → tree r d below empty ≡ before ▷ tree k i low after → k ≡ r
   sole r k d i below empty low after e = cc (e)
   sole r k d i below (tree j c b empty) low after e = cc (e)
   sole r k d i below (tree j c b (tree j2 c2 b2 rest)) low after e = cc (e)

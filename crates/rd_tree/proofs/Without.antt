@@ -7,7 +7,7 @@ use Rattle.rd_tree.proofs.Standing.{cases, never, either, from_left, from_right,
 use Rattle.rd_tree.proofs.Under.{which}
 use Rattle.rd_tree.proofs.Cutting.{no_without}
 
-flipped : {K : Type 0} (same : K → K → Bool) (sound : (a b : K) → same a b ≡ true → a ≡ b) (reflexive : (a : K) → same a a ≡ true) (a b : K) → same a b ≡ false → same b a ≡ false
+pub flipped : {K : Type 0} (same : K → K → Bool) (sound : (a b : K) → same a b ≡ true → a ≡ b) (reflexive : (a : K) → same a a ≡ true) (a b : K) → same a b ≡ false → same b a ≡ false
 flipped same sound reflexive a b h = elim (cases (same b a)) [ inl e ↦ absurd (never (same a b) (subst (λ x. same x b ≡ true) (sound b a e) (reflexive b)) h) | inr e ↦ e ]
 
 module _ {K D : Type 0} (same : K → K → Bool) (sound : (a b : K) → same a b ≡ true → a ≡ b) (reflexive : (a : K) → same a a ≡ true) where

@@ -1,0 +1,92 @@
+-- What is told of each box once items change in one branch.
+use Rattle.std.proofs.Common.{◌≡◌, refl, ap, ◌∙◌, sym, subst, ℕ, ◌+◌, Bool, true, false, cond}
+use Rattle.rd_geom.specs.Plane.{Rectangle, hull_of}
+use Rattle.rd_keys.specs.Keys.{same_key}
+use Rattle.rd_keys.proofs.Keys.{same_key-sound, same_key-refl}
+use Rattle.rd_tree.specs.declared.near.Near.{Near}
+use Rattle.rd_tree.specs.Forest.{Forest, empty, tree, has, children, in_subtree, without, branch, each_if, at_box, IsApart}
+use Rattle.rd_tree.specs.Document.{BoxKey, Item, Boxes}
+use Rattle.rd_tree.specs.Near.{touched_in, hull_in, near_of}
+use Rattle.rd_tree.proofs.Standing.{either, differs}
+use Rattle.rd_tree.proofs.Without.{stays}
+use Rattle.rd_tree.proofs.Each.{has-each, apart_each, children-each}
+use Rattle.rd_tree.proofs.Restoring.{branch_there}
+use Rattle.rd_tree.proofs.Parent.{Parent}
+use Rattle.rd_tree.proofs.EachBranch.{branch-each, each_none, among_each, IsWithin, without-within}
+use Rattle.rd_tree.proofs.NearPut.{more_near}
+use Rattle.rd_tree.proofs.NearCut.{near-cut, subtree-cut_above, above_stays}
+use Rattle.rd_tree.proofs.NearWithin.{not_own, near-branch, near-children}
+
+-- what is told of a box above a branch: how many children it has, and without the branch r is told of it
+abbrev pub joined_near : ℕ → Near → Boxes → Near
+joined_near c r b = record { children = c; touched = r.touched + touched_in b; hull = hull_of r.hull (hull_in b) }
+
+-- what is told of a box above the branch of k before and after items of the branch change
+pub record InPlace (t : BoxKey → Bool) (h : Item → Item) (j k : BoxKey) (f : Boxes) : Type 0 where
+  pub count : ℕ
+  pub before : near_of j f ≡ joined_near count (near_of j (without same_key k f)) (branch same_key k f)
+  pub after : near_of j (each_if t h f) ≡ joined_near count (near_of j (without same_key k f)) (branch same_key k (each_if t h f))
+
+module _ (t : BoxKey → Bool) (h : Item → Item) (k : BoxKey) (f : Boxes) (a : IsApart same_key f) (q : IsWithin same_key t k f) where
+  module _ (parent : Parent same_key same_key-sound same_key-refl k f) where
+    abbrev p : BoxKey
+    p = parent.key
+
+    abbrev g : Boxes
+    g = without same_key k f
+
+    abbrev changed : Boxes
+    changed = each_if t h f
+
+    cut_changed : (j : BoxKey) → has same_key j g ≡ true → near_of j changed ≡ cond (in_subtree same_key p j g) (more_near (same_key p j) (branch same_key k changed) (near_of j g)) (near_of j g)
+    cut_changed j u =
+        let e : without same_key k changed ≡ g = without-within same_key same_key-sound same_key-refl t h k f a q in
+        subst (λ z. near_of j changed ≡ cond (in_subtree same_key p j z) (more_near (same_key p j) (branch same_key k changed) (near_of j z)) (near_of j z)) e
+        (near-cut p k changed (among_each t h same_key k p f parent.child) (apart_each t h same_key f a) (has-each t h same_key p f ∙ parent.there) j (subst (λ z. has same_key j z ≡ true) (sym e) u))
+
+    -- a box above k
+    pub in_place : (j : BoxKey) → has same_key j f ≡ true → same_key j k ≡ false → in_subtree same_key k j f ≡ true → InPlace t h j k f
+    in_place j u n i =
+        let s : has same_key j g ≡ true = above_stays p k f parent.child a parent.there j u n i in
+        let up : in_subtree same_key p j g ≡ true = sym (subtree-cut_above p k f parent.child a parent.there j s) ∙ i in
+        record {
+          count = (near_of j g).children + cond (same_key p j) 1 0;
+          before = near-cut p k f parent.child a parent.there j s ∙ ap (λ b. cond b (more_near (same_key p j) (branch same_key k f) (near_of j g)) (near_of j g)) up;
+          after = cut_changed j s ∙ ap (λ b. cond b (more_near (same_key p j) (branch same_key k changed) (near_of j g)) (near_of j g)) up;
+        }
+
+    -- a box that is neither above k nor in its branch
+    pub near-aside : (j : BoxKey) → has same_key j f ≡ true → in_subtree same_key j k f ≡ false → in_subtree same_key k j f ≡ false → near_of j changed ≡ near_of j f
+    near-aside j u n i =
+        let o : (same_key j k ≡ false) × (has same_key j (children same_key k f) ≡ false) = either (same_key j k) (has same_key j (children same_key k f)) n in
+        let s : has same_key j g ≡ true = stays same_key same_key-sound same_key-refl j k f u o.0 o.1 in
+        let off : in_subtree same_key p j g ≡ false = sym (subtree-cut_above p k f parent.child a parent.there j s) ∙ i in
+        cut_changed j s ∙ (ap (λ b. cond b (more_near (same_key p j) (branch same_key k changed) (near_of j g)) (near_of j g)) off
+        ∙ (ap (λ b. cond b (more_near (same_key p j) (branch same_key k f) (near_of j g)) (near_of j g)) (sym off) ∙ sym (near-cut p k f parent.child a parent.there j s)))
+
+  -- a box of the branch
+  pub near-in_branch : (j : BoxKey) → has same_key j (branch same_key k f) ≡ true → near_of j (each_if t h f) ≡ near_of j (branch same_key k (each_if t h f))
+  near-in_branch j u = near-branch j k (each_if t h f) (apart_each t h same_key f a) (ap (has same_key j) (branch-each t h same_key k f) ∙ (has-each t h same_key j (branch same_key k f) ∙ u))
+
+-- What is below a box stays where the items below it stay.
+pub children_kept : (t : BoxKey → Bool) (h : Item → Item) (k : BoxKey) (f : Boxes) → ((j : BoxKey) → has same_key j (children same_key k f) ≡ true → t j ≡ false) → children same_key k (each_if t h f) ≡ children same_key k f
+children_kept t h k f o = children-each t h same_key k f ∙ each_none t h same_key same_key-refl (children same_key k f) o
+
+pub near-kept : (t : BoxKey → Bool) (h : Item → Item) (k : BoxKey) (f : Boxes) → IsApart same_key f → has same_key k f ≡ true → ((j : BoxKey) → has same_key j (children same_key k f) ≡ true → t j ≡ false) →
+    (j : BoxKey) → has same_key j (children same_key k f) ≡ true → near_of j (each_if t h f) ≡ near_of j f
+near-kept t h k f a m o j u =
+    let e : children same_key k (each_if t h f) ≡ children same_key k f = children_kept t h k f o in
+    near-children j k (each_if t h f) (apart_each t h same_key f a) (has-each t h same_key k f ∙ m) (ap (has same_key j) e ∙ u)
+    ∙ (ap (near_of j) e ∙ sym (near-children j k f a m u))
+
+-- Where one box alone changes, all that is told of those below it stays.
+pub near-below_box : (h : Item → Item) (k : BoxKey) (f : Boxes) → IsApart same_key f → has same_key k f ≡ true → (j : BoxKey) → has same_key j (children same_key k f) ≡ true → near_of j (at_box same_key k h f) ≡ near_of j f
+near-below_box h k f a m j u = near-kept (λ i. same_key i k) h k f a m
+    (λ i v. differs same_key same_key-sound same_key-refl (children same_key k f) i k v (not_own same_key same_key-sound same_key-refl k f a)) j u
+
+pub branch-at_box : (h : Item → Item) (k : BoxKey) (f : Boxes) → IsApart same_key f → has same_key k f ≡ true → (d : Item) × (branch same_key k f ≡ tree k d (children same_key k f) empty) × (branch same_key k (at_box same_key k h f) ≡ tree k (h d) (children same_key k f) empty)
+branch-at_box h k f a m =
+    let t : (d : Item) × (branch same_key k f ≡ tree k d (children same_key k f) empty) = branch_there same_key same_key-sound same_key-refl k f a m in
+    let kept : each_if (λ i. same_key i k) h (children same_key k f) ≡ children same_key k f = each_none (λ i. same_key i k) h same_key same_key-refl (children same_key k f)
+    (λ i v. differs same_key same_key-sound same_key-refl (children same_key k f) i k v (not_own same_key same_key-sound same_key-refl k f a)) in
+    (t.0, t.1, branch-each (λ i. same_key i k) h same_key k f ∙ (ap (each_if (λ i. same_key i k) h) t.1 ∙ (ap (λ b. tree k (cond b (h t.0) t.0) (each_if (λ i. same_key i k) h (children same_key k f)) empty) (same_key-refl k) ∙ ap (λ z. tree k (h t.0) z empty) kept)))

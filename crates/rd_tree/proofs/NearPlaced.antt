@@ -1,0 +1,123 @@
+-- What is told of each box once a new box is a child of another, or a branch is moved.
+use Rattle.std.proofs.Common.{◌≡◌, refl, ap, ◌∙◌, sym, subst, Bool, true, false, ◌||◌, cond}
+use Rattle.std.specs.Prelude.{Option, Some, None}
+use Rattle.rd_geom.specs.Plane.{no_pixels, hull_of}
+use Rattle.rd_keys.specs.Keys.{same_key}
+use Rattle.rd_keys.proofs.Keys.{same_key-sound, same_key-refl}
+use Rattle.rd_tree.specs.declared.near.Near.{Near}
+use Rattle.rd_tree.specs.Forest.{Forest, empty, tree, ◌▷◌, has, children, in_subtree, under, amid, ahead, without, branch, IsPlaceIn, AreApart, IsApart}
+use Rattle.rd_tree.specs.Document.{BoxKey, Item, Boxes, with_child}
+use Rattle.rd_tree.specs.Edits.{put_elsewhere}
+use Rattle.rd_tree.specs.Near.{extent, near_of}
+use Rattle.rd_tree.proofs.Standing.{either, join-empty, differs, from_left}
+use Rattle.rd_tree.proofs.Cutting.{Among}
+use Rattle.rd_tree.proofs.Placing.{among_of, ahead-among}
+use Rattle.rd_tree.proofs.Without.{apart_without, stays}
+use Rattle.rd_tree.proofs.Staying.{place_stays}
+use Rattle.rd_tree.proofs.Restoring.{branch_there, branch_off, apart_children}
+use Rattle.rd_tree.proofs.NearPut.{more_near, near-put, near-put_new, subtree-put, subtree-put_new}
+
+module _ {K D : Type 0} (same : K → K → Bool) (sound : (a b : K) → same a b ≡ true → a ≡ b) (reflexive : (a : K) → same a a ≡ true) where
+  -- siblings at both sides of a place
+  pub record Divided (before : Option K) (c : Forest K D) : Type 0 where
+    pub xs : Forest K D
+    pub ys : Forest K D
+    pub is : c ≡ xs ▷ ys
+    pub amid_is : (g : Forest K D) → amid same before g c ≡ xs ▷ (g ▷ ys)
+
+  pub divided : (before : Option K) (c : Forest K D) → IsApart same c → IsPlaceIn same before c → Divided before c
+  divided None c a h = record { xs = c; ys = empty; is = sym (join-empty c); amid_is = λ g. ap (λ z. c ▷ z) (sym (join-empty g)) }
+  divided (Some b) c a h =
+      let w : Among b c = among_of same sound reflexive b c h in
+      record {
+        xs = w.before;
+        ys = tree b w.item w.below w.after;
+        is = w.is;
+        amid_is = λ g. ap (ahead same b g) w.is ∙ ahead-among same sound reflexive b w.item g w.before w.below w.after (subst (λ f. IsApart same f) w.is a);
+      }
+
+module _ (p : BoxKey) (before : Option BoxKey) (k : BoxKey) (d : Item) (below g : Boxes) (a : IsApart same_key g) (m : has same_key p g ≡ true) (place : IsPlaceIn same_key before (children same_key p g)) (w : AreApart same_key g (tree k d below empty)) where
+  abbrev one : Boxes
+  one = tree k d below empty
+
+  abbrev placed : Boxes
+  placed = under same_key p (amid same_key before one (children same_key p g)) g
+
+  v : Divided same_key same_key-sound same_key-refl before (children same_key p g)
+  v = divided same_key same_key-sound same_key-refl before (children same_key p g) (apart_children same_key same_key-sound same_key-refl p g a) place
+
+  placed_is : placed ≡ under same_key p (v.xs ▷ tree k d below v.ys) g
+  placed_is = ap (λ z. under same_key p z g) (v.amid_is one)
+
+  pub near-placed : (j : BoxKey) → has same_key j g ≡ true → near_of j placed ≡ cond (in_subtree same_key p j g) (more_near (same_key p j) one (near_of j g)) (near_of j g)
+  near-placed j u = ap (near_of j) placed_is ∙ near-put k d below v.xs v.ys p g a m v.is w j u
+
+  pub near-placed_new : (j : BoxKey) → has same_key j one ≡ true → near_of j placed ≡ near_of j one
+  near-placed_new j u = ap (near_of j) placed_is ∙ near-put_new k d below v.xs v.ys p g a m v.is w j u
+
+  pub subtree-placed : (q j : BoxKey) → has same_key j g ≡ true → has same_key q one ≡ false → in_subtree same_key q j placed ≡ in_subtree same_key q j g
+  subtree-placed q j u o = ap (in_subtree same_key q j) placed_is ∙ subtree-put k d below v.xs v.ys p g a m v.is w j q u o
+
+  pub subtree-placed_new : (q j : BoxKey) → has same_key j g ≡ true → has same_key q one ≡ true → in_subtree same_key q j placed ≡ in_subtree same_key p j g
+  subtree-placed_new q j u i = ap (in_subtree same_key q j) placed_is ∙ subtree-put_new k d below v.xs v.ys p g a m v.is w j q u i
+
+-- a new box
+module _ (p : BoxKey) (before : Option BoxKey) (k : BoxKey) (d : Item) (g : Boxes) (a : IsApart same_key g) (m : has same_key p g ≡ true) (place : IsPlaceIn same_key before (children same_key p g)) (n : has same_key k g ≡ false) where
+  strange : AreApart same_key g (tree k d empty empty)
+  strange j u = rw (differs same_key same_key-sound same_key-refl g j k u n) refl
+
+  pub near-with_child : (j : BoxKey) → has same_key j g ≡ true → near_of j (with_child p before k d g) ≡ cond (in_subtree same_key p j g) (more_near (same_key p j) (tree k d empty empty) (near_of j g)) (near_of j g)
+  near-with_child j u = near-placed p before k d empty g a m place strange j u
+
+  pub near-child : near_of k (with_child p before k d g) ≡ record { children = 0; touched = 0; hull = hull_of (extent d) no_pixels }
+  near-child = near-placed_new p before k d empty g a m place strange k (from_left (same_key k k) false (same_key-refl k)) ∙ rw (same_key-refl k) refl
+
+  pub subtree-with_child : (q j : BoxKey) → has same_key j g ≡ true → same_key q k ≡ false → in_subtree same_key q j (with_child p before k d g) ≡ in_subtree same_key q j g
+  subtree-with_child q j u o = subtree-placed p before k d empty g a m place strange q j u (rw o refl)
+
+  pub subtree-child : (j : BoxKey) → has same_key j g ≡ true → in_subtree same_key k j (with_child p before k d g) ≡ in_subtree same_key p j g
+  subtree-child j u = subtree-placed_new p before k d empty g a m place strange k j u (from_left (same_key k k) false (same_key-refl k))
+
+-- a branch that is moved below q
+module _ (k q : BoxKey) (before : Option BoxKey) (f : Boxes) (a : IsApart same_key f) (m : has same_key k f ≡ true) (there : has same_key q f ≡ true) (outside : in_subtree same_key q k f ≡ false)
+    (place : IsPlaceIn same_key before (children same_key q f)) (other : before ≡ Some k → ⊥) where
+  abbrev g : Boxes
+  g = without same_key k f
+
+  out : (same_key q k ≡ false) × (has same_key q (children same_key k f) ≡ false)
+  out = either (same_key q k) (has same_key q (children same_key k f)) outside
+
+  t : (d : Item) × (branch same_key k f ≡ tree k d (children same_key k f) empty)
+  t = branch_there same_key same_key-sound same_key-refl k f a m
+
+  ga : IsApart same_key g
+  ga = apart_without same_key same_key-sound same_key-refl k f a
+
+  gq : has same_key q g ≡ true
+  gq = stays same_key same_key-sound same_key-refl q k f there out.0 out.1
+
+  gplace : IsPlaceIn same_key before (children same_key q g)
+  gplace = place_stays same_key same_key-sound same_key-refl before q k f a out.0 out.1 other place
+
+  off : AreApart same_key g (tree k t.0 (children same_key k f) empty)
+  off = subst (λ z. AreApart same_key g z) t.1 (branch_off same_key same_key-sound same_key-refl k f a m)
+
+  pub near-elsewhere : (j : BoxKey) → has same_key j g ≡ true → near_of j (put_elsewhere k q before f) ≡ cond (in_subtree same_key q j g) (more_near (same_key q j) (branch same_key k f) (near_of j g)) (near_of j g)
+  near-elsewhere j u =
+      subst (λ b. near_of j (under same_key q (amid same_key before b (children same_key q g)) g) ≡ cond (in_subtree same_key q j g) (more_near (same_key q j) b (near_of j g)) (near_of j g)) (sym t.1)
+      (near-placed q before k t.0 (children same_key k f) g ga gq gplace off j u)
+
+  pub near-elsewhere_branch : (j : BoxKey) → has same_key j (branch same_key k f) ≡ true → near_of j (put_elsewhere k q before f) ≡ near_of j (branch same_key k f)
+  near-elsewhere_branch j u =
+      subst (λ b. near_of j (under same_key q (amid same_key before b (children same_key q g)) g) ≡ near_of j b) (sym t.1)
+      (near-placed_new q before k t.0 (children same_key k f) g ga gq gplace off j (subst (λ b. has same_key j b ≡ true) t.1 u))
+
+  pub subtree-elsewhere : (i j : BoxKey) → has same_key j g ≡ true → has same_key i (branch same_key k f) ≡ false → in_subtree same_key i j (put_elsewhere k q before f) ≡ in_subtree same_key i j g
+  subtree-elsewhere i j u o =
+      subst (λ b. in_subtree same_key i j (under same_key q (amid same_key before b (children same_key q g)) g) ≡ in_subtree same_key i j g) (sym t.1)
+      (subtree-placed q before k t.0 (children same_key k f) g ga gq gplace off i j u (subst (λ b. has same_key i b ≡ false) t.1 o))
+
+  pub subtree-elsewhere_branch : (i j : BoxKey) → has same_key j g ≡ true → has same_key i (branch same_key k f) ≡ true → in_subtree same_key i j (put_elsewhere k q before f) ≡ in_subtree same_key q j g
+  subtree-elsewhere_branch i j u o =
+      subst (λ b. in_subtree same_key i j (under same_key q (amid same_key before b (children same_key q g)) g) ≡ in_subtree same_key q j g) (sym t.1)
+      (subtree-placed_new q before k t.0 (children same_key k f) g ga gq gplace off i j u (subst (λ b. has same_key i b ≡ true) t.1 o))

@@ -1,0 +1,68 @@
+-- What is told of a box of a branch is told by the branch alone.
+use Rattle.std.proofs.Common.{◌≡◌, refl, ap, ◌∙◌, sym, subst, Bool, true, false, ◌||◌, cond, inl, inr}
+use Rattle.rd_keys.specs.Keys.{same_key}
+use Rattle.rd_keys.proofs.Keys.{same_key-sound, same_key-refl}
+use Rattle.rd_tree.specs.Forest.{Forest, empty, tree, has, children, branch, IsApart}
+use Rattle.rd_tree.specs.Document.{BoxKey, Item, Boxes}
+use Rattle.rd_tree.specs.Near.{near_of}
+use Rattle.rd_tree.proofs.Standing.{cases, never, either, from_left, from_right, has-join, differs, apart_back}
+use Rattle.rd_tree.proofs.Under.{which}
+use Rattle.rd_tree.proofs.Restoring.{branch_there}
+use Rattle.rd_tree.proofs.NearOf.{near-here, near-inner, near-later}
+
+module _ {K D : Type 0} (same : K → K → Bool) (sound : (a b : K) → same a b ≡ true → a ≡ b) (reflexive : (a : K) → same a a ≡ true) where
+  -- A box is not below itself.
+  pub not_own : (k : K) (f : Forest K D) → IsApart same f → has same k (children same k f) ≡ false
+  not_own k empty a = refl
+  not_own k (tree i d low rest) a =
+      elim (cases (same k i)) [
+        | inl e ↦ rw e (subst (λ z. has same z low ≡ false) (sym (sound k i e)) a.0)
+        | inr e ↦ rw e (has-join same sound reflexive k (children same k low) (children same k rest) ∙ rw (not_own k low a.3, not_own k rest a.4) refl)
+      ]
+
+  -- no branch at a key that is not there
+  pub out_of_branch : (j k : K) (f : Forest K D) → has same j f ≡ false → has same j (branch same k f) ≡ false
+  out_of_branch j k empty h = refl
+  out_of_branch j k (tree i d low rest) h =
+      let s : (same j i ≡ false) × ((has same j low || has same j rest) ≡ false) = either (same j i) (has same j low || has same j rest) h in
+      let t : (has same j low ≡ false) × (has same j rest ≡ false) = either (has same j low) (has same j rest) s.1 in
+      elim (cases (same k i)) [
+        | inl e ↦ rw e (rw (s.0, t.0) refl)
+        | inr e ↦ elim (cases (has same k low)) [ inl u ↦ rw (e, u) (out_of_branch j k low t.0) | inr u ↦ rw (e, u) (out_of_branch j k rest t.1) ]
+      ]
+
+  pub in_branch : (j k : K) (f : Forest K D) → has same j (branch same k f) ≡ true → has same j f ≡ true
+  in_branch j k f h = elim (cases (has same j f)) [ inl e ↦ e | inr e ↦ absurd (never (has same j (branch same k f)) h (out_of_branch j k f e)) ]
+
+pub near-branch : (j k : BoxKey) (f : Boxes) → IsApart same_key f → has same_key j (branch same_key k f) ≡ true → near_of j f ≡ near_of j (branch same_key k f)
+near-branch j k empty a m = refl
+near-branch j k (tree i d low rest) a m =
+    elim (cases (same_key k i)) [
+      | inl e ↦
+          let n : (same_key j i || (has same_key j low || false)) ≡ true = rw e at m in
+          rw e (elim (cases (same_key j i)) [
+            | inl v ↦ near-here j i d low rest v ∙ sym (near-here j i d low empty v)
+            | inr v ↦ elim (which (has same_key j low) false (rw v at n)) [
+              | inl u ↦ near-inner j i d low rest v u ∙ sym (near-inner j i d low empty v u)
+              | inr u ↦ absurd (never false u refl)
+            ]
+          ])
+      | inr e ↦ elim (cases (has same_key k low)) [
+        | inl u ↦
+            let n : has same_key j (branch same_key k low) ≡ true = rw (e, u) at m in
+            let jl : has same_key j low ≡ true = in_branch same_key same_key-sound same_key-refl j k low n in
+            rw (e, u) (near-inner j i d low rest (differs same_key same_key-sound same_key-refl low j i jl a.0) jl ∙ near-branch j k low a.3 n)
+        | inr u ↦
+            let n : has same_key j (branch same_key k rest) ≡ true = rw (e, u) at m in
+            let jr : has same_key j rest ≡ true = in_branch same_key same_key-sound same_key-refl j k rest n in
+            rw (e, u) (near-later j i d low rest (differs same_key same_key-sound same_key-refl rest j i jr a.1) (apart_back same_key same_key-sound same_key-refl low rest a.2 j jr) ∙ near-branch j k rest a.4 n)
+      ]
+    ]
+
+-- the same of a box that is strictly below
+pub near-children : (j k : BoxKey) (f : Boxes) → IsApart same_key f → has same_key k f ≡ true → has same_key j (children same_key k f) ≡ true → near_of j f ≡ near_of j (children same_key k f)
+near-children j k f a m u =
+    let c : Boxes = children same_key k f in
+    let t : (d : Item) × (branch same_key k f ≡ tree k d c empty) = branch_there same_key same_key-sound same_key-refl k f a m in
+    let jb : has same_key j (branch same_key k f) ≡ true = subst (λ z. has same_key j z ≡ true) (sym t.1) (from_right (same_key j k) (has same_key j c || false) (from_left (has same_key j c) false u)) in
+    near-branch j k f a jb ∙ (ap (near_of j) t.1 ∙ near-inner j k t.0 c empty (differs same_key same_key-sound same_key-refl c j k u (not_own same_key same_key-sound same_key-refl k f a)) u)

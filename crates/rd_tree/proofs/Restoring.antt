@@ -1,0 +1,142 @@
+-- A forest is what stays without a box, with the box put back below its parent.
+use Rattle.std.proofs.Common.{◌≡◌, refl, ap, ◌∙◌, sym, subst, Bool, true, false, ◌||◌, ◌⊎◌, inl, inr}
+use Rattle.rd_tree.specs.Forest.{Forest, empty, tree, ◌▷◌, has, from, children, under, without, without_siblings, branch, AreApart, IsApart}
+use Rattle.rd_tree.proofs.Standing.{cases, never, either, from_left, from_right, join-empty, no_children, differs, apart_back}
+use Rattle.rd_tree.proofs.Under.{which, no_under}
+use Rattle.rd_tree.proofs.Cutting.{Among, among-in, among-apart, without-under, in_children}
+use Rattle.rd_tree.proofs.Without.{apart_without, stays_out}
+
+module _ {K D : Type 0} (same : K → K → Bool) (sound : (a b : K) → same a b ≡ true → a ≡ b) (reflexive : (a : K) → same a a ≡ true) where
+  under-under : (p : K) (h g f : Forest K D) → under same p h (under same p g f) ≡ under same p h f
+  under-under p h g empty = refl
+  under-under p h g (tree i d low rest) =
+      elim (cases (same p i)) [
+        | inl e ↦ rw e (rw e refl)
+        | inr e ↦ rw e (rw (e, under-under p h g low, under-under p h g rest) refl)
+      ]
+
+  under-children : (p : K) (h f : Forest K D) → IsApart same f → children same p f ≡ h → under same p h f ≡ f
+  under-children p h empty a is = refl
+  under-children p h (tree i d low rest) a is =
+      elim (cases (same p i)) [
+        | inl e ↦
+            let n : low ≡ h = rw e at is in
+            rw e (ap (λ z. tree i d z rest) (sym n))
+        | inr e ↦ elim (cases (has same p low)) [
+          | inl u ↦
+              let o : has same p rest ≡ false = a.2 p u in
+              let n : children same p low ≡ h = rw (e, no_children same sound reflexive p rest o, join-empty (children same p low)) at is in
+              rw (e, no_under same sound reflexive p h rest o) (ap (λ z. tree i d z rest) (under-children p h low a.3 n))
+          | inr u ↦
+              let n : children same p rest ≡ h = rw (e, no_children same sound reflexive p low u) at is in
+              rw (e, no_under same sound reflexive p h low u) (ap (tree i d low) (under-children p h rest a.4 n))
+        ]
+      ]
+
+  pub apart_children : (p : K) (f : Forest K D) → IsApart same f → IsApart same (children same p f)
+  apart_children p empty a = tt
+  apart_children p (tree i d low rest) a =
+      elim (cases (same p i)) [
+        | inl e ↦ rw e a.3
+        | inr e ↦ elim (cases (has same p low)) [
+          | inl u ↦ rw (e, no_children same sound reflexive p rest (a.2 p u), join-empty (children same p low)) (apart_children p low a.3)
+          | inr u ↦ rw (e, no_children same sound reflexive p low u) (apart_children p rest a.4)
+        ]
+      ]
+
+  pub children-under : (p : K) (h f : Forest K D) → IsApart same f → has same p f ≡ true → children same p (under same p h f) ≡ h
+  children-under p h empty a m = absurd (never false m refl)
+  children-under p h (tree i d low rest) a m =
+      elim (cases (same p i)) [
+        | inl e ↦ rw e (rw e refl)
+        | inr e ↦ elim (cases (has same p low)) [
+          | inl u ↦
+              let o : has same p rest ≡ false = a.2 p u in
+              rw (e, no_under same sound reflexive p h rest o) (rw (e, no_children same sound reflexive p rest o, join-empty (children same p (under same p h low))) (children-under p h low a.3 u))
+          | inr u ↦
+              let v : has same p rest ≡ true = rw (e, u) at m in
+              rw (e, no_under same sound reflexive p h low u) (rw (e, no_children same sound reflexive p low u) (children-under p h rest a.4 v))
+        ]
+      ]
+
+  pub itself_under : (p : K) (h f : Forest K D) → has same p f ≡ true → has same p (under same p h f) ≡ true
+  itself_under p h empty m = m
+  itself_under p h (tree i d low rest) m =
+      elim (cases (same p i)) [
+        | inl e ↦ rw e (from_left (same p i) (has same p h || has same p rest) e)
+        | inr e ↦ rw e (from_right (same p i) (has same p (under same p h low) || has same p (under same p h rest)) (elim (which (has same p low) (has same p rest) (rw e at m)) [
+          | inl u ↦ from_left (has same p (under same p h low)) (has same p (under same p h rest)) (itself_under p h low u)
+          | inr u ↦ from_right (has same p (under same p h low)) (has same p (under same p h rest)) (itself_under p h rest u)
+        ]))
+      ]
+
+  -- A box that is there begins its branch, and what is below it is the rest of that.
+  pub branch_there : (k : K) (f : Forest K D) → IsApart same f → has same k f ≡ true → (d : D) × (branch same k f ≡ tree k d (children same k f) empty)
+  branch_there k empty a m = absurd (never false m refl)
+  branch_there k (tree i d low rest) a m =
+      elim (cases (same k i)) [
+        | inl e ↦ rw e (d, ap (λ z. tree z d low empty) (sym (sound k i e)))
+        | inr e ↦ elim (cases (has same k low)) [
+          | inl u ↦ rw (e, u, no_children same sound reflexive k rest (a.2 k u), join-empty (children same k low)) (branch_there k low a.3 u)
+          | inr u ↦ rw (e, u, no_children same sound reflexive k low u) (branch_there k rest a.4 (rw (e, u) at m))
+        ]
+      ]
+
+  -- What stays has no key with the branch in common.
+  pub branch_off : (k : K) (f : Forest K D) → IsApart same f → has same k f ≡ true → AreApart same (without same k f) (branch same k f)
+  branch_off k f a m j u =
+      let o : (same j k ≡ false) × (has same j (children same k f) ≡ false) = stays_out same sound reflexive j k f a u in
+      let t : (d : D) × (branch same k f ≡ tree k d (children same k f) empty) = branch_there k f a m in
+      ap (has same j) t.1 ∙ rw (o.0, o.1) refl
+
+  from-children : (p k : K) (f : Forest K D) → IsApart same f → has same k (children same p f) ≡ true → from same k f ≡ from same k (children same p f)
+  from-children p k empty a m = refl
+  from-children p k (tree i d low rest) a m =
+      elim (cases (same p i)) [
+        | inl e ↦
+            let u : has same k low ≡ true = rw e at m in
+            rw (e, differs same sound reflexive low k i u a.0, u) refl
+        | inr e ↦ elim (cases (has same p low)) [
+          | inl v ↦
+              let n : children same p rest ≡ empty = no_children same sound reflexive p rest (a.2 p v) in
+              let u : has same k (children same p low) ≡ true = rw (e, n, join-empty (children same p low)) at m in
+              let w : has same k low ≡ true = in_children same sound reflexive k p low u in
+              rw (e, n, join-empty (children same p low), differs same sound reflexive low k i w a.0, w) (from-children p k low a.3 u)
+          | inr v ↦
+              let n : children same p low ≡ empty = no_children same sound reflexive p low v in
+              let u : has same k (children same p rest) ≡ true = rw (e, n) at m in
+              let w : has same k rest ≡ true = in_children same sound reflexive k p rest u in
+              rw (e, n, differs same sound reflexive rest k i w a.1, apart_back same sound reflexive low rest a.2 k w) (from-children p k rest a.4 u)
+        ]
+      ]
+
+  from-among : (k : K) (d : D) (xs below ys : Forest K D) → has same k xs ≡ false → from same k (xs ▷ tree k d below ys) ≡ tree k d below ys
+  from-among k d empty below ys h = rw (reflexive k) refl
+  from-among k d (tree i c low rest) below ys h =
+      let s : (same k i ≡ false) × ((has same k low || has same k rest) ≡ false) = either (same k i) (has same k low || has same k rest) h in
+      let t : (has same k low ≡ false) × (has same k rest ≡ false) = either (has same k low) (has same k rest) s.1 in
+      rw (s.0, t.0) (from-among k d rest below ys t.1)
+
+  -- The box k, a child of p, with what stays without it.
+  pub record Restored (p k : K) (f : Forest K D) (w : Among k (children same p f)) : Type 0 where
+    pub apart : IsApart same (without same k f)
+    pub there : has same p (without same k f) ≡ true
+    pub siblings : children same p (without same k f) ≡ w.before ▷ w.after
+    pub branch_is : branch same k f ≡ tree k w.item w.below empty
+    pub off : AreApart same (without same k f) (tree k w.item w.below empty)
+    pub is : f ≡ under same p (w.before ▷ tree k w.item w.below w.after) (without same k f)
+
+  pub restored : (p k : K) (f : Forest K D) (w : Among k (children same p f)) → IsApart same f → has same p f ≡ true → Restored p k f w
+  restored p k f w a m =
+      let h : Forest K D = w.before ▷ tree k w.item w.below w.after in
+      let e : without same k f ≡ under same p (w.before ▷ w.after) f = without-under same sound reflexive p k f w a m in
+      let km : has same k (children same p f) ≡ true = among-in same sound reflexive k (children same p f) w in
+      let is : branch same k f ≡ tree k w.item w.below empty = ap (λ z. without_siblings z) (from-children p k f a km ∙ (ap (from same k) w.is ∙ from-among k w.item w.before w.below w.after (among-apart same sound reflexive k (children same p f) w (apart_children p f a)))) in
+      record {
+        apart = apart_without same sound reflexive k f a;
+        there = subst (λ z. has same p z ≡ true) (sym e) (itself_under p (w.before ▷ w.after) f m);
+        siblings = ap (children same p) e ∙ children-under p (w.before ▷ w.after) f a m;
+        branch_is = is;
+        off = subst (λ z. AreApart same (without same k f) z) is (branch_off k f a (in_children same sound reflexive k p f km));
+        is = sym (ap (under same p h) e ∙ (under-under p h (w.before ▷ w.after) f ∙ under-children p h f a w.is));
+      }
