@@ -32,6 +32,9 @@ with_hull r row = record row { hull = r }
 abbrev pub marked : ℕ → ℕ → Near → Near
 marked less more row = record row { touched = row.touched - less + more }
 
+abbrev pub unmarked : Near → Near
+unmarked row = record row { touched = 0 }
+
 -- The count of touched boxes can be changed so.
 pub record IsMarkable (less more : ℕ) (row : Near) : Type 0 where
   pub enough : less ≤ row.touched

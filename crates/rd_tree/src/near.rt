@@ -1,8 +1,8 @@
 //! What the boxes near a box are: its children, and all that is below it.
-ghost use Rattle.std.specs.Prelude.{◌≡◌, ◌+◌, ◌-◌, ◌<◌, ◌≤◌, ◌⊎◌, length, vec_len, vec_capacity};
+ghost use Rattle.std.specs.Prelude.{◌≡◌, ◌+◌, ◌-◌, ◌<◌, ◌≤◌, ◌⊎◌, length, map, vec_len, vec_capacity};
 ghost use Rattle.rd_tree.specs.Forest.{empty};
 ghost use Rattle.rd_tree.specs.Near.{near_first, near_at};
-ghost use Rattle.rd_tree.specs.Rows.{Puts, IsMarkable, alone, with_children, with_hull, marked};
+ghost use Rattle.rd_tree.specs.Rows.{Puts, IsMarkable, alone, with_children, with_hull, marked, unmarked};
 
 use rd_geom::Rect;
 use rd_keys::BoxKey;
@@ -114,4 +114,13 @@ pub(crate) fn put_hull(near: &mut Vec<Near>, key: BoxKey, hull: Rect)
     let mut row = row_at(near, key);
     row.hull = hull;
     write(near, key, row);
+}
+
+/// No touched box is below any box any more.
+pub(crate) fn unmark(near: &mut Vec<Near>)
+    ensures { near.new.items ≡ map unmarked near.old.items }
+{
+    for row in near.iter_mut() {
+        row.touched = 0;
+    }
 }
