@@ -35,9 +35,11 @@ module _ {K D : Type 0} (t : K → Bool) (h : D → D) (same : K → K → Bool)
   pub each_none : ((a : K) → same a a ≡ true) → (f : Forest K D) → ((j : K) → has same j f ≡ true → t j ≡ false) → each_if t h f ≡ f
   each_none reflexive empty q = refl
   each_none reflexive (tree i d low rest) q =
-      rw (q i (from_left (same i i) (has same i low || has same i rest) (reflexive i)),
+      rw (
+        q i (from_left (same i i) (has same i low || has same i rest) (reflexive i)),
         each_none reflexive low (λ j u. q j (from_right (same j i) (has same j low || has same j rest) (from_left (has same j low) (has same j rest) u))),
-        each_none reflexive rest (λ j u. q j (from_right (same j i) (has same j low || has same j rest) (from_right (has same j low) (has same j rest) u)))) refl
+        each_none reflexive rest (λ j u. q j (from_right (same j i) (has same j low || has same j rest) (from_right (has same j low) (has same j rest) u))),
+      ) refl
 
   -- The children of a box with one of them changed in place.
   pub among_each : (k p : K) (f : Forest K D) → Among k (children same p f) → Among k (children same p (each_if t h f))
