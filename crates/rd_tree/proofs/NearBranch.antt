@@ -1,11 +1,10 @@
 -- What is told of a box, and the sums over its branch.
-use Rattle.std.proofs.Common.{◌≡◌, refl, ap, ◌∙◌, ℕ, ◌+◌, Bool, true, false, cond, arith}
-use Rattle.std.specs.Prelude.{Option, Some, None}
-use Rattle.rd_geom.specs.Plane.{Rectangle, hull_of}
+use Rattle.std.proofs.Common.{◌≡◌, refl, ap, ◌∙◌, ◌+◌, true, cond, arith}
+use Rattle.std.specs.Prelude.{Some}
+use Rattle.rd_geom.specs.Plane.{hull_of}
 use Rattle.rd_keys.specs.Keys.{same_key}
 use Rattle.rd_keys.proofs.Keys.{same_key-sound, same_key-refl}
-use Rattle.rd_tree.specs.declared.near.Near.{Near}
-use Rattle.rd_tree.specs.Forest.{Forest, empty, tree, top, has, from, children, item_of, without_siblings, branch, IsApart}
+use Rattle.rd_tree.specs.Forest.{empty, tree, top, has, from, children, item_of, without_siblings, branch, IsApart}
 use Rattle.rd_tree.specs.Document.{BoxKey, Item, Boxes}
 use Rattle.rd_tree.specs.Near.{breadth, touched_in, extent, hull_in, near_first, near_of}
 use Rattle.rd_tree.proofs.NearHull.{hull-unit}
