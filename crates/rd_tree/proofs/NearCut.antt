@@ -1,8 +1,8 @@
 -- What is told of each box, by what is told of it without a branch.
-use Rattle.std.proofs.Common.{◌≡◌, refl, ap, ◌∙◌, sym, subst, Bool, true, false, ◌||◌, cond}
+use Rattle.std.proofs.Common.{◌≡◌, refl, ap, ◌∙◌, sym, subst, true, false, ◌||◌, cond}
 use Rattle.rd_keys.specs.Keys.{same_key}
 use Rattle.rd_keys.proofs.Keys.{same_key-sound, same_key-refl}
-use Rattle.rd_tree.specs.Forest.{Forest, empty, tree, ◌▷◌, has, children, in_subtree, under, without, branch, IsApart}
+use Rattle.rd_tree.specs.Forest.{empty, tree, ◌▷◌, has, children, in_subtree, without, branch, IsApart}
 use Rattle.rd_tree.specs.Document.{BoxKey, Item, Boxes}
 use Rattle.rd_tree.specs.Near.{near_of}
 use Rattle.rd_tree.proofs.Standing.{never, refute, from_left, from_right, join-empty, out_of_children}
@@ -33,6 +33,10 @@ module _ (p k : BoxKey) (f : Boxes) (w : Among k (children same_key p f)) (a : I
   subtree-cut q j u o =
       ap (in_subtree same_key q j) back.is
       ∙ subtree-put k w.item w.below w.before w.after p g back.apart back.there back.siblings back.off j q u (subst (λ b. has same_key q b ≡ false) back.branch_is o)
+
+  -- So the parent is below the same boxes.
+  pub subtree-cut_parent : (j : BoxKey) → has same_key j g ≡ true → in_subtree same_key p j f ≡ in_subtree same_key p j g
+  subtree-cut_parent j u = subtree-cut p j u (ap (has same_key p) back.branch_is ∙ back.off p back.there)
 
   -- The branch is below its parent and the boxes above that.
   pub subtree-cut_new : (q j : BoxKey) → has same_key j g ≡ true → has same_key q (branch same_key k f) ≡ true → in_subtree same_key q j f ≡ in_subtree same_key p j g

@@ -1,18 +1,19 @@
 -- What is told of each box once items change in one branch.
-use Rattle.std.proofs.Common.{◌≡◌, refl, ap, ◌∙◌, sym, subst, ℕ, ◌+◌, Bool, true, false, cond}
+use Rattle.std.proofs.Common.{◌≡◌, ap, ◌∙◌, sym, subst, ℕ, ◌+◌, Bool, true, false, cond}
 use Rattle.rd_geom.specs.Plane.{Rectangle, hull_of}
 use Rattle.rd_keys.specs.Keys.{same_key}
 use Rattle.rd_keys.proofs.Keys.{same_key-sound, same_key-refl}
 use Rattle.rd_tree.specs.declared.near.Near.{Near}
-use Rattle.rd_tree.specs.Forest.{Forest, empty, tree, has, children, in_subtree, without, branch, each_if, at_box, IsApart}
+use Rattle.rd_tree.specs.Forest.{empty, tree, has, children, in_subtree, without, branch, each_if, at_box, IsApart}
 use Rattle.rd_tree.specs.Document.{BoxKey, Item, Boxes}
-use Rattle.rd_tree.specs.Near.{touched_in, hull_in, near_of}
+use Rattle.rd_tree.specs.Near.{touched_in, extent, hull_in, near_first, near_of}
 use Rattle.rd_tree.proofs.Standing.{either, differs}
 use Rattle.rd_tree.proofs.Without.{stays}
 use Rattle.rd_tree.proofs.Each.{has-each, apart_each, children-each}
 use Rattle.rd_tree.proofs.Restoring.{branch_there}
 use Rattle.rd_tree.proofs.Parent.{Parent}
 use Rattle.rd_tree.proofs.EachBranch.{branch-each, each_none, among_each, IsWithin, without-within}
+use Rattle.rd_tree.proofs.NearBranch.{near-first}
 use Rattle.rd_tree.proofs.NearPut.{more_near}
 use Rattle.rd_tree.proofs.NearCut.{near-cut, subtree-cut_above, above_stays}
 use Rattle.rd_tree.proofs.NearWithin.{not_own, near-branch, near-children}
@@ -90,3 +91,12 @@ branch-at_box h k f a m =
     let kept : each_if (λ i. same_key i k) h (children same_key k f) ≡ children same_key k f = each_none (λ i. same_key i k) h same_key same_key-refl (children same_key k f)
     (λ i v. differs same_key same_key-sound same_key-refl (children same_key k f) i k v (not_own same_key same_key-sound same_key-refl k f a)) in
     (t.0, t.1, branch-each (λ i. same_key i k) h same_key k f ∙ (ap (each_if (λ i. same_key i k) h) t.1 ∙ (ap (λ b. tree k (cond b (h t.0) t.0) (each_if (λ i. same_key i k) h (children same_key k f)) empty) (same_key-refl k) ∙ ap (λ z. tree k (h t.0) z empty) kept)))
+
+-- What is told of that box itself: its own rectangle alone is another.
+pub near-at_box : (h : Item → Item) (k : BoxKey) (f : Boxes) → IsApart same_key f → has same_key k f ≡ true →
+    (d : Item) × (branch same_key k f ≡ tree k d (children same_key k f) empty) × (near_of k (at_box same_key k h f) ≡ record (near_of k f) { hull = hull_of (extent (h d)) (hull_in (children same_key k f)) })
+near-at_box h k f a m =
+    let t : (d : Item) × (branch same_key k f ≡ tree k d (children same_key k f) empty) × (branch same_key k (at_box same_key k h f) ≡ tree k (h d) (children same_key k f) empty) = branch-at_box h k f a m in
+    (t.0, t.1, near-first k (at_box same_key k h f) ∙ (ap near_first t.2 ∙ ap (λ n. hulled n (hull_of (extent (h t.0)) (hull_in (children same_key k f)))) (sym (near-first k f ∙ ap near_first t.1)))) where
+      hulled : Near → Rectangle → Near
+      hulled n r = record n { hull = r }

@@ -1,12 +1,12 @@
 -- Hulls over boxes.
-use Rattle.std.proofs.Common.{◌≡◌, refl, ap, ◌∙◌, sym, Bool, true, false}
+use Rattle.std.proofs.Common.{◌≡◌, refl, ap, ◌∙◌, sym, true}
 use Rattle.rd_geom.specs.Plane.{Rectangle, no_pixels, has_none, hull_of}
 use Rattle.rd_geom.proofs.Hulls.{hull_comm, hull_assoc, hull_none, normal_hull}
-use Rattle.rd_tree.specs.Forest.{Forest, empty, tree, ◌▷◌}
+use Rattle.rd_tree.specs.Forest.{empty, tree, ◌▷◌}
 use Rattle.rd_tree.specs.Document.{BoxKey, Item, Boxes}
 use Rattle.rd_tree.specs.Near.{extent, hull_in}
 
-hull-unit : (a b : Rectangle) → hull_of (hull_of a b) no_pixels ≡ hull_of a b
+pub hull-unit : (a b : Rectangle) → hull_of (hull_of a b) no_pixels ≡ hull_of a b
 hull-unit a b = hull_none (hull_of a b) ∙ normal_hull a b
 
 pub hull_in-unit : (f : Boxes) → hull_of (hull_in f) no_pixels ≡ hull_in f

@@ -1,12 +1,10 @@
 -- What is told of a box, from one box of the forest to the next.
-use Rattle.std.proofs.Common.{◌≡◌, refl, ap, ◌∙◌, sym, Bool, true, false, ◌||◌, cond, inl, inr}
+use Rattle.std.proofs.Common.{◌≡◌, refl, ap, ◌∙◌, sym, true, false, ◌||◌, cond, inl, inr}
 use Rattle.rd_keys.specs.Keys.{same_key}
 use Rattle.rd_keys.proofs.Keys.{same_key-sound, same_key-refl}
-use Rattle.rd_geom.specs.Plane.{hull_of}
-use Rattle.rd_tree.specs.declared.near.Near.{Near}
-use Rattle.rd_tree.specs.Forest.{Forest, empty, tree, ◌▷◌, has, from}
+use Rattle.rd_tree.specs.Forest.{empty, tree, ◌▷◌, has, from}
 use Rattle.rd_tree.specs.Document.{BoxKey, Item, Boxes}
-use Rattle.rd_tree.specs.Near.{breadth, touched_in, extent, hull_in, near_first, near_of}
+use Rattle.rd_tree.specs.Near.{near_first, near_of}
 use Rattle.rd_tree.proofs.Standing.{cases, either}
 use Rattle.rd_tree.proofs.Looking.{nothing_from}
 

@@ -1,10 +1,9 @@
 -- What is told of each box once a new box is a child of another, or a branch is moved.
-use Rattle.std.proofs.Common.{◌≡◌, refl, ap, ◌∙◌, sym, subst, Bool, true, false, ◌||◌, cond}
+use Rattle.std.proofs.Common.{◌≡◌, refl, ap, ◌∙◌, sym, subst, Bool, true, false, cond}
 use Rattle.std.specs.Prelude.{Option, Some, None}
 use Rattle.rd_geom.specs.Plane.{no_pixels, hull_of}
 use Rattle.rd_keys.specs.Keys.{same_key}
 use Rattle.rd_keys.proofs.Keys.{same_key-sound, same_key-refl}
-use Rattle.rd_tree.specs.declared.near.Near.{Near}
 use Rattle.rd_tree.specs.Forest.{Forest, empty, tree, ◌▷◌, has, children, in_subtree, under, amid, ahead, without, branch, IsPlaceIn, AreApart, IsApart}
 use Rattle.rd_tree.specs.Document.{BoxKey, Item, Boxes, with_child}
 use Rattle.rd_tree.specs.Edits.{put_elsewhere}

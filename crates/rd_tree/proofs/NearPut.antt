@@ -4,14 +4,14 @@ use Rattle.rd_geom.specs.Plane.{Rectangle, hull_of}
 use Rattle.rd_keys.specs.Keys.{same_key}
 use Rattle.rd_keys.proofs.Keys.{same_key-sound, same_key-refl}
 use Rattle.rd_tree.specs.declared.near.Near.{Near}
-use Rattle.rd_tree.specs.Forest.{Forest, empty, tree, ◌▷◌, has, children, in_subtree, under, AreApart, IsApart}
+use Rattle.rd_tree.specs.Forest.{empty, tree, ◌▷◌, has, children, in_subtree, under, AreApart, IsApart}
 use Rattle.rd_tree.specs.Document.{BoxKey, Item, Boxes}
 use Rattle.rd_tree.specs.Near.{breadth, touched_in, extent, hull_in, near_first, near_of}
 use Rattle.rd_tree.proofs.Standing.{either, out_of_children, differs_back, apart_back}
 use Rattle.rd_tree.proofs.Subtrees.{has_inner, has_later, children-past, children-one}
 use Rattle.rd_tree.proofs.NearHull.{hull-later}
 use Rattle.rd_tree.proofs.NearOf.{near-here, near-inner, near-later, near-past, near-one}
-use Rattle.rd_tree.proofs.Telling.{Sums, Tells, has-new, breadth-new, touched-new, hull-new, told_put, told_new}
+use Rattle.rd_tree.proofs.Telling.{Tells, has-new, breadth-new, touched-new, hull-new, told_put, told_new}
 
 abbrev near : ℕ → ℕ → Rectangle → Near
 near c t h = record { children = c; touched = t; hull = h }
@@ -98,3 +98,7 @@ module _ (k : BoxKey) (d : Item) (below xs ys : Boxes) (p : BoxKey) where
           itself : (b : Bool) → cond b true false ≡ b
           itself true = refl
           itself false = refl
+
+    -- So p is below the same boxes.
+    pub subtree-put_parent : has same_key j g ≡ true → in_subtree same_key p j (under same_key p new g) ≡ in_subtree same_key p j g
+    subtree-put_parent u = subtree-put p u (w p m)

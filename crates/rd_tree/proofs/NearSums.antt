@@ -1,10 +1,9 @@
 -- Sums over boxes.
-use Rattle.std.proofs.Common.{◌≡◌, refl, ap, ◌∙◌, sym, ℕ, ◌+◌, ◌≤◌, Bool, true, false, ◌||◌, cond, arith}
+use Rattle.std.proofs.Common.{◌≡◌, refl, ℕ, ◌+◌, ◌≤◌, Bool, true, false, ◌||◌, cond, arith}
 use Rattle.std.specs.Prelude.{nat_lt}
-use Rattle.rd_geom.specs.Plane.{Rectangle, no_pixels, has_none, hull_of}
 use Rattle.rd_tree.specs.Forest.{Forest, empty, tree, size, ◌▷◌}
-use Rattle.rd_tree.specs.Document.{BoxKey, Item, Boxes}
-use Rattle.rd_tree.specs.Near.{breadth, touched_in, any_touched, extent, hull_in}
+use Rattle.rd_tree.specs.Document.{Boxes}
+use Rattle.rd_tree.specs.Near.{breadth, touched_in, any_touched}
 
 pub breadth-join : {K D : Type 0} (f g : Forest K D) → breadth (f ▷ g) ≡ breadth f + breadth g
 breadth-join empty g = omega arith

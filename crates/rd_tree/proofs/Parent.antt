@@ -1,6 +1,6 @@
 -- Below which box another stands.
 use Rattle.std.proofs.Common.{◌≡◌, refl, ap, ◌∙◌, sym, subst, Bool, true, false, ◌||◌, ◌⊎◌, inl, inr}
-use Rattle.rd_tree.specs.Forest.{Forest, empty, tree, ◌▷◌, has, children, IsApart}
+use Rattle.rd_tree.specs.Forest.{Forest, empty, tree, has, children, IsApart}
 use Rattle.rd_tree.proofs.Standing.{cases, never, from_left, from_right, join-empty, no_children, differs, apart_back}
 use Rattle.rd_tree.proofs.Cutting.{Among}
 use Rattle.rd_tree.proofs.Unlinking.{sole}

@@ -1,5 +1,5 @@
 -- A forest is what stays without a box, with the box put back below its parent.
-use Rattle.std.proofs.Common.{◌≡◌, refl, ap, ◌∙◌, sym, subst, Bool, true, false, ◌||◌, ◌⊎◌, inl, inr}
+use Rattle.std.proofs.Common.{◌≡◌, refl, ap, ◌∙◌, sym, subst, Bool, true, false, ◌||◌, inl, inr}
 use Rattle.rd_tree.specs.Forest.{Forest, empty, tree, ◌▷◌, has, from, children, under, without, without_siblings, branch, AreApart, IsApart}
 use Rattle.rd_tree.proofs.Standing.{cases, never, either, from_left, from_right, join-empty, no_children, differs, apart_back}
 use Rattle.rd_tree.proofs.Under.{which, no_under}

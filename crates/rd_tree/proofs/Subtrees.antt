@@ -1,5 +1,5 @@
 -- Which boxes a subtree has, from one box of the forest to the next.
-use Rattle.std.proofs.Common.{◌≡◌, refl, ap, ◌∙◌, sym, subst, Bool, true, false, ◌||◌, cond}
+use Rattle.std.proofs.Common.{◌≡◌, refl, ap, Bool, true, false, ◌||◌, cond}
 use Rattle.rd_tree.specs.Forest.{Forest, empty, tree, ◌▷◌, has, children, in_subtree}
 use Rattle.rd_tree.proofs.Standing.{either, join-empty, no_children, out_of_children}
 

@@ -1,12 +1,12 @@
 -- What is told of each box by it and all below it, once one more box stands, with all below it, among the children of another.
 use Rattle.std.proofs.Common.{◌≡◌, refl, ap, ◌∙◌, sym, subst, ◌+◌, Bool, true, false, ◌||◌, cond, arith, inl, inr}
-use Rattle.rd_geom.specs.Plane.{Rectangle, hull_of}
+use Rattle.rd_geom.specs.Plane.{hull_of}
 use Rattle.rd_keys.specs.Keys.{same_key}
 use Rattle.rd_keys.proofs.Keys.{same_key-sound, same_key-refl}
-use Rattle.rd_tree.specs.Forest.{Forest, empty, tree, ◌▷◌, has, children, in_subtree, under, AreApart, IsApart}
+use Rattle.rd_tree.specs.Forest.{empty, tree, ◌▷◌, has, children, in_subtree, under, AreApart, IsApart}
 use Rattle.rd_tree.specs.Document.{BoxKey, Item, Boxes}
 use Rattle.rd_tree.specs.Near.{breadth, touched_in, extent, hull_in}
-use Rattle.rd_tree.proofs.Standing.{cases, never, either, from_left, from_right, has-join, differs_back, apart_back}
+use Rattle.rd_tree.proofs.Standing.{cases, either, from_left, from_right, has-join, differs_back, apart_back}
 use Rattle.rd_tree.proofs.Putting.{under_by}
 use Rattle.rd_tree.proofs.Subtrees.{subtree-here, subtree-inner, subtree-later, not_in_subtree}
 use Rattle.rd_tree.proofs.NearSums.{breadth-join, touched-join}

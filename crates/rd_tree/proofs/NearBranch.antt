@@ -1,0 +1,44 @@
+-- What is told of a box, and the sums over its branch.
+use Rattle.std.proofs.Common.{◌≡◌, refl, ap, ◌∙◌, ◌+◌, true, cond, arith}
+use Rattle.std.specs.Prelude.{Some}
+use Rattle.rd_geom.specs.Plane.{hull_of}
+use Rattle.rd_keys.specs.Keys.{same_key}
+use Rattle.rd_keys.proofs.Keys.{same_key-sound, same_key-refl}
+use Rattle.rd_tree.specs.Forest.{empty, tree, top, has, from, children, item_of, without_siblings, branch, IsApart}
+use Rattle.rd_tree.specs.Document.{BoxKey, Item, Boxes}
+use Rattle.rd_tree.specs.Near.{breadth, touched_in, extent, hull_in, near_first, near_of}
+use Rattle.rd_tree.proofs.NearHull.{hull-unit}
+use Rattle.rd_tree.proofs.Restoring.{branch_there}
+
+first-alone : (f : Boxes) → near_first f ≡ near_first (without_siblings f)
+first-alone empty = refl
+first-alone (tree k d below rest) = refl
+
+pub near-first : (k : BoxKey) (f : Boxes) → near_of k f ≡ near_first (branch same_key k f)
+near-first k f = first-alone (from same_key k f)
+
+-- by its item and what is below it
+pub near-is : (k : BoxKey) (f : Boxes) → IsApart same_key f → has same_key k f ≡ true →
+    (d : Item) × (item_of same_key k f ≡ Some d) × (near_of k f ≡ record { children = breadth (children same_key k f); touched = touched_in (children same_key k f); hull = hull_of (extent d) (hull_in (children same_key k f)) })
+near-is k f a m =
+    let t : (d : Item) × (branch same_key k f ≡ tree k d (children same_key k f) empty) = branch_there same_key same_key-sound same_key-refl k f a m in
+    (t.0, top-alone (from same_key k f) ∙ ap top t.1, near-first k f ∙ ap near_first t.1) where
+      top-alone : (g : Boxes) → top g ≡ top (without_siblings g)
+      top-alone empty = refl
+      top-alone (tree j d below rest) = refl
+
+-- The hull of a branch is told of its box.
+pub hull-branch : (k : BoxKey) (f : Boxes) → hull_in (branch same_key k f) ≡ (near_of k f).hull
+hull-branch k f = first (from same_key k f) where
+  first : (g : Boxes) → hull_in (without_siblings g) ≡ (near_first g).hull
+  first empty = refl
+  first (tree j d below rest) = hull-unit (extent d) (hull_in below)
+
+-- The touched boxes of a branch are told of its box, but for itself.
+pub touched-branch : (k : BoxKey) (d : Item) (f : Boxes) → item_of same_key k f ≡ Some d → touched_in (branch same_key k f) ≡ cond d.touched 1 0 + (near_of k f).touched
+touched-branch k d f h = first (from same_key k f) h where
+  first : (g : Boxes) → top g ≡ Some d → touched_in (without_siblings g) ≡ cond d.touched 1 0 + (near_first g).touched
+  first empty e = cc (e)
+  first (tree j c below rest) e =
+      let n : c.touched ≡ d.touched = cc (e) in
+      rw n (omega arith)
