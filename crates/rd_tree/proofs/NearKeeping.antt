@@ -1,19 +1,23 @@
 -- The table of what is near each box stays right.
-use Rattle.std.proofs.Common.{◌≡◌, refl, ap, ◌∙◌, sym, subst, ℕ, ◌+◌, ◌<◌, ◌≤◌, ◌==◌, Bool, true, false, ◌||◌, cond, arith, List, [], ◌∷◌, ◌++◌, length, inl, inr}
+use Rattle.std.proofs.Common.{◌≡◌, refl, ap, ◌∙◌, sym, subst, ℕ, ◌+◌, ◌<◌, ◌≤◌, ◌==◌, Bool, true, false, ◌||◌, cond, arith, List, [], ◌∷◌, ◌++◌, length, map, inl, inr}
 use Rattle.std.specs.Prelude.{Option, Some, None, slice_index_or, slice_set, nat_lt}
-use Rattle.std.proofs.lemmas.List.{length-set, length-append}
+use Rattle.std.proofs.lemmas.List.{length-set, length-append, length-map}
+use Rattle.std.proofs.Math.ListN.{get_or-map}
 use Rattle.rd_geom.specs.Plane.{hull_of, no_pixels}
 use Rattle.rd_keys.specs.Keys.{same_key}
 use Rattle.rd_keys.specs.Arena.{Arena, with_slot, Enters}
 use Rattle.rd_keys.proofs.Keys.{same_key-sound, same_key-refl}
 use Rattle.rd_tree.specs.declared.node.Node as inner
 use Rattle.rd_tree.specs.declared.near.Near.{Near}
-use Rattle.rd_tree.specs.Forest.{empty, tree, has}
+use Rattle.rd_tree.specs.Forest.{empty, tree, has, each_if}
 use Rattle.rd_tree.specs.Document.{BoxKey, Item, Boxes}
-use Rattle.rd_tree.specs.Linked.{seen}
+use Rattle.rd_tree.specs.Linked.{seen, marks, mark_of}
 use Rattle.rd_tree.specs.Near.{near_of, near_at, extent}
-use Rattle.rd_tree.specs.Rows.{IsNear, Puts, alone}
+use Rattle.rd_tree.specs.Rows.{IsNear, Puts, alone, unmarked}
+use Rattle.rd_tree.specs.Works.{settled}
 use Rattle.rd_tree.proofs.Standing.{cases, never}
+use Rattle.rd_tree.proofs.Each.{has-each}
+use Rattle.rd_tree.proofs.NearSettled.{near-settled}
 
 -- There is a row for each slot, once there is one for the slot of a key that comes in.
 pub rows_enter : (old new : Arena inner.Node) (s g m : ℕ) (x : inner.Node) → Enters old new s g x → length old.slots ≤ m → s < m → length new.slots ≤ m
@@ -43,3 +47,17 @@ planted_near a k d rows e all row = subst (λ f. IsNear a rows f) (sym e) (recor
         | inl u ↦ subst (λ i. near_at rows i ≡ near_of i (tree k d empty empty)) (sym (same_key-sound j k u)) (row ∙ rw (same_key-refl k) refl)
         | inr u ↦ absurd (never (has same_key j (tree k d empty empty)) h (rw u refl))
       ]
+
+-- As many slots as before.
+pub same_slots : (a b : Arena inner.Node) → marks b ≡ marks a → length b.slots ≡ length a.slots
+same_slots a b e = sym (length-map b.slots mark_of) ∙ (ap length e ∙ length-map a.slots mark_of)
+
+-- No box is touched any more.
+pub settled_near : (a b : Arena inner.Node) (root : BoxKey) (old new : List Near) → marks b ≡ marks a → seen b root ≡ each_if (λ _. true) settled (seen a root) →
+    new ≡ map unmarked old → IsNear a old (seen a root) → IsNear b new (seen b root)
+settled_near a b root old new slots sees rows n = subst (λ f. IsNear b new f) (sym sees) (record {
+  all_rows = let m : length b.slots ≡ length a.slots = same_slots a b slots in let l : length new ≡ length old = ap length rows ∙ length-map old unmarked in omega (arith, m, l, n.all_rows);
+  right = λ k h.
+      let i : has same_key k (seen a root) ≡ true = sym (has-each (λ _. true) settled same_key k (seen a root)) ∙ h in
+      ap (λ r. near_at r k) rows ∙ (get_or-map unmarked old k.slot (record { children = 0; touched = 0; hull = no_pixels }) ∙ (ap unmarked (n.right k i) ∙ sym (near-settled k (seen a root))));
+})

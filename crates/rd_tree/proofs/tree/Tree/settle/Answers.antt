@@ -5,6 +5,7 @@ use Rattle.rd_tree.specs.Linked.{seen, marks, IsSound}
 use Rattle.rd_tree.specs.Works.{settled, Allows}
 use Rattle.rd_tree.proofs.Each.{read_root, all_items}
 use Rattle.rd_tree.proofs.Editing.{settled_sound}
+use Rattle.rd_tree.proofs.NearKeeping.{settled_near}
 use Rattle.rd_tree.proofs.tree.Tree.settle.Goals as goal
 
 pub work_from-requires-clause-read : goal.work_from-requires-clause-read
@@ -14,7 +15,12 @@ pub work_from-requires-clause-allowed : goal.work_from-requires-clause-allowed
 work_from-requires-clause-allowed g c = all_items (Allows Settle) _ (λ d. tt)
 
 pub invariant_of-self : goal.invariant_of-self
-invariant_of-self g c = (settled_sound c.self.inside.nodes c.work_from.new.nodes c.self.inside.root c.self.inside.ids c.self.invariant.sound c.work_from.ensures).0
+invariant_of-self g c =
+    let s = settled_sound c.self.inside.nodes c.work_from.new.nodes c.self.inside.root c.self.inside.ids c.self.invariant.sound c.work_from.ensures in
+    record {
+      sound = s.0;
+      near = settled_near c.self.inside.nodes c.work_from.new.nodes c.self.inside.root c.self.inside.near.items c.unmark.new.near.items c.work_from.ensures.same_slots s.1 c.unmark.ensures c.self.invariant.near;
+    }
 
 pub returns : goal.returns
 returns g c =
