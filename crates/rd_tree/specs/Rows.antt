@@ -5,13 +5,14 @@ use Rattle.rd_keys.specs.Keys.{same_key}
 use Rattle.rd_keys.specs.Arena.{Arena}
 use Rattle.rd_tree.specs.declared.node.Node as inner
 use Rattle.rd_tree.specs.declared.near.Near.{Near}
+use Rattle.rd_tree.specs.declared.whole.Whole.{Whole}
 use Rattle.rd_style.specs.Limits.{FitsRect, Fits}
 use Rattle.rd_tree.specs.Forest.{empty, tree, size, has, IsApart}
-use Rattle.rd_tree.specs.Links.{Node, Stands}
+use Rattle.rd_tree.specs.Links.{Node, Stands, onward_of}
 use Rattle.rd_tree.specs.Document.{BoxKey, Item, Boxes, AllFit}
 use Rattle.std.specs.HashMap.{HashMap}
 use Rattle.std.specs.Prelude.{String}
-use Rattle.rd_tree.specs.Linked.{linked, seen, IsSound}
+use Rattle.rd_tree.specs.Linked.{linked, seen, seen_from, IsSound}
 use Rattle.rd_tree.specs.Near.{near_of, near_at, is_above, extent}
 
 -- The row of k is this one, and those of all other slots are as they were.
@@ -109,6 +110,37 @@ extent_under (Some n) = extent n.item
 abbrev pub IsFitAt : Option (Node BoxKey Item) → Type 0
 IsFitAt None = Unit {0}
 IsFitAt (Some n) = FitsRect n.item.rect × Fits n.item.style
+
+-- the hull of a box by its own extent and by the rows of its children
+abbrev pub hull_anew_of : Arena inner.Node → List Near → BoxKey → Rectangle
+hull_anew_of a rows k = hull_of (extent_under (linked a k)) (hulls_by rows (seen_from a (onward_of (linked a k)).0))
+
+-- Each of these boxes has the right row.
+abbrev pub IsRight : List Near → Boxes → Type 0
+IsRight rows f = (k : BoxKey) → has same_key k f ≡ true → near_at rows k ≡ near_of k f
+
+-- once a branch stands below it
+abbrev pub joined : Near → Whole → Near
+joined row w = record row { touched = row.touched + w.touched; hull = hull_of row.hull w.hull }
+
+-- From this box up each row has what it is to have but for one branch below it, which was old and is new. All other rows
+-- are right.
+pub record IsSwapping (rows : List Near) (f : Boxes) (from : Option BoxKey) (old new : Whole) : Type 0 where
+  pub rest : BoxKey → Near
+  pub was : (k : BoxKey) → has same_key k f ≡ true → is_above from k f ≡ true → near_at rows k ≡ joined (rest k) old
+  pub is : (k : BoxKey) → has same_key k f ≡ true → is_above from k f ≡ true → near_of k f ≡ joined (rest k) new
+  pub others : (k : BoxKey) → has same_key k f ≡ true → is_above from k f ≡ false → near_at rows k ≡ near_of k f
+
+-- From this box up one branch can be swapped for another.
+pub record CanSwap (a : Arena inner.Node) (rows : List Near) (from : Option BoxKey) (old new : Whole) : Type 0 where
+  pub root : BoxKey
+  pub boxes : Boxes
+  pub is : IsStanding a root boxes
+  pub there : IsIn from boxes
+  pub has_rows : HasRows rows boxes
+  pub fits : AllFit boxes
+  pub few : a.limit ≡ 20000
+  pub swapping : IsSwapping rows boxes from old new
 
 -- The table has a row for each slot, and the right one for each box.
 pub record IsNear (a : Arena inner.Node) (rows : List Near) (f : Boxes) : Type 0 where
