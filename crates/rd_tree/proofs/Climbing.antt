@@ -1,16 +1,16 @@
 -- What the link to the parent tells.
-use Rattle.std.proofs.Common.{◌≡◌, refl, ap, ◌∙◌, sym, subst, ℕ, ◌+◌, ◌<◌, ◌≤◌, Bool, true, false, ◌||◌, cond, arith, ◌⊎◌, inl, inr}
+use Rattle.std.proofs.Common.{◌≡◌, refl, ap, ◌∙◌, sym, subst, ℕ, ◌+◌, ◌≤◌, Bool, true, false, ◌||◌, cond, arith, ◌⊎◌, inl, inr}
 use Rattle.std.specs.Prelude.{Option, Some, None}
 use Rattle.rd_keys.specs.Keys.{same_key}
 use Rattle.rd_keys.specs.Arena.{Arena}
 use Rattle.rd_keys.proofs.Calls.{live_occupied}
 use Rattle.rd_keys.proofs.Keys.{same_key-sound, same_key-refl}
 use Rattle.rd_tree.specs.declared.node.Node as inner
-use Rattle.rd_tree.specs.Forest.{Forest, empty, tree, ◌▷◌, size, has, children, depth, in_subtree, is_among, IsApart}
-use Rattle.rd_tree.specs.Links.{Node, node, Stands, up_of}
+use Rattle.rd_tree.specs.Forest.{Forest, empty, tree, ◌▷◌, size, has, children, depth, is_among, IsApart}
+use Rattle.rd_tree.specs.Links.{Node, Stands, up_of}
 use Rattle.rd_tree.specs.Document.{BoxKey, Item, Boxes}
 use Rattle.rd_tree.specs.Linked.{linked, IsTree, seen}
-use Rattle.rd_tree.proofs.Standing.{cases, never, refute, from_left, from_right, has-join, out_of_children, differs, differs_back, apart_back}
+use Rattle.rd_tree.proofs.Standing.{cases, never, refute, from_left, from_right, has-join, out_of_children, differs, apart_back}
 use Rattle.rd_tree.proofs.Children.{stands_children}
 use Rattle.rd_tree.proofs.Under.{which}
 use Rattle.rd_tree.proofs.Cutting.{place}
@@ -230,7 +230,7 @@ no_child a root k q t n e = subst (λ f. false ≡ is_among same_key k (children
       let up : up_of (linked a k) ≡ Some q = among_up same_key same_key-sound same_key-refl (linked a) (Some q) None (children same_key q t.boxes) x.0.first x.0.last None k x.2 u in
       cc (e, up)
 
-depth_size : (k : BoxKey) (f : Boxes) → depth same_key k f ≤ size f
+pub depth_size : (k : BoxKey) (f : Boxes) → depth same_key k f ≤ size f
 depth_size k empty = omega arith
 depth_size k (tree j d below rest) = at (same_key k j) (has same_key k below) (depth same_key k below) (depth same_key k rest) (size below) (size rest) (depth_size k below) (depth_size k rest) where
   at : (b c : Bool) (x y m n : ℕ) → x ≤ m → y ≤ n → cond b 1 (cond c (1 + x) y) ≤ 1 + (m + n)

@@ -1,19 +1,18 @@
 -- The slots of an arena without what they hold.
-use Rattle.std.proofs.Common.{◌≡◌, refl, ap, ◌∙◌, sym, ℕ, zero, suc, ◌+◌, ◌<◌, ◌==◌, ◌||◌, Bool, true, false, cond, arith, List, [], ◌∷◌, ◌++◌, length, map, count_by, ◌⊎◌, inl, inr}
-use Rattle.std.specs.Prelude.{Option, Some, None, is_some, slice_index_or, slice_set, nat_lt, option_map}
+use Rattle.std.proofs.Common.{◌≡◌, refl, ap, ◌∙◌, sym, ℕ, suc, ◌+◌, ◌<◌, Bool, true, false, cond, arith, List, [], ◌∷◌, ◌++◌, length, map, count_by, ◌⊎◌, inl, inr}
+use Rattle.std.specs.Prelude.{Some, None, slice_index_or, nat_lt, option_map}
 use Rattle.std.proofs.lemmas.List.{map-set}
 use Rattle.std.proofs.lemmas.List.Sums.{sum_by-cons}
 use Rattle.std.proofs.Math.Seq.{map-set_same}
 use Rattle.std.proofs.Math.ListN.{get_or-map}
 use Rattle.rd_keys.specs.Keys.{same_key}
-use Rattle.rd_keys.specs.Arena.{Arena, Slot as InnerSlot, unmade, slot_at, value, live, occupied, is_taken, with_value, with_slot, Enters}
-use Rattle.rd_keys.proofs.Keys.{same_key-sound, same_key-refl}
+use Rattle.rd_keys.specs.Arena.{Arena, Slot as InnerSlot, unmade, slot_at, value, occupied, is_taken, with_value, with_slot, Enters}
+use Rattle.rd_keys.proofs.Keys.{same_key-sound}
 use Rattle.rd_keys.proofs.Calls.{taken-live, live-with_value, value-with_value}
 use Rattle.rd_tree.specs.declared.node.Node as inner
-use Rattle.rd_tree.specs.Document.{BoxKey, Item, Slot, Document, taken, with_taken, IsUsed}
+use Rattle.rd_tree.specs.Document.{BoxKey, Item, Slot, Document, with_taken, IsUsed}
 use Rattle.rd_tree.specs.Links.{Node, edit}
 use Rattle.rd_tree.specs.Linked.{mark_of, marks, plain, linked, Relinks}
-use Rattle.rd_tree.proofs.Standing.{cases}
 
 count-map : {A B : Type 0} (p : B → Bool) (f : A → B) (xs : List A) → count_by p (map f xs) ≡ count_by (λ x. p (f x)) xs
 count-map p f [] = refl

@@ -11,13 +11,13 @@ use Rattle.rd_keys.proofs.Keys.{same_key-sound, same_key-refl}
 use Rattle.rd_tree.specs.declared.node.Node as inner
 use Rattle.rd_style.specs.Limits.{FitsRect}
 use Rattle.rd_tree.specs.declared.walk.Work.{Work}
-use Rattle.rd_tree.specs.Forest.{Forest, empty, tree, size, height, has, AreApart, IsApart, AllItems}
+use Rattle.rd_tree.specs.Forest.{empty, tree, size, height, has, IsApart, AllItems}
 use Rattle.rd_tree.specs.Links.{Node, node, with_item, Stands, read, edit, on_each, onward_of}
 use Rattle.rd_tree.specs.Document.{BoxKey, Item, Boxes}
 use Rattle.rd_tree.specs.Linked.{linked, Relinks, IsRead, seen_from}
 use Rattle.rd_tree.specs.Works.{done, Allows, shifted}
 use Rattle.rd_tree.specs.WorksAt.{AllowsAt, FitsAt, ShiftFitsAt}
-use Rattle.rd_tree.proofs.Standing.{cases, never, either, from_left, from_right, frame, agree_edit, agree_at, read-stands, differs, differs_back, apart_back}
+use Rattle.rd_tree.proofs.Standing.{cases, never, from_right, frame, agree_edit, agree_at, read-stands, differs_back, apart_back}
 
 pub seen_read : (a : Arena inner.Node) (o : Option BoxKey) (r : IsRead a o) → seen_from a o ≡ r.boxes
 seen_read a o r = read-stands a.limit (linked a) r.up r.prev r.boxes o r.last r.stands r.small

@@ -1,0 +1,28 @@
+//! From a box up to the root, what the table has of each box is set right.
+ghost use Rattle.std.specs.Prelude.{◌≡◌, length};
+ghost use Rattle.rd_tree.specs.Document.{BoxKey, Boxes};
+ghost use Rattle.rd_tree.specs.Rows.{IsStanding, IsIn, CanMark, MarksUp};
+
+use crate::links::up_of;
+use crate::near::{Near, mark};
+use crate::node::Node;
+use rd_keys::{Arena, BoxKey, BoxMark};
+
+/// So many touched boxes less below a box and below all boxes above it, and so many more.
+pub(crate) fn mark_up(
+    near: &mut Vec<Near>,
+    nodes: &Arena<Node, BoxMark>,
+    from: Option<BoxKey>,
+    less: u32,
+    more: u32,
+)
+    requires { CanMark nodes.now near.old.items from less more }
+    ensures rows { (root : BoxKey) (f : Boxes) → IsStanding nodes.now root f → IsIn from f → MarksUp nodes.now f near.old.items near.new.items from less more }
+    ensures same_length { length near.new.items ≡ length near.old.items }
+{
+    let mut at = from;
+    while let Some(key) = at {
+        mark(near, key, less, more);
+        at = up_of(nodes, key);
+    }
+}
