@@ -7,9 +7,9 @@ use Rattle.rd_tree.specs.declared.node.Node as inner
 use Rattle.rd_tree.specs.declared.near.Near.{Near}
 use Rattle.rd_style.specs.Limits.{FitsRect, Fits}
 use Rattle.rd_tree.specs.Forest.{empty, tree, size, has, IsApart}
-use Rattle.rd_tree.specs.Links.{Node, Stands}
+use Rattle.rd_tree.specs.Links.{Node, Stands, onward_of}
 use Rattle.rd_tree.specs.Document.{BoxKey, Item, Boxes, AllFit}
-use Rattle.rd_tree.specs.Linked.{linked}
+use Rattle.rd_tree.specs.Linked.{linked, seen_from}
 use Rattle.rd_tree.specs.Near.{near_of, near_at, is_above, extent}
 
 -- The row of k is this one, and those of all other slots are as they were.
@@ -100,3 +100,7 @@ extent_under (Some n) = extent n.item
 abbrev pub IsFitAt : Option (Node BoxKey Item) → Type 0
 IsFitAt None = Unit {0}
 IsFitAt (Some n) = FitsRect n.item.rect × Fits n.item.style
+
+-- the hull of a box by its own extent and by the rows of its children
+abbrev pub hull_anew_of : Arena inner.Node → List Near → BoxKey → Rectangle
+hull_anew_of a rows k = hull_of (extent_under (linked a k)) (hulls_by rows (seen_from a (onward_of (linked a k)).0))
