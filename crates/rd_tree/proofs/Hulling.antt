@@ -57,36 +57,36 @@ module _ (a : Arena inner.Node) (old new : List Near) (from : Option BoxKey) (k 
       Puts new new2 k (with_hull r (near_at new k)) → length new2 ≡ length new → Hulling a old new2 from (up_of (linked a k)) lost gained
   hulling_next new2 r right p l = record {
     each = λ root f is i.
-    let t : MovedTo a f old new from (Some k) lost gained = w.each root f is i in
-    let up : (j : BoxKey) → is_above (Some k) j f ≡ (same_key k j || is_above (up_of (linked a k)) j f) = above_up a root f is k t.there in
-    let live : is_some (linked a k) ≡ true = is_live a root f is k t.there in
-    let wrote : (j : BoxKey) → is_some (linked a j) ≡ true → near_at new2 j ≡ cond (same_key k j) (with_hull r (near_at new k)) (near_at new j) = puts_at a new new2 k (with_hull r (near_at new k)) p live in
-    let same : (j : BoxKey) → is_some (linked a j) ≡ true → same_key k j ≡ false → near_at new2 j ≡ near_at new j = λ j u e. wrote j u ∙ ap (λ b. cond b (with_hull r (near_at new k)) (near_at new j)) e in
-    -- no box above it is the box itself
-    let apart : (j : BoxKey) → is_above (up_of (linked a k)) j f ≡ true → same_key k j ≡ false = λ j u.
-    elim (cases (same_key k j)) [ inl e ↦ absurd (never (is_above (up_of (linked a k)) j f) u (subst (λ x. is_above (up_of (linked a k)) x f ≡ false) (same_key-sound k j e) (off_above a root f is k t.there))) | inr e ↦ e ] in
-    let higher : (j : BoxKey) → is_above (up_of (linked a k)) j f ≡ true → is_above (Some k) j f ≡ true = λ j u. up j ∙ from_right (same_key k j) (is_above (up_of (linked a k)) j f) u in
-    record {
-      there = in_up a root f is k t.there;
-      above = λ j u. t.above j (higher j u);
-      others = λ j u v.
-      let e : same_key k j ≡ false = elim (cases (same_key k j)) [ inl e ↦ absurd (never (is_above from j f) (t.above j (up j ∙ ap (λ b. b || is_above (up_of (linked a k)) j f) e)) v) | inr e ↦ e ] in
-      same j u e ∙ t.others j u v;
-      moving = λ m0.
-      let m : IsMoving new f (Some k) lost gained = t.moving m0 in
-      record {
-        rest = m.rest;
-        was = λ j u v. ap (λ x. x.hull) (same j (is_live a root f is j u) (apart j v)) ∙ m.was j u (higher j v);
-        is = λ j u v. m.is j u (higher j v);
-        others = λ j u v. elim (cases (same_key k j)) [
-          | inl e ↦
-              let self : is_above (Some k) k f ≡ true = above_self a root f is k t.there in
-              let new_hull : r ≡ hull_of (m.rest k) gained = right (m.rest k) (m.was k t.there self) (sym (m.is k t.there self) ∙ sym (anew_is a root f is k t.there new m.others)) in
-              ap (λ x. x.hull) (wrote j (is_live a root f is j u) ∙ ap (λ b. cond b (with_hull r (near_at new k)) (near_at new j)) e) ∙ (new_hull ∙ (sym (m.is k t.there self) ∙ ap (λ x. (near_of x f).hull) (same_key-sound k j e)))
-          | inr e ↦ ap (λ x. x.hull) (same j (is_live a root f is j u) e) ∙ m.others j u (up j ∙ (ap (λ b. b || is_above (up_of (linked a k)) j f) e ∙ v))
-        ];
-      };
-    };
+        let t : MovedTo a f old new from (Some k) lost gained = w.each root f is i in
+        let up : (j : BoxKey) → is_above (Some k) j f ≡ (same_key k j || is_above (up_of (linked a k)) j f) = above_up a root f is k t.there in
+        let live : is_some (linked a k) ≡ true = is_live a root f is k t.there in
+        let wrote : (j : BoxKey) → is_some (linked a j) ≡ true → near_at new2 j ≡ cond (same_key k j) (with_hull r (near_at new k)) (near_at new j) = puts_at a new new2 k (with_hull r (near_at new k)) p live in
+        let same : (j : BoxKey) → is_some (linked a j) ≡ true → same_key k j ≡ false → near_at new2 j ≡ near_at new j = λ j u e. wrote j u ∙ ap (λ b. cond b (with_hull r (near_at new k)) (near_at new j)) e in
+        -- no box above it is the box itself
+        let apart : (j : BoxKey) → is_above (up_of (linked a k)) j f ≡ true → same_key k j ≡ false = λ j u.
+        elim (cases (same_key k j)) [ inl e ↦ absurd (never (is_above (up_of (linked a k)) j f) u (subst (λ x. is_above (up_of (linked a k)) x f ≡ false) (same_key-sound k j e) (off_above a root f is k t.there))) | inr e ↦ e ] in
+        let higher : (j : BoxKey) → is_above (up_of (linked a k)) j f ≡ true → is_above (Some k) j f ≡ true = λ j u. up j ∙ from_right (same_key k j) (is_above (up_of (linked a k)) j f) u in
+        record {
+          there = in_up a root f is k t.there;
+          above = λ j u. t.above j (higher j u);
+          others = λ j u v.
+              let e : same_key k j ≡ false = elim (cases (same_key k j)) [ inl e ↦ absurd (never (is_above from j f) (t.above j (up j ∙ ap (λ b. b || is_above (up_of (linked a k)) j f) e)) v) | inr e ↦ e ] in
+              same j u e ∙ t.others j u v;
+          moving = λ m0.
+              let m : IsMoving new f (Some k) lost gained = t.moving m0 in
+              record {
+                rest = m.rest;
+                was = λ j u v. ap (λ x. x.hull) (same j (is_live a root f is j u) (apart j v)) ∙ m.was j u (higher j v);
+                is = λ j u v. m.is j u (higher j v);
+                others = λ j u v. elim (cases (same_key k j)) [
+                  | inl e ↦
+                      let self : is_above (Some k) k f ≡ true = above_self a root f is k t.there in
+                      let new_hull : r ≡ hull_of (m.rest k) gained = right (m.rest k) (m.was k t.there self) (sym (m.is k t.there self) ∙ sym (anew_is a root f is k t.there new m.others)) in
+                      ap (λ x. x.hull) (wrote j (is_live a root f is j u) ∙ ap (λ b. cond b (with_hull r (near_at new k)) (near_at new j)) e) ∙ (new_hull ∙ (sym (m.is k t.there self) ∙ ap (λ x. (near_of x f).hull) (same_key-sound k j e)))
+                  | inr e ↦ ap (λ x. x.hull) (same j (is_live a root f is j u) e) ∙ m.others j u (up j ∙ (ap (λ b. b || is_above (up_of (linked a k)) j f) e ∙ v))
+                ];
+              };
+        };
     counts = λ j. elim (cases (j.slot == k.slot)) [
       | inl e ↦
           let n : near_at new2 j ≡ with_hull r (near_at new k) = p j ∙ ap (λ b. cond b (with_hull r (near_at new k)) (near_at new j)) e in

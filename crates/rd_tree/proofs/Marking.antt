@@ -61,25 +61,25 @@ module _ (a : Arena inner.Node) (old new : List Near) (from : Option BoxKey) (k 
   pub marking_next : (new2 : List Near) → Puts new new2 k (marked less more (near_at new k)) → length new2 ≡ length new → Marking a old new2 from (up_of (linked a k)) less more
   marking_next new2 p l = record {
     each = λ root f is i.
-    let t : MarkedTo a f old new from (Some k) less more = w.each root f is i in
-    let up : (j : BoxKey) → is_above (Some k) j f ≡ (same_key k j || is_above (up_of (linked a k)) j f) = above_up a root f is k t.there in
-    let live : is_some (linked a k) ≡ true = is_live a root f is k t.there in
-    record {
-      there = in_up a root f is k t.there;
-      above = λ j u. t.above j (up j ∙ from_right (same_key k j) (is_above (up_of (linked a k)) j f) u);
-      rows = λ j u. puts_at a new new2 k (marked less more (near_at new k)) p live j u ∙ (ap (λ r. cond (same_key k j) (marked less more r) (near_at new j)) (row_still root f is i)
-          ∙ (ap (λ r. cond (same_key k j) (marked less more (near_at old k)) r) (t.rows j u)
-          ∙ elim (cases (same_key k j)) [
-            | inl e ↦
-                let n : k ≡ j = same_key-sound k j e in
-                let from_j : is_above from j f ≡ true = t.above j (up j ∙ ap (λ b. b || is_above (up_of (linked a k)) j f) e) in
-                let off : is_above (up_of (linked a k)) j f ≡ false = subst (λ x. is_above (up_of (linked a k)) x f ≡ false) n (off_above a root f is k t.there) in
-                rw (e, from_j, off) (ap (λ x. marked less more (near_at old x)) n)
-            | inr e ↦
-                let same : is_above (Some k) j f ≡ is_above (up_of (linked a k)) j f = up j ∙ ap (λ b. b || is_above (up_of (linked a k)) j f) e in
-                ap (λ b. cond b (marked less more (near_at old k)) (cond (is_above from j f && not (is_above (Some k) j f)) (marked less more (near_at old j)) (near_at old j))) e
-                ∙ ap (λ b. cond (is_above from j f && not b) (marked less more (near_at old j)) (near_at old j)) same
-          ]));
-    };
+        let t : MarkedTo a f old new from (Some k) less more = w.each root f is i in
+        let up : (j : BoxKey) → is_above (Some k) j f ≡ (same_key k j || is_above (up_of (linked a k)) j f) = above_up a root f is k t.there in
+        let live : is_some (linked a k) ≡ true = is_live a root f is k t.there in
+        record {
+          there = in_up a root f is k t.there;
+          above = λ j u. t.above j (up j ∙ from_right (same_key k j) (is_above (up_of (linked a k)) j f) u);
+          rows = λ j u. puts_at a new new2 k (marked less more (near_at new k)) p live j u ∙ (ap (λ r. cond (same_key k j) (marked less more r) (near_at new j)) (row_still root f is i)
+              ∙ (ap (λ r. cond (same_key k j) (marked less more (near_at old k)) r) (t.rows j u)
+              ∙ elim (cases (same_key k j)) [
+                | inl e ↦
+                    let n : k ≡ j = same_key-sound k j e in
+                    let from_j : is_above from j f ≡ true = t.above j (up j ∙ ap (λ b. b || is_above (up_of (linked a k)) j f) e) in
+                    let off : is_above (up_of (linked a k)) j f ≡ false = subst (λ x. is_above (up_of (linked a k)) x f ≡ false) n (off_above a root f is k t.there) in
+                    rw (e, from_j, off) (ap (λ x. marked less more (near_at old x)) n)
+                | inr e ↦
+                    let same : is_above (Some k) j f ≡ is_above (up_of (linked a k)) j f = up j ∙ ap (λ b. b || is_above (up_of (linked a k)) j f) e in
+                    ap (λ b. cond b (marked less more (near_at old k)) (cond (is_above from j f && not (is_above (Some k) j f)) (marked less more (near_at old j)) (near_at old j))) e
+                    ∙ ap (λ b. cond (is_above from j f && not b) (marked less more (near_at old j)) (near_at old j)) same
+              ]));
+        };
     same_length = l ∙ w.same_length;
   }

@@ -1,13 +1,13 @@
 -- What is told of a box, and the sums over its branch.
-use Rattle.std.proofs.Common.{◌≡◌, refl, ap, ◌∙◌, ◌+◌, true, cond, arith}
+use Rattle.std.proofs.Common.{◌≡◌, refl, ap, ◌∙◌, sym, ◌+◌, true, cond, arith}
 use Rattle.std.specs.Prelude.{Some}
-use Rattle.rd_geom.specs.Plane.{hull_of}
+use Rattle.rd_geom.specs.Plane.{no_pixels, hull_of}
 use Rattle.rd_keys.specs.Keys.{same_key}
 use Rattle.rd_keys.proofs.Keys.{same_key-sound, same_key-refl}
 use Rattle.rd_tree.specs.Forest.{empty, tree, top, has, from, children, item_of, without_siblings, branch, IsApart}
 use Rattle.rd_tree.specs.Document.{BoxKey, Item, Boxes}
 use Rattle.rd_tree.specs.Near.{breadth, touched_in, extent, hull_in, near_first, near_of}
-use Rattle.rd_tree.proofs.NearHull.{hull-unit}
+use Rattle.rd_tree.proofs.NearHull.{hull-unit, hull_in-unit}
 use Rattle.rd_tree.proofs.Restoring.{branch_there}
 
 first-alone : (f : Boxes) → near_first f ≡ near_first (without_siblings f)
@@ -33,6 +33,10 @@ hull-branch k f = first (from same_key k f) where
   first : (g : Boxes) → hull_in (without_siblings g) ≡ (near_first g).hull
   first empty = refl
   first (tree j d below rest) = hull-unit (extent d) (hull_in below)
+
+-- It is no pixel at all, or has pixels.
+pub hull_near-unit : (k : BoxKey) (f : Boxes) → hull_of (near_of k f).hull no_pixels ≡ (near_of k f).hull
+hull_near-unit k f = ap (λ r. hull_of r no_pixels) (sym (hull-branch k f)) ∙ (hull_in-unit (branch same_key k f) ∙ hull-branch k f)
 
 -- The touched boxes of a branch are told of its box, but for itself.
 pub touched-branch : (k : BoxKey) (d : Item) (f : Boxes) → item_of same_key k f ≡ Some d → touched_in (branch same_key k f) ≡ cond d.touched 1 0 + (near_of k f).touched

@@ -11,7 +11,7 @@ use Rattle.rd_tree.proofs.Standing.{either, differs}
 use Rattle.rd_tree.proofs.Without.{stays}
 use Rattle.rd_tree.proofs.Each.{has-each, apart_each, children-each}
 use Rattle.rd_tree.proofs.Restoring.{branch_there}
-use Rattle.rd_tree.proofs.Parent.{Parent}
+use Rattle.rd_tree.proofs.Cutting.{Among}
 use Rattle.rd_tree.proofs.EachBranch.{branch-each, each_none, among_each, IsWithin, without-within}
 use Rattle.rd_tree.proofs.NearBranch.{near-first}
 use Rattle.rd_tree.proofs.NearPut.{more_near}
@@ -22,52 +22,63 @@ use Rattle.rd_tree.proofs.NearWithin.{not_own, near-branch, near-children}
 abbrev pub joined_near : ℕ → Near → Boxes → Near
 joined_near c r b = record { children = c; touched = r.touched + touched_in b; hull = hull_of r.hull (hull_in b) }
 
--- what is told of a box above the branch of k before and after items of the branch change
-pub record InPlace (t : BoxKey → Bool) (h : Item → Item) (j k : BoxKey) (f : Boxes) : Type 0 where
+-- The boxes g are the boxes f but for the branch of k, which stands below the same parent.
+pub record Replaced (p k : BoxKey) (f g : Boxes) : Type 0 where
+  pub apart : IsApart same_key g
+  pub there : has same_key p g ≡ true
+  pub child : Among k (children same_key p g)
+  pub same : without same_key k g ≡ without same_key k f
+
+-- Items change in the branch alone.
+pub replaced_each : (t : BoxKey → Bool) (h : Item → Item) (p k : BoxKey) (f : Boxes) → IsApart same_key f → has same_key p f ≡ true → Among k (children same_key p f) → IsWithin same_key t k f → Replaced p k f (each_if t h f)
+replaced_each t h p k f a m w q = record {
+  apart = apart_each t h same_key f a;
+  there = has-each t h same_key p f ∙ m;
+  child = among_each t h same_key k p f w;
+  same = without-within same_key same_key-sound same_key-refl t h k f a q;
+}
+
+pub replaced_then : (p k : BoxKey) (f g h : Boxes) → Replaced p k f g → Replaced p k g h → Replaced p k f h
+replaced_then p k f g h r s = record { apart = s.apart; there = s.there; child = s.child; same = s.same ∙ r.same }
+
+-- what is told of a box above the branch of k before and after that
+pub record InPlace (j k : BoxKey) (f g : Boxes) : Type 0 where
   pub count : ℕ
   pub before : near_of j f ≡ joined_near count (near_of j (without same_key k f)) (branch same_key k f)
-  pub after : near_of j (each_if t h f) ≡ joined_near count (near_of j (without same_key k f)) (branch same_key k (each_if t h f))
+  pub after : near_of j g ≡ joined_near count (near_of j (without same_key k f)) (branch same_key k g)
 
-module _ (t : BoxKey → Bool) (h : Item → Item) (k : BoxKey) (f : Boxes) (a : IsApart same_key f) (q : IsWithin same_key t k f) where
-  module _ (parent : Parent same_key same_key-sound same_key-refl k f) where
-    abbrev p : BoxKey
-    p = parent.key
+module _ (p k : BoxKey) (f g : Boxes) (a : IsApart same_key f) (m : has same_key p f ≡ true) (w : Among k (children same_key p f)) (r : Replaced p k f g) where
+  abbrev less : Boxes
+  less = without same_key k f
 
-    abbrev g : Boxes
-    g = without same_key k f
+  cut_replaced : (j : BoxKey) → has same_key j less ≡ true → near_of j g ≡ cond (in_subtree same_key p j less) (more_near (same_key p j) (branch same_key k g) (near_of j less)) (near_of j less)
+  cut_replaced j u =
+      subst (λ z. near_of j g ≡ cond (in_subtree same_key p j z) (more_near (same_key p j) (branch same_key k g) (near_of j z)) (near_of j z)) r.same
+      (near-cut p k g r.child r.apart r.there j (subst (λ z. has same_key j z ≡ true) (sym r.same) u))
 
-    abbrev changed : Boxes
-    changed = each_if t h f
+  -- a box above k
+  pub in_place : (j : BoxKey) → has same_key j f ≡ true → same_key j k ≡ false → in_subtree same_key k j f ≡ true → InPlace j k f g
+  in_place j u n i =
+      let s : has same_key j less ≡ true = above_stays p k f w a m j u n i in
+      let up : in_subtree same_key p j less ≡ true = sym (subtree-cut_above p k f w a m j s) ∙ i in
+      record {
+        count = (near_of j less).children + cond (same_key p j) 1 0;
+        before = near-cut p k f w a m j s ∙ ap (λ b. cond b (more_near (same_key p j) (branch same_key k f) (near_of j less)) (near_of j less)) up;
+        after = cut_replaced j s ∙ ap (λ b. cond b (more_near (same_key p j) (branch same_key k g) (near_of j less)) (near_of j less)) up;
+      }
 
-    cut_changed : (j : BoxKey) → has same_key j g ≡ true → near_of j changed ≡ cond (in_subtree same_key p j g) (more_near (same_key p j) (branch same_key k changed) (near_of j g)) (near_of j g)
-    cut_changed j u =
-        let e : without same_key k changed ≡ g = without-within same_key same_key-sound same_key-refl t h k f a q in
-        subst (λ z. near_of j changed ≡ cond (in_subtree same_key p j z) (more_near (same_key p j) (branch same_key k changed) (near_of j z)) (near_of j z)) e
-        (near-cut p k changed (among_each t h same_key k p f parent.child) (apart_each t h same_key f a) (has-each t h same_key p f ∙ parent.there) j (subst (λ z. has same_key j z ≡ true) (sym e) u))
+  -- a box that is neither above k nor in its branch
+  pub near-aside : (j : BoxKey) → has same_key j f ≡ true → in_subtree same_key j k f ≡ false → in_subtree same_key k j f ≡ false → near_of j g ≡ near_of j f
+  near-aside j u n i =
+      let o : (same_key j k ≡ false) × (has same_key j (children same_key k f) ≡ false) = either (same_key j k) (has same_key j (children same_key k f)) n in
+      let s : has same_key j less ≡ true = stays same_key same_key-sound same_key-refl j k f u o.0 o.1 in
+      let off : in_subtree same_key p j less ≡ false = sym (subtree-cut_above p k f w a m j s) ∙ i in
+      cut_replaced j s ∙ (ap (λ b. cond b (more_near (same_key p j) (branch same_key k g) (near_of j less)) (near_of j less)) off
+      ∙ (ap (λ b. cond b (more_near (same_key p j) (branch same_key k f) (near_of j less)) (near_of j less)) (sym off) ∙ sym (near-cut p k f w a m j s)))
 
-    -- a box above k
-    pub in_place : (j : BoxKey) → has same_key j f ≡ true → same_key j k ≡ false → in_subtree same_key k j f ≡ true → InPlace t h j k f
-    in_place j u n i =
-        let s : has same_key j g ≡ true = above_stays p k f parent.child a parent.there j u n i in
-        let up : in_subtree same_key p j g ≡ true = sym (subtree-cut_above p k f parent.child a parent.there j s) ∙ i in
-        record {
-          count = (near_of j g).children + cond (same_key p j) 1 0;
-          before = near-cut p k f parent.child a parent.there j s ∙ ap (λ b. cond b (more_near (same_key p j) (branch same_key k f) (near_of j g)) (near_of j g)) up;
-          after = cut_changed j s ∙ ap (λ b. cond b (more_near (same_key p j) (branch same_key k changed) (near_of j g)) (near_of j g)) up;
-        }
-
-    -- a box that is neither above k nor in its branch
-    pub near-aside : (j : BoxKey) → has same_key j f ≡ true → in_subtree same_key j k f ≡ false → in_subtree same_key k j f ≡ false → near_of j changed ≡ near_of j f
-    near-aside j u n i =
-        let o : (same_key j k ≡ false) × (has same_key j (children same_key k f) ≡ false) = either (same_key j k) (has same_key j (children same_key k f)) n in
-        let s : has same_key j g ≡ true = stays same_key same_key-sound same_key-refl j k f u o.0 o.1 in
-        let off : in_subtree same_key p j g ≡ false = sym (subtree-cut_above p k f parent.child a parent.there j s) ∙ i in
-        cut_changed j s ∙ (ap (λ b. cond b (more_near (same_key p j) (branch same_key k changed) (near_of j g)) (near_of j g)) off
-        ∙ (ap (λ b. cond b (more_near (same_key p j) (branch same_key k f) (near_of j g)) (near_of j g)) (sym off) ∙ sym (near-cut p k f parent.child a parent.there j s)))
-
-  -- a box of the branch
-  pub near-in_branch : (j : BoxKey) → has same_key j (branch same_key k f) ≡ true → near_of j (each_if t h f) ≡ near_of j (branch same_key k (each_if t h f))
-  near-in_branch j u = near-branch j k (each_if t h f) (apart_each t h same_key f a) (ap (has same_key j) (branch-each t h same_key k f) ∙ (has-each t h same_key j (branch same_key k f) ∙ u))
+-- a box of the branch
+pub near-in_branch : (t : BoxKey → Bool) (h : Item → Item) (k : BoxKey) (f : Boxes) → IsApart same_key f → (j : BoxKey) → has same_key j (branch same_key k f) ≡ true → near_of j (each_if t h f) ≡ near_of j (branch same_key k (each_if t h f))
+near-in_branch t h k f a j u = near-branch j k (each_if t h f) (apart_each t h same_key f a) (ap (has same_key j) (branch-each t h same_key k f) ∙ (has-each t h same_key j (branch same_key k f) ∙ u))
 
 -- What is below a box stays where the items below it stay.
 pub children_kept : (t : BoxKey → Bool) (h : Item → Item) (k : BoxKey) (f : Boxes) → ((j : BoxKey) → has same_key j (children same_key k f) ≡ true → t j ≡ false) → children same_key k (each_if t h f) ≡ children same_key k f

@@ -1,5 +1,5 @@
 -- What is told of each box once a new box is a child of another, or a branch is moved.
-use Rattle.std.proofs.Common.{◌≡◌, refl, ap, ◌∙◌, sym, subst, Bool, true, false, cond}
+use Rattle.std.proofs.Common.{◌≡◌, refl, ap, ◌∙◌, sym, subst, Bool, true, false, ◌||◌, cond}
 use Rattle.std.specs.Prelude.{Option, Some, None}
 use Rattle.rd_geom.specs.Plane.{no_pixels, hull_of}
 use Rattle.rd_keys.specs.Keys.{same_key}
@@ -14,7 +14,7 @@ use Rattle.rd_tree.proofs.Placing.{among_of, ahead-among}
 use Rattle.rd_tree.proofs.Without.{apart_without, stays}
 use Rattle.rd_tree.proofs.Staying.{place_stays}
 use Rattle.rd_tree.proofs.Restoring.{branch_there, branch_off, apart_children}
-use Rattle.rd_tree.proofs.NearPut.{more_near, near-put, near-put_new, subtree-put, subtree-put_new}
+use Rattle.rd_tree.proofs.NearPut.{more_near, near-put, near-put_new, has-put, subtree-put, subtree-put_new, not_above_old}
 
 module _ {K D : Type 0} (same : K → K → Bool) (sound : (a b : K) → same a b ≡ true → a ≡ b) (reflexive : (a : K) → same a a ≡ true) where
   -- siblings at both sides of a place
@@ -60,6 +60,12 @@ module _ (p : BoxKey) (before : Option BoxKey) (k : BoxKey) (d : Item) (below g 
   pub subtree-placed_new : (q j : BoxKey) → has same_key j g ≡ true → has same_key q one ≡ true → in_subtree same_key q j placed ≡ in_subtree same_key p j g
   subtree-placed_new q j u i = ap (in_subtree same_key q j) placed_is ∙ subtree-put_new k d below v.xs v.ys p g a m v.is w j q u i
 
+  pub has-placed : (j : BoxKey) → has same_key j placed ≡ (has same_key j g || has same_key j one)
+  has-placed j = ap (has same_key j) placed_is ∙ has-put k d below v.xs v.ys p g a m v.is w j
+
+  pub not_above_placed : (q j : BoxKey) → has same_key j one ≡ true → has same_key q g ≡ true → in_subtree same_key q j placed ≡ false
+  not_above_placed q j u i = ap (in_subtree same_key q j) placed_is ∙ not_above_old k d below v.xs v.ys p g a m v.is w j q u i
+
 -- a new box
 module _ (p : BoxKey) (before : Option BoxKey) (k : BoxKey) (d : Item) (g : Boxes) (a : IsApart same_key g) (m : has same_key p g ≡ true) (place : IsPlaceIn same_key before (children same_key p g)) (n : has same_key k g ≡ false) where
   strange : AreApart same_key g (tree k d empty empty)
@@ -76,6 +82,15 @@ module _ (p : BoxKey) (before : Option BoxKey) (k : BoxKey) (d : Item) (g : Boxe
 
   pub subtree-child : (j : BoxKey) → has same_key j g ≡ true → in_subtree same_key k j (with_child p before k d g) ≡ in_subtree same_key p j g
   subtree-child j u = subtree-placed_new p before k d empty g a m place strange k j u (from_left (same_key k k) false (same_key-refl k))
+
+  pub has-with_child : (j : BoxKey) → has same_key j (with_child p before k d g) ≡ (has same_key j g || same_key j k)
+  has-with_child j = has-placed p before k d empty g a m place strange j ∙ ap (λ b. has same_key j g || b) (no_more (same_key j k)) where
+    no_more : (b : Bool) → (b || false) ≡ b
+    no_more true = refl
+    no_more false = refl
+
+  pub not_above_child : (q : BoxKey) → has same_key q g ≡ true → in_subtree same_key q k (with_child p before k d g) ≡ false
+  not_above_child q i = not_above_placed p before k d empty g a m place strange q k (from_left (same_key k k) false (same_key-refl k)) i
 
 -- a branch that is moved below q
 module _ (k q : BoxKey) (before : Option BoxKey) (f : Boxes) (a : IsApart same_key f) (m : has same_key k f ≡ true) (there : has same_key q f ≡ true) (outside : in_subtree same_key q k f ≡ false)
@@ -120,3 +135,13 @@ module _ (k q : BoxKey) (before : Option BoxKey) (f : Boxes) (a : IsApart same_k
   subtree-elsewhere_branch i j u o =
       subst (λ b. in_subtree same_key i j (under same_key q (amid same_key before b (children same_key q g)) g) ≡ in_subtree same_key q j g) (sym t.1)
       (subtree-placed_new q before k t.0 (children same_key k f) g ga gq gplace off i j u (subst (λ b. has same_key i b ≡ true) t.1 o))
+
+  pub has-elsewhere : (j : BoxKey) → has same_key j (put_elsewhere k q before f) ≡ (has same_key j g || has same_key j (branch same_key k f))
+  has-elsewhere j =
+      subst (λ b. has same_key j (under same_key q (amid same_key before b (children same_key q g)) g) ≡ (has same_key j g || has same_key j b)) (sym t.1)
+      (has-placed q before k t.0 (children same_key k f) g ga gq gplace off j)
+
+  pub not_above_elsewhere : (i j : BoxKey) → has same_key j (branch same_key k f) ≡ true → has same_key i g ≡ true → in_subtree same_key i j (put_elsewhere k q before f) ≡ false
+  not_above_elsewhere i j u o =
+      subst (λ b. in_subtree same_key i j (under same_key q (amid same_key before b (children same_key q g)) g) ≡ false) (sym t.1)
+      (not_above_placed q before k t.0 (children same_key k f) g ga gq gplace off i j (subst (λ b. has same_key j b ≡ true) t.1 u) o)

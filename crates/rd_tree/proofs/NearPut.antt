@@ -8,10 +8,10 @@ use Rattle.rd_tree.specs.Forest.{empty, tree, ◌▷◌, has, children, in_subtr
 use Rattle.rd_tree.specs.Document.{BoxKey, Item, Boxes}
 use Rattle.rd_tree.specs.Near.{breadth, touched_in, extent, hull_in, near_first, near_of}
 use Rattle.rd_tree.proofs.Standing.{either, out_of_children, differs_back, apart_back}
-use Rattle.rd_tree.proofs.Subtrees.{has_inner, has_later, children-past, children-one}
+use Rattle.rd_tree.proofs.Subtrees.{not_in_subtree, has_inner, has_later, children-past, children-one}
 use Rattle.rd_tree.proofs.NearHull.{hull-later}
 use Rattle.rd_tree.proofs.NearOf.{near-here, near-inner, near-later, near-past, near-one}
-use Rattle.rd_tree.proofs.Telling.{Tells, has-new, breadth-new, touched-new, hull-new, told_put, told_new}
+use Rattle.rd_tree.proofs.Telling.{Tells, has-new, breadth-new, touched-new, hull-new, sums_put, told_put, told_new}
 
 abbrev near : ℕ → ℕ → Rectangle → Near
 near c t h = record { children = c; touched = t; hull = h }
@@ -76,6 +76,9 @@ module _ (k : BoxKey) (d : Item) (below xs ys : Boxes) (p : BoxKey) where
     below-put : (q : BoxKey) → has same_key j g ≡ true → has same_key q (children same_key j (under same_key p new g)) ≡ cond (in_subtree same_key p j g) (has same_key q (children same_key j g) || has same_key q one) (has same_key q (children same_key j g))
     below-put q u = told_put k d below xs ys (λ i f. has same_key q (children same_key i f)) p (λ i b. b || has same_key q one) (below_tells q) g a m is w j u
 
+    pub has-put : has same_key j (under same_key p new g) ≡ (has same_key j g || has same_key j one)
+    has-put = (sums_put k d below xs ys p g a m is).has_is j
+
     pub below-put_new : (q : BoxKey) → has same_key j one ≡ true → has same_key q (children same_key j (under same_key p new g)) ≡ has same_key q (children same_key j one)
     below-put_new q u = told_new k d below xs ys (λ i f. has same_key q (children same_key i f)) p (λ i b. b || has same_key q one) (below_tells q) g a m is w j u
 
@@ -102,3 +105,13 @@ module _ (k : BoxKey) (d : Item) (below xs ys : Boxes) (p : BoxKey) where
     -- So p is below the same boxes.
     pub subtree-put_parent : has same_key j g ≡ true → in_subtree same_key p j (under same_key p new g) ≡ in_subtree same_key p j g
     subtree-put_parent u = subtree-put p u (w p m)
+
+    -- A new box is above those below it alone.
+    pub subtree-put_within : (q : BoxKey) → has same_key j one ≡ true → in_subtree same_key q j (under same_key p new g) ≡ in_subtree same_key q j one
+    subtree-put_within q u = ap (λ b. same_key q j || b) (below-put_new q u)
+
+    -- It is not above what was there.
+    pub not_above_old : (q : BoxKey) → has same_key j one ≡ true → has same_key q g ≡ true → in_subtree same_key q j (under same_key p new g) ≡ false
+    not_above_old q u i =
+        let o : has same_key q one ≡ false = w q i in
+        subtree-put_within q u ∙ not_in_subtree same_key same_key-sound same_key-refl q j one (differs_back same_key same_key-sound same_key-refl one q j o u) o

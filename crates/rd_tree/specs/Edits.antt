@@ -12,7 +12,7 @@ use Rattle.rd_tree.specs.declared.reach.Reach.{Reach}
 use Rattle.rd_tree.specs.declared.reach.Reach.TheVariants.{Nothing, Alone, Subtree}
 use Rattle.rd_tree.specs.Forest.{keys, item_of, children, under, amid, without, branch, at_box, at_subtree, AllItems}
 use Rattle.rd_tree.specs.Document.{Document, BoxKey, Item, Boxes, with_all_left}
-use Rattle.rd_tree.specs.Works.{touch, shifted, move_by, settled}
+use Rattle.rd_tree.specs.Works.{touch, shifted}
 
 -- This project's own choice: does the change name a member?
 abbrev pub names_any : StyleChange → Bool
