@@ -15,10 +15,10 @@ use Rattle.rd_tree.specs.Near.{near_first, near_of, near_at, is_above}
 use Rattle.rd_tree.specs.Rows.{IsStanding, IsIn, CanMark, MarksUp, CanMove, IsMoving, HasHulls, KeepsCounts, KeepsOthers, IsMarkable, IsSwapping, IsRight, CanSwap, joined, marked, with_hull}
 use Rattle.rd_tree.proofs.Standing.{cases}
 use Rattle.rd_tree.proofs.Above.{above_in}
-use Rattle.rd_tree.proofs.NearSums.{touched_small}
+use Rattle.rd_tree.proofs.NearSums.{touched_small, breadth_small}
 
 -- a row by its fields
-same_row : (a b : Near) → a.children ≡ b.children → a.touched ≡ b.touched → a.hull ≡ b.hull → a ≡ b
+pub same_row : (a b : Near) → a.children ≡ b.children → a.touched ≡ b.touched → a.hull ≡ b.hull → a ≡ b
 same_row a b p q r = rw (sym p, sym q, sym r) refl
 
 size-from : (k : BoxKey) (f : Boxes) → size (from same_key k f) ≤ size f
@@ -35,6 +35,14 @@ size-from k (tree j d below rest) =
 first_small : (f : Boxes) → (near_first f).touched ≤ size f
 first_small empty = omega arith
 first_small (tree k d below rest) = let s = touched_small below in omega (arith, s)
+
+first_breadth : (f : Boxes) → (near_first f).children ≤ size f
+first_breadth empty = omega arith
+first_breadth (tree k d below rest) = let s = breadth_small below in omega (arith, s)
+
+-- a box has no more children than there are boxes
+pub children_most : (k : BoxKey) (f : Boxes) → (near_of k f).children ≤ size f
+children_most k f = let a = first_breadth (from same_key k f) in let b = size-from k f in omega (arith, a, b)
 
 -- no more boxes are touched below one than there are
 touched_most : (k : BoxKey) (f : Boxes) → (near_of k f).touched ≤ size f

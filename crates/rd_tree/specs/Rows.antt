@@ -1,5 +1,5 @@
 -- How the table of what is near each box is kept.
-use Rattle.std.specs.Prelude.{◌≡◌, ℕ, ◌+◌, ◌-◌, ◌<◌, ◌≤◌, ◌==◌, true, false, if◌then◌else◌, List, length, Option, Some, None, is_some}
+use Rattle.std.specs.Prelude.{◌≡◌, ℕ, ◌+◌, ◌-◌, ◌<◌, ◌≤◌, ◌==◌, Bool, true, false, if◌then◌else◌, List, length, Option, Some, None, is_some}
 use Rattle.rd_geom.specs.Plane.{Rectangle, no_pixels, hull_of}
 use Rattle.rd_keys.specs.Keys.{same_key}
 use Rattle.rd_keys.specs.Arena.{Arena}
@@ -7,7 +7,7 @@ use Rattle.rd_tree.specs.declared.node.Node as inner
 use Rattle.rd_tree.specs.declared.near.Near.{Near}
 use Rattle.rd_tree.specs.declared.whole.Whole.{Whole}
 use Rattle.rd_style.specs.Limits.{FitsRect, Fits}
-use Rattle.rd_tree.specs.Forest.{empty, tree, size, has, IsApart}
+use Rattle.rd_tree.specs.Forest.{empty, tree, size, has, in_subtree, IsApart}
 use Rattle.rd_tree.specs.Links.{Node, Stands, onward_of}
 use Rattle.rd_tree.specs.Document.{BoxKey, Item, Boxes, AllFit}
 use Rattle.std.specs.HashMap.{HashMap}
@@ -141,6 +141,38 @@ pub record CanSwap (a : Arena inner.Node) (rows : List Near) (from : Option BoxK
   pub fits : AllFit boxes
   pub few : a.limit ≡ 20000
   pub swapping : IsSwapping rows boxes from old new
+
+-- no branch at all
+abbrev pub nothing : Whole
+nothing = record { touched = 0; hull = no_pixels }
+
+-- once a branch is a child of it, or stands deeper below it
+abbrev pub more : Bool → Near → Whole → Near
+more own row w = with_children (row.children + (if own then 1 else 0)) (joined row w)
+
+-- From p up each row lacks a branch that is a new child of p. All other rows are right.
+pub record IsGaining (rows : List Near) (f : Boxes) (p : BoxKey) (w : Whole) : Type 0 where
+  pub rest : BoxKey → Near
+  pub plain : (k : BoxKey) → hull_of (rest k).hull no_pixels ≡ (rest k).hull
+  pub was : (k : BoxKey) → has same_key k f ≡ true → in_subtree same_key p k f ≡ true → near_at rows k ≡ rest k
+  pub is : (k : BoxKey) → has same_key k f ≡ true → in_subtree same_key p k f ≡ true → near_of k f ≡ more (same_key p k) (rest k) w
+  pub others : (k : BoxKey) → has same_key k f ≡ true → in_subtree same_key p k f ≡ false → near_at rows k ≡ near_of k f
+
+-- From p up each row has a branch too many, which was a child of p. All other rows are right.
+pub record IsLosing (rows : List Near) (f : Boxes) (p : BoxKey) (w : Whole) : Type 0 where
+  pub was : (k : BoxKey) → has same_key k f ≡ true → in_subtree same_key p k f ≡ true → near_at rows k ≡ more (same_key p k) (near_of k f) w
+  pub others : (k : BoxKey) → has same_key k f ≡ true → in_subtree same_key p k f ≡ false → near_at rows k ≡ near_of k f
+
+-- The rows of the boxes that stand below a root can be changed from p up.
+pub record CanClimb (a : Arena inner.Node) (rows : List Near) (p : BoxKey) (Q : Boxes → Type 0) : Type 0 where
+  pub root : BoxKey
+  pub boxes : Boxes
+  pub is : IsStanding a root boxes
+  pub there : has same_key p boxes ≡ true
+  pub has_rows : HasRows rows boxes
+  pub fits : AllFit boxes
+  pub few : a.limit ≡ 20000
+  pub ready : Q boxes
 
 -- The table has a row for each slot, and the right one for each box.
 pub record IsNear (a : Arena inner.Node) (rows : List Near) (f : Boxes) : Type 0 where

@@ -1,12 +1,13 @@
 //! What a branch is to the boxes above it.
-ghost use Rattle.std.specs.Prelude.{◌≡◌, ◌<◌, length};
+ghost use Rattle.std.specs.Prelude.{◌≡◌, length, Some, true};
+ghost use Rattle.rd_keys.specs.Keys.{same_key};
+ghost use Rattle.rd_tree.specs.Forest.{has};
 ghost use Rattle.rd_tree.specs.Document.{BoxKey, Boxes};
-ghost use Rattle.rd_tree.specs.Near.{near_at};
-ghost use Rattle.rd_tree.specs.Linked.{linked};
-ghost use Rattle.rd_tree.specs.Rows.{IsStanding, IsIn, IsSwapping, IsRight, CanSwap, KeepsOthers};
+ghost use Rattle.rd_tree.specs.Rows.{IsStanding, IsIn, IsSwapping, IsGaining, IsLosing, IsRight, CanSwap, CanClimb, KeepsOthers};
+ghost use Rattle.rd_tree.specs.Rows as rows;
 
 use crate::climb::{mark_up, move_hulls};
-use crate::near::{Near, row_at};
+use crate::near::{Near, add_child, drop_child};
 use crate::node::Node;
 use rd_geom::Rect;
 use rd_keys::{Arena, BoxKey, BoxMark};
@@ -33,4 +34,46 @@ pub(crate) fn swap_up(
 {
     mark_up(near, nodes, from, old.touched, new.touched);
     move_hulls(near, nodes, from, old.hull, new.hull);
+}
+
+/// No branch at all.
+fn nothing() -> Whole
+    ensures { result ≡ rows.nothing }
+{
+    Whole {
+        touched: 0,
+        hull: Rect::EMPTY,
+    }
+}
+
+/// A branch is a new child of a box.
+pub(crate) fn gain(
+    near: &mut Vec<Near>,
+    nodes: &Arena<Node, BoxMark>,
+    parent: BoxKey,
+    whole: Whole,
+)
+    requires { CanClimb nodes.now near.old.items parent (λ f. IsGaining near.old.items f parent whole) }
+    ensures right { (root : BoxKey) (f : Boxes) → IsStanding nodes.now root f → has same_key parent f ≡ true → IsGaining near.old.items f parent whole → IsRight near.new.items f }
+    ensures others { (root : BoxKey) (f : Boxes) → IsStanding nodes.now root f → has same_key parent f ≡ true → KeepsOthers nodes.now f near.old.items near.new.items (Some parent) }
+    ensures same_length { length near.new.items ≡ length near.old.items }
+{
+    add_child(near, parent);
+    swap_up(near, nodes, Some(parent), nothing(), whole);
+}
+
+/// A branch is a child of a box no more.
+pub(crate) fn lose(
+    near: &mut Vec<Near>,
+    nodes: &Arena<Node, BoxMark>,
+    parent: BoxKey,
+    whole: Whole,
+)
+    requires { CanClimb nodes.now near.old.items parent (λ f. IsLosing near.old.items f parent whole) }
+    ensures right { (root : BoxKey) (f : Boxes) → IsStanding nodes.now root f → has same_key parent f ≡ true → IsLosing near.old.items f parent whole → IsRight near.new.items f }
+    ensures others { (root : BoxKey) (f : Boxes) → IsStanding nodes.now root f → has same_key parent f ≡ true → KeepsOthers nodes.now f near.old.items near.new.items (Some parent) }
+    ensures same_length { length near.new.items ≡ length near.old.items }
+{
+    drop_child(near, parent);
+    swap_up(near, nodes, Some(parent), whole, nothing());
 }
