@@ -84,16 +84,15 @@ near-in_branch t h k f a j u = near-branch j k (each_if t h f) (apart_each t h s
 pub children_kept : (t : BoxKey → Bool) (h : Item → Item) (k : BoxKey) (f : Boxes) → ((j : BoxKey) → has same_key j (children same_key k f) ≡ true → t j ≡ false) → children same_key k (each_if t h f) ≡ children same_key k f
 children_kept t h k f o = children-each t h same_key k f ∙ each_none t h same_key same_key-refl (children same_key k f) o
 
-pub near-kept : (t : BoxKey → Bool) (h : Item → Item) (k : BoxKey) (f : Boxes) → IsApart same_key f → has same_key k f ≡ true → ((j : BoxKey) → has same_key j (children same_key k f) ≡ true → t j ≡ false) →
+pub near-kept : (t : BoxKey → Bool) (h : Item → Item) (k : BoxKey) (f : Boxes) → IsApart same_key f → ((j : BoxKey) → has same_key j (children same_key k f) ≡ true → t j ≡ false) →
     (j : BoxKey) → has same_key j (children same_key k f) ≡ true → near_of j (each_if t h f) ≡ near_of j f
-near-kept t h k f a m o j u =
+near-kept t h k f a o j u =
     let e : children same_key k (each_if t h f) ≡ children same_key k f = children_kept t h k f o in
-    near-children j k (each_if t h f) (apart_each t h same_key f a) (has-each t h same_key k f ∙ m) (ap (has same_key j) e ∙ u)
-    ∙ (ap (near_of j) e ∙ sym (near-children j k f a m u))
+    near-children j k (each_if t h f) (apart_each t h same_key f a) (ap (has same_key j) e ∙ u) ∙ (ap (near_of j) e ∙ sym (near-children j k f a u))
 
 -- Where one box alone changes, all that is told of those below it stays.
-pub near-below_box : (h : Item → Item) (k : BoxKey) (f : Boxes) → IsApart same_key f → has same_key k f ≡ true → (j : BoxKey) → has same_key j (children same_key k f) ≡ true → near_of j (at_box same_key k h f) ≡ near_of j f
-near-below_box h k f a m j u = near-kept (λ i. same_key i k) h k f a m
+pub near-below_box : (h : Item → Item) (k : BoxKey) (f : Boxes) → IsApart same_key f → (j : BoxKey) → has same_key j (children same_key k f) ≡ true → near_of j (at_box same_key k h f) ≡ near_of j f
+near-below_box h k f a j u = near-kept (λ i. same_key i k) h k f a
     (λ i v. differs same_key same_key-sound same_key-refl (children same_key k f) i k v (not_own same_key same_key-sound same_key-refl k f a)) j u
 
 pub branch-at_box : (h : Item → Item) (k : BoxKey) (f : Boxes) → IsApart same_key f → has same_key k f ≡ true → (d : Item) × (branch same_key k f ≡ tree k d (children same_key k f) empty) × (branch same_key k (at_box same_key k h f) ≡ tree k (h d) (children same_key k f) empty)

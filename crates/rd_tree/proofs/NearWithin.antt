@@ -3,11 +3,11 @@ use Rattle.std.proofs.Common.{◌≡◌, refl, ap, ◌∙◌, sym, subst, Bool, 
 use Rattle.rd_keys.specs.Keys.{same_key}
 use Rattle.rd_keys.proofs.Keys.{same_key-sound, same_key-refl}
 use Rattle.rd_tree.specs.Forest.{Forest, empty, tree, has, children, branch, IsApart}
-use Rattle.rd_tree.specs.Document.{BoxKey, Item, Boxes}
-use Rattle.rd_tree.specs.Near.{near_of}
-use Rattle.rd_tree.proofs.Standing.{cases, never, either, from_left, from_right, has-join, differs, apart_back}
+use Rattle.rd_tree.specs.Document.{BoxKey, Boxes}
+use Rattle.rd_tree.specs.Near.{near_first, near_of}
+use Rattle.rd_tree.proofs.Standing.{cases, never, either, has-join, differs, apart_back}
 use Rattle.rd_tree.proofs.Under.{which}
-use Rattle.rd_tree.proofs.Restoring.{branch_there}
+use Rattle.rd_tree.proofs.Nearby.{from-children}
 use Rattle.rd_tree.proofs.NearOf.{near-here, near-inner, near-later}
 
 module _ {K D : Type 0} (same : K → K → Bool) (sound : (a b : K) → same a b ≡ true → a ≡ b) (reflexive : (a : K) → same a a ≡ true) where
@@ -60,9 +60,5 @@ near-branch j k (tree i d low rest) a m =
     ]
 
 -- the same of a box that is strictly below
-pub near-children : (j k : BoxKey) (f : Boxes) → IsApart same_key f → has same_key k f ≡ true → has same_key j (children same_key k f) ≡ true → near_of j f ≡ near_of j (children same_key k f)
-near-children j k f a m u =
-    let c : Boxes = children same_key k f in
-    let t : (d : Item) × (branch same_key k f ≡ tree k d c empty) = branch_there same_key same_key-sound same_key-refl k f a m in
-    let jb : has same_key j (branch same_key k f) ≡ true = subst (λ z. has same_key j z ≡ true) (sym t.1) (from_right (same_key j k) (has same_key j c || false) (from_left (has same_key j c) false u)) in
-    near-branch j k f a jb ∙ (ap (near_of j) t.1 ∙ near-inner j k t.0 c empty (differs same_key same_key-sound same_key-refl c j k u (not_own same_key same_key-sound same_key-refl k f a)) u)
+pub near-children : (j k : BoxKey) (f : Boxes) → IsApart same_key f → has same_key j (children same_key k f) ≡ true → near_of j f ≡ near_of j (children same_key k f)
+near-children j k f a u = ap near_first (from-children same_key same_key-sound same_key-refl j k f a u)

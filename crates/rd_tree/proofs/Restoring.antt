@@ -1,10 +1,11 @@
 -- A forest is what stays without a box, with the box put back below its parent.
 use Rattle.std.proofs.Common.{◌≡◌, refl, ap, ◌∙◌, sym, subst, Bool, true, false, ◌||◌, inl, inr}
 use Rattle.rd_tree.specs.Forest.{Forest, empty, tree, ◌▷◌, has, from, children, under, without, without_siblings, branch, AreApart, IsApart}
-use Rattle.rd_tree.proofs.Standing.{cases, never, either, from_left, from_right, join-empty, no_children, differs, apart_back}
+use Rattle.rd_tree.proofs.Standing.{cases, never, either, from_left, from_right, join-empty, no_children}
 use Rattle.rd_tree.proofs.Under.{which, no_under}
 use Rattle.rd_tree.proofs.Cutting.{Among, among-in, among-apart, without-under, in_children}
 use Rattle.rd_tree.proofs.Without.{apart_without, stays_out}
+use Rattle.rd_tree.proofs.Nearby.{from-children}
 
 module _ {K D : Type 0} (same : K → K → Bool) (sound : (a b : K) → same a b ≡ true → a ≡ b) (reflexive : (a : K) → same a a ≡ true) where
   under-under : (p : K) (h g f : Forest K D) → under same p h (under same p g f) ≡ under same p h f
@@ -89,27 +90,6 @@ module _ {K D : Type 0} (same : K → K → Bool) (sound : (a b : K) → same a 
       let t : (d : D) × (branch same k f ≡ tree k d (children same k f) empty) = branch_there k f a m in
       ap (has same j) t.1 ∙ rw (o.0, o.1) refl
 
-  from-children : (p k : K) (f : Forest K D) → IsApart same f → has same k (children same p f) ≡ true → from same k f ≡ from same k (children same p f)
-  from-children p k empty a m = refl
-  from-children p k (tree i d low rest) a m =
-      elim (cases (same p i)) [
-        | inl e ↦
-            let u : has same k low ≡ true = rw e at m in
-            rw (e, differs same sound reflexive low k i u a.0, u) refl
-        | inr e ↦ elim (cases (has same p low)) [
-          | inl v ↦
-              let n : children same p rest ≡ empty = no_children same sound reflexive p rest (a.2 p v) in
-              let u : has same k (children same p low) ≡ true = rw (e, n, join-empty (children same p low)) at m in
-              let w : has same k low ≡ true = in_children same sound reflexive k p low u in
-              rw (e, n, join-empty (children same p low), differs same sound reflexive low k i w a.0, w) (from-children p k low a.3 u)
-          | inr v ↦
-              let n : children same p low ≡ empty = no_children same sound reflexive p low v in
-              let u : has same k (children same p rest) ≡ true = rw (e, n) at m in
-              let w : has same k rest ≡ true = in_children same sound reflexive k p rest u in
-              rw (e, n, differs same sound reflexive rest k i w a.1, apart_back same sound reflexive low rest a.2 k w) (from-children p k rest a.4 u)
-        ]
-      ]
-
   from-among : (k : K) (d : D) (xs below ys : Forest K D) → has same k xs ≡ false → from same k (xs ▷ tree k d below ys) ≡ tree k d below ys
   from-among k d empty below ys h = rw (reflexive k) refl
   from-among k d (tree i c low rest) below ys h =
@@ -131,7 +111,7 @@ module _ {K D : Type 0} (same : K → K → Bool) (sound : (a b : K) → same a 
       let h : Forest K D = w.before ▷ tree k w.item w.below w.after in
       let e : without same k f ≡ under same p (w.before ▷ w.after) f = without-under same sound reflexive p k f w a m in
       let km : has same k (children same p f) ≡ true = among-in same sound reflexive k (children same p f) w in
-      let is : branch same k f ≡ tree k w.item w.below empty = ap (λ z. without_siblings z) (from-children p k f a km ∙ (ap (from same k) w.is ∙ from-among k w.item w.before w.below w.after (among-apart same sound reflexive k (children same p f) w (apart_children p f a)))) in
+      let is : branch same k f ≡ tree k w.item w.below empty = ap (λ z. without_siblings z) (from-children same sound reflexive k p f a km ∙ (ap (from same k) w.is ∙ from-among k w.item w.before w.below w.after (among-apart same sound reflexive k (children same p f) w (apart_children p f a)))) in
       record {
         apart = apart_without same sound reflexive k f a;
         there = subst (λ z. has same p z ≡ true) (sym e) (itself_under p (w.before ▷ w.after) f m);
