@@ -34,8 +34,8 @@ module _ (a : Arena inner.Node) (rows next : List Near) (root p : BoxKey) (f : B
     at true e = ap (λ i. with_children c (near_at rows i)) (same_key-sound p k e)
     at false e = refl
 
-  others_row : (row : Near) (k : BoxKey) → Puts rows next p row → has same_key k f ≡ true → in_subtree same_key p k f ≡ false → near_at next k ≡ near_at rows k
-  others_row row k put h u = one_row row put k h ∙ ap (λ b. cond b row (near_at rows k)) (off p k f u)
+  pub others_row : (row : Near) (k : BoxKey) → Puts rows next p row → is_some (linked a k) ≡ true → in_subtree same_key p k f ≡ false → near_at next k ≡ near_at rows k
+  others_row row k put l u = puts_at a rows next p row put (is_live a root f is p there) k l ∙ ap (λ b. cond b row (near_at rows k)) (off p k f u)
 
   -- ---- a branch comes
 
@@ -44,7 +44,7 @@ module _ (a : Arena inner.Node) (rows next : List Near) (root p : BoxKey) (f : B
     rest = λ k. with_children ((g.rest k).children + cond (same_key p k) 1 0) (g.rest k);
     was = λ k h u. above_row ((near_at rows p).children + 1) k put h ∙ came k h u;
     is = λ k h u. g.is k h u;
-    others = λ k h u. others_row (with_children ((near_at rows p).children + 1) (near_at rows p)) k put h u ∙ g.others k h u;
+    others = λ k h u. others_row (with_children ((near_at rows p).children + 1) (near_at rows p)) k put (is_live a root f is k h) u ∙ g.others k h u;
   } where
     came : (k : BoxKey) → has same_key k f ≡ true → in_subtree same_key p k f ≡ true →
         with_children (cond (same_key p k) ((near_at rows p).children + 1) (near_at rows k).children) (near_at rows k) ≡ joined (with_children ((g.rest k).children + cond (same_key p k) 1 0) (g.rest k)) nothing
@@ -63,7 +63,7 @@ module _ (a : Arena inner.Node) (rows next : List Near) (root p : BoxKey) (f : B
     rest = λ k. near_of k f;
     was = λ k h u. above_row ((near_at rows p).children - 1) k put h ∙ went k h u;
     is = λ k h u. same_row (near_of k f) (joined (near_of k f) nothing) refl (omega arith) (sym (hull_near-unit k f));
-    others = λ k h u. others_row (with_children ((near_at rows p).children - 1) (near_at rows p)) k put h u ∙ g.others k h u;
+    others = λ k h u. others_row (with_children ((near_at rows p).children - 1) (near_at rows p)) k put (is_live a root f is k h) u ∙ g.others k h u;
   } where
     went : (k : BoxKey) → has same_key k f ≡ true → in_subtree same_key p k f ≡ true →
         with_children (cond (same_key p k) ((near_at rows p).children - 1) (near_at rows k).children) (near_at rows k) ≡ joined (near_of k f) w
