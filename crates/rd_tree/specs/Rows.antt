@@ -104,3 +104,8 @@ IsFitAt (Some n) = FitsRect n.item.rect × Fits n.item.style
 -- the hull of a box by its own extent and by the rows of its children
 abbrev pub hull_anew_of : Arena inner.Node → List Near → BoxKey → Rectangle
 hull_anew_of a rows k = hull_of (extent_under (linked a k)) (hulls_by rows (seen_from a (onward_of (linked a k)).0))
+
+-- 1 where the node's box is touched
+abbrev pub touched_under : Option (Node BoxKey Item) → ℕ
+touched_under None = 0
+touched_under (Some n) = if n.item.touched then 1 else 0
