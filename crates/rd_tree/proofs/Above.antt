@@ -3,16 +3,17 @@ use Rattle.std.proofs.Common.{◌≡◌, refl, ap, ◌∙◌, sym, subst, ℕ, z
 use Rattle.std.specs.Prelude.{◌==◌, Option, Some, None, option_map, is_some}
 use Rattle.rd_keys.specs.Keys.{same_key}
 use Rattle.rd_keys.specs.Arena.{Arena, Slot, slot_at}
+use Rattle.rd_keys.proofs.Calls.{live_occupied}
 use Rattle.rd_keys.proofs.Keys.{same_key-sound, same_key-refl}
 use Rattle.rd_tree.specs.declared.node.Node as inner
 use Rattle.rd_tree.specs.declared.near.Near.{Near}
 use Rattle.rd_tree.specs.Forest.{empty, tree, has, children, depth, IsApart}
 use Rattle.rd_tree.specs.Links.{Node, Stands, up_of}
 use Rattle.rd_tree.specs.Document.{BoxKey, Item, Boxes}
-use Rattle.rd_tree.specs.Linked.{linked, plain}
+use Rattle.rd_tree.specs.Linked.{linked, plain, IsTree}
 use Rattle.rd_tree.specs.Near.{near_at, is_above}
 use Rattle.rd_tree.specs.Rows.{IsStanding, IsIn, Puts}
-use Rattle.rd_tree.proofs.Standing.{cases, never, from_left, no_children}
+use Rattle.rd_tree.proofs.Standing.{cases, never, from_left, no_children, refute}
 use Rattle.rd_tree.proofs.Children.{stands_children}
 use Rattle.rd_tree.proofs.Climbing.{First, Child, climb, depth_size}
 
@@ -138,3 +139,11 @@ fewer_up a root f is k m =
           let n : from_up a.limit (linked a) (up_of (linked a k)) ≡ depth same_key x.parent f = ap (from_up a.limit (linked a)) x.up_is ∙ from_up_depth a.limit a root f is x.parent x.there (omega (arith, small, x.deep)) in
           omega (arith, n, here, x.deep)
     ]
+
+-- No box outside a forest is above one of it.
+pub off_outside : (o : Option BoxKey) (k : BoxKey) (f : Boxes) → IsIn o f → has same_key k f ≡ false → is_above o k f ≡ false
+off_outside o k f i n = refute (is_above o k f) (λ u. never (has same_key k f) (above_in o k f i u) n)
+
+-- The links of a tree stand for its boxes.
+pub tree_stands : (a : Arena inner.Node) (root : BoxKey) (t : IsTree a root) → IsStanding a root t.boxes
+tree_stands a root t = record { stands = t.is.stands; apart = t.is.apart; small = omega (arith, t.is.counted, live_occupied a, t.most) }

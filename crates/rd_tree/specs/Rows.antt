@@ -115,6 +115,11 @@ IsFitAt (Some n) = FitsRect n.item.rect × Fits n.item.style
 abbrev pub hull_anew_of : Arena inner.Node → List Near → BoxKey → Rectangle
 hull_anew_of a rows k = hull_of (extent_under (linked a k)) (hulls_by rows (seen_from a (onward_of (linked a k)).0))
 
+-- 1 where the node's box is touched
+abbrev pub touched_under : Option (Node BoxKey Item) → ℕ
+touched_under None = 0
+touched_under (Some n) = if n.item.touched then 1 else 0
+
 -- Each of these boxes has the right row.
 abbrev pub IsRight : List Near → Boxes → Type 0
 IsRight rows f = (k : BoxKey) → has same_key k f ≡ true → near_at rows k ≡ near_of k f

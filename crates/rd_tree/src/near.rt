@@ -46,7 +46,7 @@ pub(crate) fn row_at(near: &[Near], key: BoxKey) -> Near
 }
 
 /// Writes the row of a slot that has one.
-fn write(near: &mut Vec<Near>, key: BoxKey, row: Near)
+pub(crate) fn write(near: &mut Vec<Near>, key: BoxKey, row: Near)
     requires { key.slot < length near.old.items }
     ensures rows { Puts near.old.items near.new.items key row }
     ensures same_length { length near.new.items ≡ length near.old.items }
