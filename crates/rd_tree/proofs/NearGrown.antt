@@ -1,6 +1,7 @@
 -- The rows once a new box came in, but for those above it.
-use Rattle.std.proofs.Common.{◌≡◌, refl, ap, ◌∙◌, sym, subst, ℕ, ◌+◌, Bool, true, false, ◌||◌, cond, List, inl, inr, ◌⊎◌}
-use Rattle.std.specs.Prelude.{Option, Some, None, is_some}
+use Rattle.std.proofs.Common.{◌≡◌, refl, ap, ◌∙◌, sym, subst, ℕ, ◌+◌, Bool, true, false, ◌||◌, cond, List, length, ◌≤◌, arith, inl, inr, ◌⊎◌}
+use Rattle.std.specs.Prelude.{Option, Some, None, String, is_some}
+use Rattle.std.specs.HashMap.{HashMap}
 use Rattle.rd_geom.specs.Plane.{hull_of, no_pixels}
 use Rattle.rd_keys.specs.Keys.{same_key}
 use Rattle.rd_keys.specs.Arena.{Arena}
@@ -10,12 +11,15 @@ use Rattle.rd_tree.specs.declared.near.Near.{Near}
 use Rattle.rd_tree.specs.declared.whole.Whole.{Whole}
 use Rattle.rd_tree.specs.Forest.{empty, tree, has, children, in_subtree, IsApart, IsPlaceIn}
 use Rattle.rd_tree.specs.Document.{BoxKey, Item, Boxes, with_child}
-use Rattle.rd_tree.specs.Linked.{linked}
+use Rattle.rd_tree.specs.Linked.{linked, IsTree, IsSound, seen}
 use Rattle.rd_tree.specs.Near.{near_of, near_at, extent}
-use Rattle.rd_tree.specs.Rows.{Puts, IsGaining, IsRight, alone, more, whole_in}
+use Rattle.rd_tree.specs.Rows.{Puts, IsStanding, IsGaining, IsRight, IsNear, CanClimb, alone, touched_box, whole_in}
 use Rattle.rd_tree.proofs.Standing.{cases, never, differs_back}
 use Rattle.rd_tree.proofs.Under.{which}
-use Rattle.rd_tree.proofs.Above.{puts_at}
+use Rattle.rd_tree.proofs.Above.{puts_at, is_live}
+use Rattle.rd_tree.proofs.Looking.{apart_seen}
+use Rattle.rd_tree.proofs.Grow.{GrownTree}
+use Rattle.rd_tree.proofs.TreeRows.{seen_stands, tree_climbs}
 use Rattle.rd_tree.proofs.NearHull.{hull-unit}
 use Rattle.rd_tree.proofs.NearBranch.{hull_near-unit}
 use Rattle.rd_tree.proofs.NearPut.{more_near}
@@ -61,7 +65,7 @@ module _ (a : Arena inner.Node) (p k : BoxKey) (before : Option BoxKey) (d : Ite
 
     stays : (j : BoxKey) → has same_key j f ≡ true → has same_key j g ≡ true → near_at next j ≡ near_at rows j
     stays j h m =
-        let o : same_key k j ≡ false = differs_back same_key same_key-sound same_key-refl g j k m out in
+        let o : same_key k j ≡ false = differs_back same_key same_key-sound same_key-refl g k j out m in
         puts_at a rows next k (alone (hull_of (extent d) no_pixels)) put here j (live j h) ∙ ap (λ b. cond b (alone (hull_of (extent d) no_pixels)) (near_at rows j)) o
 
     new_row : near_at next k ≡ alone (hull_of (extent d) no_pixels)
@@ -70,3 +74,27 @@ module _ (a : Arena inner.Node) (p k : BoxKey) (before : Option BoxKey) (d : Ite
   -- what a new touched box is to those above it
   pub one_whole : d.touched ≡ true → record { touched = 1; hull = hull_of (extent d) no_pixels } ≡ whole_in one
   one_whole t = rw (t, hull-unit (extent d) no_pixels) refl
+
+-- The table of a tree with a new box.
+module _ {Y S : Type 0} (a0 a2 : Arena inner.Node) (root p k : BoxKey) (before : Option BoxKey) (d : Item) (ids : HashMap (String Y) BoxKey S) (rows next : List Near) (w : Whole)
+    (t0 : IsTree a0 root) (s2 : IsSound a2 root ids) (g : GrownTree a0 a2 root p k before d) (there : has same_key p (seen a0 root) ≡ true) (place : IsPlaceIn same_key before (children same_key p (seen a0 root)))
+    (near : IsNear a0 rows (seen a0 root)) (most : length a2.slots ≤ length next) (put : Puts rows next k (alone (hull_of (extent d) no_pixels))) (t : d.touched ≡ true) (e : w ≡ touched_box (hull_of (extent d) no_pixels)) where
+  apart0 : IsApart same_key (seen a0 root)
+  apart0 = apart_seen a0 root t0
+
+  is_in : has same_key p (seen a2 root) ≡ true
+  is_in = ap (has same_key p) g.sees ∙ (has-with_child p before k d (seen a0 root) apart0 there place g.unused p ∙ rw there refl)
+
+  insert_gains : IsGaining next (seen a2 root) p w
+  insert_gains =
+      let st : IsStanding a2 root (seen a2 root) = seen_stands a2 root s2.tree in
+      let live : (j : BoxKey) → has same_key j (with_child p before k d (seen a0 root)) ≡ true → is_some (linked a2 j) ≡ true = λ j h. is_live a2 root (seen a2 root) st j (ap (has same_key j) g.sees ∙ h) in
+      let one : IsGaining next (with_child p before k d (seen a0 root)) p (whole_in (tree k d empty empty)) = grown_gains a2 p k before d (seen a0 root) rows next apart0 there place g.unused live near.right put in
+      let same : whole_in (tree k d empty empty) ≡ w = sym (e ∙ one_whole a2 p k before d (seen a0 root) rows next apart0 there place g.unused t) in
+      subst (λ v. IsGaining next (seen a2 root) p v) same (subst (λ f. IsGaining next f p (whole_in (tree k d empty empty))) (sym g.sees) one)
+
+  pub insert_climbs : CanClimb a2 next p (λ f. IsGaining next f p w)
+  insert_climbs = tree_climbs a2 root p ids next (λ f. IsGaining next f p w) s2 most is_in insert_gains
+
+  pub insert_near : (last : List Near) → ((r : BoxKey) (f : Boxes) → IsStanding a2 r f → has same_key p f ≡ true → IsGaining next f p w → IsRight last f) → length last ≡ length next → IsNear a2 last (seen a2 root)
+  insert_near last right len = record { all_rows = omega (arith, most, len); right = right root (seen a2 root) (seen_stands a2 root s2.tree) is_in insert_gains }
