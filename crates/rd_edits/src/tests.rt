@@ -114,15 +114,46 @@ fn boxes_more(rt: HostRuntime) -> Result<(), Fail> {
     Ok(())
 }
 
+/// Puts these boxes last below these parents.
+fn insert_each<B: Ledger>(
+    rt: &impl Abort,
+    alloc: Global,
+    tree: &mut Tree<B>,
+    rows: &[(&str, &str)],
+) -> Result<(), Fail> {
+    let rect = rect(rt, 7, 7, 2, 2);
+    for (id, parent) in rows {
+        let edit = insertion(alloc, id, parent, None, rect)?;
+        assert_eq!(rt; number(tree, &edit), 0, "{id}");
+    }
+    Ok(())
+}
+
+/// Moves these boxes below these parents, and compares the numbers of the refusals.
+fn move_each<B: Ledger>(
+    rt: &impl Abort,
+    alloc: Global,
+    tree: &mut Tree<B>,
+    rows: &[(&str, &str, Option<&str>, u8)],
+) -> Result<(), Fail> {
+    for (id, parent, before, want) in rows {
+        let edit = movement(alloc, id, parent, *before)?;
+        assert_eq!(rt; number(tree, &edit), *want, "{id} {parent}");
+    }
+    Ok(())
+}
+
 #[test]
 fn boxes_fewer(rt: HostRuntime) -> Result<(), Fail> {
     let alloc = rt.alloc();
     let mut tree = planted::<Brand>(&rt, alloc)?;
     let near = rect(&rt, 7, 7, 2, 2);
-    for (id, parent) in [("A", "root"), ("A1", "A"), ("B", "root")] {
-        let edit = insertion(alloc, id, parent, None, near)?;
-        assert_eq!(rt; number(&mut tree, &edit), 0, "{id}");
-    }
+    insert_each(
+        &rt,
+        alloc,
+        &mut tree,
+        &[("A", "root"), ("A1", "A"), ("B", "root")],
+    )?;
     for (id, want) in [
         ("Z", 1),
         ("root", 3),
@@ -145,12 +176,13 @@ fn boxes_fewer(rt: HostRuntime) -> Result<(), Fail> {
 fn boxes_elsewhere(rt: HostRuntime) -> Result<(), Fail> {
     let alloc = rt.alloc();
     let mut tree = planted::<Brand>(&rt, alloc)?;
-    let near = rect(&rt, 7, 7, 2, 2);
-    for (id, parent) in [("A", "root"), ("A1", "A"), ("B", "root"), ("C", "root")] {
-        let edit = insertion(alloc, id, parent, None, near)?;
-        assert_eq!(rt; number(&mut tree, &edit), 0, "{id}");
-    }
-    for (id, parent, before, want) in [
+    insert_each(
+        &rt,
+        alloc,
+        &mut tree,
+        &[("A", "root"), ("A1", "A"), ("B", "root"), ("C", "root")],
+    )?;
+    let rows = [
         ("Z", "Y", None, 1),
         ("Z", "root", Some("Y"), 1),
         ("A", "Z", Some("Y"), 2),
@@ -170,11 +202,8 @@ fn boxes_elsewhere(rt: HostRuntime) -> Result<(), Fail> {
         ("B", "A1", None, 4),
         ("A1", "root", Some("B"), 0),
         ("B", "A1", None, 0),
-    ] {
-        let edit = movement(alloc, id, parent, before)?;
-        assert_eq!(rt; number(&mut tree, &edit), want, "{id} {parent}");
-    }
-    Ok(())
+    ];
+    move_each(&rt, alloc, &mut tree, &rows)
 }
 
 #[test]
@@ -219,20 +248,31 @@ fn numbered(alloc: Global, number: u32) -> Result<String, NoMemory> {
     format!(in alloc; "d{number}")
 }
 
+/// So many boxes: each below the one before it, or all below the root.
+fn grown<B: Ledger>(
+    rt: &impl Abort,
+    alloc: Global,
+    boxes: u32,
+    deep: bool,
+) -> Result<Tree<B>, Fail> {
+    let mut tree = planted::<B>(rt, alloc)?;
+    let rect = rect(rt, 0, 0, 1, 1);
+    for last in 1..boxes {
+        let parent = numbered(alloc, if deep { last } else { 1 })?;
+        let id = numbered(alloc, last + 1)?;
+        let edit = insertion(alloc, id.as_str(), parent.as_str(), None, rect)?;
+        assert_eq!(rt; number(&mut tree, &edit), 0, "{id}");
+    }
+    Ok(tree)
+}
+
 #[test]
 fn levels_and_boxes(rt: HostRuntime) -> Result<(), Fail> {
     let alloc = rt.alloc();
     for (most, deep, want) in [(256, true, 7), (20_000, false, 8)] {
-        let mut tree = planted::<Brand>(&rt, alloc)?;
-        let rect = rect(&rt, 0, 0, 1, 1);
-        for last in 1..most {
-            let parent = numbered(alloc, if deep { last } else { 1 })?;
-            let id = numbered(alloc, last + 1)?;
-            let edit = insertion(alloc, id.as_str(), parent.as_str(), None, rect)?;
-            assert_eq!(rt; number(&mut tree, &edit), 0, "{id}");
-        }
+        let mut tree = grown::<Brand>(&rt, alloc, most, deep)?;
         let parent = numbered(alloc, if deep { most } else { 1 })?;
-        let edit = insertion(alloc, "x", parent.as_str(), None, rect)?;
+        let edit = insertion(alloc, "x", parent.as_str(), None, rect(&rt, 0, 0, 1, 1))?;
         assert_eq!(rt; number(&mut tree, &edit), want, "{most}");
     }
     Ok(())
@@ -241,19 +281,9 @@ fn levels_and_boxes(rt: HostRuntime) -> Result<(), Fail> {
 #[test]
 fn levels_that_move(rt: HostRuntime) -> Result<(), Fail> {
     let alloc = rt.alloc();
-    let mut tree = planted::<Brand>(&rt, alloc)?;
-    let rect = rect(&rt, 0, 0, 1, 1);
-    for last in 1..256 {
-        let parent = numbered(alloc, last)?;
-        let id = numbered(alloc, last + 1)?;
-        let edit = insertion(alloc, id.as_str(), parent.as_str(), None, rect)?;
-        assert_eq!(rt; number(&mut tree, &edit), 0, "{id}");
-    }
-    for (id, parent) in [("p", "root"), ("q", "p")] {
-        let edit = insertion(alloc, id, parent, None, rect)?;
-        assert_eq!(rt; number(&mut tree, &edit), 0, "{id}");
-    }
-    for (id, parent, before, want) in [
+    let mut tree = grown::<Brand>(&rt, alloc, 256, true)?;
+    insert_each(&rt, alloc, &mut tree, &[("p", "root"), ("q", "p")])?;
+    let rows = [
         ("p", "d256", None, 7),
         ("p", "d255", Some("p"), 5),
         ("p", "d255", Some("d256"), 7),
@@ -261,9 +291,6 @@ fn levels_that_move(rt: HostRuntime) -> Result<(), Fail> {
         ("q", "d256", None, 7),
         ("q", "d255", None, 0),
         ("p", "d255", Some("q"), 0),
-    ] {
-        let edit = movement(alloc, id, parent, before)?;
-        assert_eq!(rt; number(&mut tree, &edit), want, "{id} {parent}");
-    }
-    Ok(())
+    ];
+    move_each(&rt, alloc, &mut tree, &rows)
 }

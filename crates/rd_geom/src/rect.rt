@@ -3,7 +3,6 @@
 ghost use Rattle.std.specs.Prelude.{◌≡◌, ℕ, ℤ, pos, ◌+ℤ◌, ◌-ℤ◌, ◌≤ℤ◌, ◌↔◌, IfSome, IfNone, IsTrue, ◌&&◌, int_le, int_lt, Bool};
 ghost use Rattle.rd_geom.specs.Plane as plane;
 ghost use Rattle.rd_geom.specs.Plane.{Rectangle, common, IsWithin, SharesPixel, around, hull_of, has_none, holds_pixel, right, bottom, IsPlaced, between, int_low, inset_by, grown};
-ghost use Rattle.std.specs.Int.{int_max, int_min};
 
 use std::marker::Model;
 
@@ -154,18 +153,6 @@ fn spanning(left: i32, top: i32, right: i32, bottom: i32) -> Rect
     }
 }
 
-fn larger(a: i32, b: i32) -> i32
-    ensures { result ≡ int_max a b }
-{
-    if b < a { a } else { b }
-}
-
-fn smaller(a: i32, b: i32) -> i32
-    ensures { result ≡ int_min a b }
-{
-    if b < a { b } else { a }
-}
-
 /// The first column right of a rectangle.
 fn right_of(r: Rect) -> i32
     ensures value { result ≡ right r }
@@ -187,10 +174,10 @@ pub fn meet(a: Rect, b: Rect) -> Rect
     ensures value { result ≡ common a b }
     ensures pixels { (x y : ℤ) → holds_pixel result x y ≡ (holds_pixel a x y && holds_pixel b x y) }
 {
-    let left = larger(a.x(), b.x());
-    let top = larger(a.y(), b.y());
-    let right = smaller(right_of(a), right_of(b));
-    let bottom = smaller(bottom_of(a), bottom_of(b));
+    let left = a.x().max(b.x());
+    let top = a.y().max(b.y());
+    let right = right_of(a).min(right_of(b));
+    let bottom = bottom_of(a).min(bottom_of(b));
     spanning(left, top, right, bottom)
 }
 
@@ -221,10 +208,10 @@ pub fn hull(a: Rect, b: Rect) -> Rect
 fn enclosing(a: Rect, b: Rect) -> Rect
     ensures { result ≡ around a b }
 {
-    let left = smaller(a.x(), b.x());
-    let top = smaller(a.y(), b.y());
-    let right = larger(right_of(a), right_of(b));
-    let bottom = larger(bottom_of(a), bottom_of(b));
+    let left = a.x().min(b.x());
+    let top = a.y().min(b.y());
+    let right = right_of(a).max(right_of(b));
+    let bottom = bottom_of(a).max(bottom_of(b));
     spanning(left, top, right, bottom)
 }
 

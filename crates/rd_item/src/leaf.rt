@@ -29,11 +29,5 @@ pub struct Leaf {
 pub fn covers(leaf: &Leaf, x: i32, y: i32) -> bool
     ensures { result ≡ leaves.covers leaf.now x y }
 {
-    if !holds(leaf.shape.outer, x, y) {
-        return false;
-    }
-    if holds(leaf.shape.inner, x, y) {
-        return false;
-    }
-    holds(leaf.visible, x, y)
+    holds(leaf.shape.outer, x, y) && !holds(leaf.shape.inner, x, y) && holds(leaf.visible, x, y)
 }

@@ -1,7 +1,7 @@
 -- A slot is taken and filled.
-use Rattle.std.proofs.Common.{◌≡◌, ◌≢◌, refl, ap, ◌∙◌, sym, ℕ, suc, ◌+◌, ◌<◌, ◌≤◌, ◌==◌, Bool, cond, arith, List, [], ◌∷◌, length, count_by, ◌⊎◌, inl, inr}
+use Rattle.std.proofs.Common.{◌≡◌, ◌≢◌, refl, ap, ◌∙◌, sym, ℕ, suc, ◌+◌, ◌<◌, ◌≤◌, Bool, cond, arith, List, [], ◌∷◌, length, count_by, inl, inr}
 use Rattle.std.specs.Prelude.{Option, Some, None, IsSome, is_some, slice_index, slice_set}
-use Rattle.std.proofs.lemmas.List.{get_or-set_other, get_or-set_same}
+use Rattle.std.proofs.lemmas.List.{get_or-set_other}
 use Rattle.std.proofs.lemmas.List.Sums.{sum_by-set, sum_by-cons}
 use Rattle.std.proofs.Math.ListN.{length-set}
 use Rattle.slab.specs.Slab.{Slab, get, Updates}
@@ -9,20 +9,10 @@ use Rattle.rd_keys.specs.declared.arena.Place as inner
 use Rattle.rd_keys.specs.declared.arena.State.TheVariants.{Free, Held}
 use Rattle.rd_keys.specs.Arena.{live, retired}
 use Rattle.rd_keys.specs.Inside.{unmade_place, place_at, held_place, is_retired, is_held, held_at, seen_slot, seen_slots, IsSound}
-use Rattle.rd_keys.proofs.Slots.{cases}
+use Rattle.rd_keys.proofs.Slots.{at_set, never_some}
 
 abbrev pub bit : Bool → ℕ
 bit b = cond b 1 0
-
--- a slot that changed, and the others
-pub at_set : (slots : List inner.Place) (s : ℕ) (n : inner.Place) (t : ℕ) → s < length slots →
-    ((t ≡ s) × (place_at (slice_set slots s n) t ≡ n)) ⊎ ((t ≢ s) × (place_at (slice_set slots s n) t ≡ place_at slots t))
-at_set slots s n t l = elim (cases (t == s)) [
-  | inl e ↦
-      let is : t ≡ s = grind arith in
-      inl (is, ap (place_at (slice_set slots s n)) is ∙ get_or-set_same slots s n unmade_place l)
-  | inr e ↦ let no : t ≢ s = λ h. grind arith in inr (no, get_or-set_other slots s t n unmade_place no)
-]
 
 module _ {T : Type 0} where
   same_bit : (h : Slab T) (o : Option ℕ) → ((p : ℕ) → o ≡ Some p → IsSome (get h p)) → is_some (held_at h o) ≡ is_some o
@@ -83,22 +73,22 @@ module _ {T : Type 0} where
         free_made = λ i l. rw len (r.free_made i l);
         is_free = λ i l. ap (λ y. y.state) (get_or-set_other slots s (slice_index free i) n unmade_place (r.taken_out i l)) ∙ r.is_free i l;
         free_apart = r.free_apart;
-        holding = λ t q e. elim (at_set slots s n t r.taken_made) [
+        holding = λ t q e. elim (at_set slots s n unmade_place t r.taken_made) [
           | inl a ↦ let f : Some p ≡ Some q = sym (ap (λ y. held_place y.state) a.1) ∙ e in let g : p ≡ q = cc (f) in ap is_some (ap (get h2) (sym g) ∙ u.changed)
           | inr a ↦
               let f : held_place (place_at slots t).state ≡ Some q = sym (ap (λ y. held_place y.state) a.1) ∙ e in
               let i : IsSome (get h1 q) = r.holding t q f in
               ap is_some (u.others q (off q i)) ∙ i
         ];
-        apart = λ a b q e f. elim (at_set slots s n a r.taken_made) [
-          | inl v ↦ elim (at_set slots s n b r.taken_made) [
+        apart = λ a b q e f. elim (at_set slots s n unmade_place a r.taken_made) [
+          | inl v ↦ elim (at_set slots s n unmade_place b r.taken_made) [
             | inl w ↦ v.0 ∙ sym w.0
             | inr w ↦
                 let g : Some p ≡ Some q = sym (ap (λ y. held_place y.state) v.1) ∙ e in
                 let i : IsSome (get h1 q) = r.holding b q (sym (ap (λ y. held_place y.state) w.1) ∙ f) in
                 absurd (off q i (cc (g)))
           ]
-          | inr v ↦ elim (at_set slots s n b r.taken_made) [
+          | inr v ↦ elim (at_set slots s n unmade_place b r.taken_made) [
             | inl w ↦
                 let g : Some p ≡ Some q = sym (ap (λ y. held_place y.state) w.1) ∙ f in
                 let i : IsSome (get h1 q) = r.holding a q (sym (ap (λ y. held_place y.state) v.1) ∙ e) in
@@ -109,10 +99,8 @@ module _ {T : Type 0} where
         live_is = omega (arith, c1, z1, r.live_is);
         retired_is = omega (arith, c2, z2, r.retired_is);
         counted = omega (arith, len, r.counted);
-        from_first = λ t l. elim (at_set slots s n t r.taken_made) [
+        from_first = λ t l. elim (at_set slots s n unmade_place t r.taken_made) [
           | inl a ↦ rw a.1 (r.from_first s r.taken_made)
           | inr a ↦ rw a.1 (r.from_first t (rw len at l))
         ];
-      } where
-        never_some : {o : Option T} → o ≡ None → IsSome o → ⊥
-        never_some e i = cc (ap is_some e, i)
+      }

@@ -1,9 +1,10 @@
 -- A value leaves its slot.
-use Rattle.std.proofs.Common.{◌≡◌, ◌≢◌, refl, ap, ◌∙◌, sym, subst, ℕ, zero, suc, ◌+◌, ◌-◌, ◌<◌, ◌≤◌, ◌==◌, true, false, arith, List, [], ◌∷◌, ◌++◌, length, count_by, ◌⊎◌, inl, inr, length-append}
-use Rattle.std.specs.Prelude.{Option, Some, None, IsSome, is_some, slice_index, slice_set, nat_lt}
+use Rattle.std.proofs.Common.{◌≡◌, ◌≢◌, refl, ap, ◌∙◌, sym, subst, ℕ, ◌+◌, ◌-◌, ◌<◌, ◌≤◌, ◌==◌, true, false, arith, List, [], ◌∷◌, ◌++◌, length, count_by, ◌⊎◌, inl, inr, length-append}
+use Rattle.std.specs.Prelude.{Option, Some, None, IsSome, is_some, slice_index, slice_set}
+use Rattle.std.proofs.lemmas.Bool.{cases_lt}
 use Rattle.std.proofs.lemmas.List.{get_or-set_other, get_or-set_same, get_or_append_left}
 use Rattle.std.proofs.lemmas.List.Sums.{sum_by-set}
-use Rattle.std.proofs.Math.ListN.{length-set}
+use Rattle.std.proofs.Math.ListN.{length-set, get_or-eq_default}
 use Rattle.std.proofs.Math.Seq.{get_or-append_seam}
 use Rattle.slab.specs.Slab.{Slab, get, Updates}
 use Rattle.rd_keys.specs.declared.arena.Place as inner
@@ -11,19 +12,15 @@ use Rattle.rd_keys.specs.declared.arena.State.{State}
 use Rattle.rd_keys.specs.declared.arena.State.TheVariants.{Free, Held, Retired}
 use Rattle.rd_keys.specs.Arena.{Slot, left}
 use Rattle.rd_keys.specs.Inside.{unmade_place, place_at, held_place, is_retired, is_held, placed, seen_slots, IsSound}
-use Rattle.rd_keys.proofs.Slots.{cases, seen_change}
-use Rattle.rd_keys.proofs.Filling.{bit, at_set}
+use Rattle.rd_keys.proofs.Slots.{at_set, seen_change}
+use Rattle.rd_keys.proofs.Filling.{bit}
 
 -- a held slot is made
 pub held_made : (slots : List inner.Place) (s p : ℕ) → held_place (place_at slots s).state ≡ Some p → s < length slots
-held_made slots s p e = elim (cases (nat_lt s (length slots))) [
-  | inl l ↦ grind arith
-  | inr l ↦ absurd (out slots s (grind arith) e)
-] where
-  out : (xs : List inner.Place) (t : ℕ) → length xs ≤ t → held_place (place_at xs t).state ≡ Some p → ⊥
-  out [] t l e = cc (e)
-  out (x ∷ xs) zero l e = omega (arith, l)
-  out (x ∷ xs) (suc t) l e = out xs t (omega (arith, l)) e
+held_made slots s p e = elim (cases_lt s (length slots)) [
+  | inl l ↦ l
+  | inr l ↦ cc (sym (ap (λ y. held_place y.state) (get_or-eq_default slots unmade_place l)) ∙ e)
+]
 
 -- a held slot is not free
 held_busy : (t : State) (p : ℕ) → held_place t ≡ Some p → t ≡ Free → ⊥
@@ -37,19 +34,15 @@ module _ {T : Type 0} (h1 h2 : Slab T) (slots : List inner.Place) (free : List �
   new : List inner.Place
   new = slice_set slots s (placed g t)
 
-  pub some_live : 1 ≤ live
-  some_live =
-      let c : count_by is_held (slice_set slots s (placed g t)) + bit (is_held (place_at slots s)) ≡ count_by is_held slots + bit (is_some (held_place t)) = sum_by-set (λ y. bit (is_held y)) slots s (placed g t) unmade_place made in
-      let a : bit (is_held (place_at slots s)) ≡ 1 = ap (λ o. bit (is_some o)) here in
-      let b : bit (is_some (held_place t)) ≡ 0 = ap (λ o. bit (is_some o)) none in
-      omega (arith, c, a, b, x.live_is)
-
   live_less : live ≡ count_by is_held (slice_set slots s (placed g t)) + 1
   live_less =
       let c : count_by is_held (slice_set slots s (placed g t)) + bit (is_held (place_at slots s)) ≡ count_by is_held slots + bit (is_some (held_place t)) = sum_by-set (λ y. bit (is_held y)) slots s (placed g t) unmade_place made in
       let a : bit (is_held (place_at slots s)) ≡ 1 = ap (λ o. bit (is_some o)) here in
       let b : bit (is_some (held_place t)) ≡ 0 = ap (λ o. bit (is_some o)) none in
       omega (arith, c, a, b, x.live_is)
+
+  pub some_live : 1 ≤ live
+  some_live = omega (arith, live_less)
 
   never : is_retired (place_at slots s).state ≡ false
   never = held_not (place_at slots s).state here where
@@ -65,7 +58,7 @@ module _ {T : Type 0} (h1 h2 : Slab T) (slots : List inner.Place) (free : List �
       omega (arith, c, a, x.retired_is)
 
   old_place : (j q : ℕ) → held_place (place_at (slice_set slots s (placed g t)) j).state ≡ Some q → (j ≢ s) × (held_place (place_at slots j).state ≡ Some q)
-  old_place j q e = elim (at_set slots s (placed g t) j made) [
+  old_place j q e = elim (at_set slots s (placed g t) unmade_place j made) [
     | inl a ↦ let f : None ≡ Some q = sym (ap (λ y. held_place y.state) a.1 ∙ none) ∙ e in cc (f)
     | inr a ↦ (a.0, sym (ap (λ y. held_place y.state) a.1) ∙ e)
   ]
@@ -77,7 +70,7 @@ module _ {T : Type 0} (h1 h2 : Slab T) (slots : List inner.Place) (free : List �
       ap is_some (u.others q n) ∙ x.holding j q o.1
 
   generations : (j : ℕ) → j < length (slice_set slots s (placed g t)) → first ≤ (place_at (slice_set slots s (placed g t)) j).generation
-  generations j l = elim (at_set slots s (placed g t) j made) [
+  generations j l = elim (at_set slots s (placed g t) unmade_place j made) [
     | inl a ↦ rw a.1 later
     | inr a ↦ let len : length (slice_set slots s (placed g t)) ≡ length slots = length-set slots s (placed g t) in rw a.1 (x.from_first j (rw len at l))
   ]
@@ -112,9 +105,9 @@ module _ {T : Type 0} (h1 h2 : Slab T) (slots : List inner.Place) (free : List �
       let last : slice_index (free ++ s ∷ []) (length free) ≡ s = get_or-append_seam free s [] 0 in
       let same : (i : ℕ) → i < length free → slice_index (free ++ s ∷ []) i ≡ slice_index free i = λ i l. get_or_append_left free (s ∷ []) 0 i l in
       let which : (i : ℕ) → i < length (free ++ s ∷ []) → ((i < length free) × (slice_index (free ++ s ∷ []) i ≡ slice_index free i)) ⊎ ((i ≡ length free) × (slice_index (free ++ s ∷ []) i ≡ s)) =
-      λ i l. elim (cases (nat_lt i (length free))) [
-        | inl v ↦ let b : i < length free = grind arith in inl (b, same i b)
-        | inr v ↦ let b : i ≡ length free = grind arith in inr (b, ap (slice_index (free ++ s ∷ [])) b ∙ last)
+      λ i l. elim (cases_lt i (length free)) [
+        | inl b ↦ inl (b, same i b)
+        | inr b ↦ let e : i ≡ length free = omega (arith, n) in inr (e, ap (slice_index (free ++ s ∷ [])) e ∙ last)
       ] in
       record {
         small = x.small;

@@ -1,6 +1,7 @@
 -- What is seen of the slots where one of them changed.
 use Rattle.std.proofs.Common.{◌≡◌, ◌≢◌, refl, ap, ◌∙◌, sym, subst, ℕ, zero, suc, ◌<◌, ◌==◌, Bool, true, false, cond, arith, List, [], ◌∷◌, length, map, ◌⊎◌, inl, inr}
-use Rattle.std.specs.Prelude.{Option, Some, None, IsSome, slice_index_or, slice_set}
+use Rattle.std.specs.Prelude.{Option, Some, None, IsSome, is_some, slice_index_or, slice_set}
+use Rattle.std.proofs.lemmas.Bool.{cases_eq}
 use Rattle.std.proofs.lemmas.List.{get_or-set_other, get_or-set_same, set-get_or}
 use Rattle.std.proofs.lemmas.Grind.{common_steps}
 use Rattle.std.proofs.Math.ListN.{get_or-map}
@@ -9,9 +10,16 @@ use Rattle.rd_keys.specs.declared.arena.Place as inner
 use Rattle.rd_keys.specs.Arena.{Slot, unmade, value_in}
 use Rattle.rd_keys.specs.Inside.{unmade_place, place_at, held_place, is_retired, place_of, held_at, seen_slot, seen_slots, IsSound}
 
-pub cases : (b : Bool) → (b ≡ true) ⊎ (b ≡ false)
-cases true = inl refl
-cases false = inr refl
+-- an element that changed, and the others
+pub at_set : {A : Type 0} (xs : List A) (s : ℕ) (x d : A) (t : ℕ) → s < length xs →
+    ((t ≡ s) × (slice_index_or (slice_set xs s x) t d ≡ x)) ⊎ ((t ≢ s) × (slice_index_or (slice_set xs s x) t d ≡ slice_index_or xs t d))
+at_set xs s x d t l = elim (cases_eq t s) [
+  | inl e ↦ inl (e, ap (λ n. slice_index_or (slice_set xs s x) n d) e ∙ get_or-set_same xs s x d l)
+  | inr n ↦ inr (n, get_or-set_other xs s t x d n)
+]
+
+pub never_some : {A : Type 0} {o : Option A} → o ≡ None → IsSome o → ⊥
+never_some e i = cc (ap is_some e, i)
 
 module _ {A B : Type 0} (f g : A → B) (d : A) where
   map_same : (xs : List A) → ((j : ℕ) → j < length xs → f (slice_index_or xs j d) ≡ g (slice_index_or xs j d)) → map f xs ≡ map g xs
@@ -31,7 +39,7 @@ module _ {A B : Type 0} (f g : A → B) (d : A) where
       let e : f y ≡ g y = h 0 (λ e. omega (arith, e)) (omega arith) in
       rw (e, r) refl
 
-if_some : (b : Bool) (o : Option ℕ) (p : ℕ) → Some p ≡ cond b o None → (b ≡ true) × (o ≡ Some p)
+pub if_some : {A : Type 0} (b : Bool) (o : Option A) (p : A) → Some p ≡ cond b o None → (b ≡ true) × (o ≡ Some p)
 if_some true o p e = (refl, sym e)
 if_some false o p e = cc
 
@@ -47,9 +55,9 @@ module _ {T : Type 0} where
   held_other h1 h2 p v u (Some q) n = u.others q (n q refl)
 
   pub get_updated : (h1 h2 : Slab T) (p : ℕ) (v : Option T) (q : ℕ) → Updates h1 h2 p v → (get h2 q ≡ v) ⊎ (get h2 q ≡ get h1 q)
-  get_updated h1 h2 p v q u = elim (cases (q == p)) [
-    | inl e ↦ let n : q ≡ p = grind arith in inl (ap (get h2) n ∙ u.changed)
-    | inr e ↦ inr (u.others q (λ n. grind arith))
+  get_updated h1 h2 p v q u = elim (cases_eq q p) [
+    | inl e ↦ inl (ap (get h2) e ∙ u.changed)
+    | inr n ↦ inr (u.others q n)
   ]
 
   pub seen_change : (h1 h2 : Slab T) (slots : List inner.Place) (s p : ℕ) (v : Option T) (new : inner.Place) → Updates h1 h2 p v →

@@ -1,32 +1,21 @@
 -- A slot is taken, and what is seen once it is filled.
-use Rattle.std.proofs.Common.{◌≡◌, refl, ap, ◌∙◌, sym, subst, ℕ, suc, ◌||◌, ◌+◌, ◌<◌, ◌≤◌, ◌==◌, true, false, arith, List, [], ◌∷◌, ◌++◌, length, map, count_by, ◌⊎◌, inl, inr, length-append}
+use Rattle.std.proofs.Common.{◌≡◌, refl, ap, ◌∙◌, sym, subst, ℕ, suc, ◌||◌, ◌+◌, ◌<◌, ◌≤◌, true, false, arith, List, [], ◌∷◌, ◌++◌, length, count_by, ◌⊎◌, inl, inr, length-append}
 use Rattle.std.specs.Prelude.{Option, Some, None, IsSome, is_some, slice_index_or, slice_index, slice_set, nat_lt}
 use Rattle.std.specs.Prelude.{Result, Ok, Err, OnOk}
 use Rattle.std.specs.Result.{is_err}
-use Rattle.std.proofs.lemmas.Grind.{common_steps}
-use Rattle.std.proofs.lemmas.List.{get_or_append_left}
+use Rattle.std.proofs.lemmas.List.{get_or_append_left, length-map, map-append}
 use Rattle.std.proofs.lemmas.List.Sums.{sum_by-append, sum_by-cons}
-use Rattle.std.proofs.Math.Seq.{get_or-append_seam}
+use Rattle.std.proofs.Math.Seq.{get_or-append_seam, set-append_seam}
+use Rattle.std.proofs.Math.ListN.{get_or-eq_default}
+use Rattle.std.proofs.lemmas.Bool.{cases_order}
 use Rattle.slab.specs.Slab.{Slab, get, Updates}
 use Rattle.rd_keys.specs.declared.arena.Place as inner
 use Rattle.rd_keys.specs.declared.arena.State.{State}
 use Rattle.rd_keys.specs.declared.arena.State.TheVariants.{Free, Held, Retired}
 use Rattle.rd_keys.specs.Arena.{Arena, Slot, unmade, slot_at, live, retired, occupied, is_taken, IsUsed, with_slot, Enters}
 use Rattle.rd_keys.specs.Inside.{unmade_place, place_at, held_place, is_retired, is_held, held_at, seen_slot, seen_slots, IsSound, Takes}
-use Rattle.rd_keys.proofs.Slots.{cases, seen_at, seen_change}
+use Rattle.rd_keys.proofs.Slots.{never_some, seen_at, seen_change}
 use Rattle.rd_keys.proofs.Filling.{bit, Ready}
-
-set_last : {A : Type 0} (xs : List A) (a b : A) → slice_set (xs ++ a ∷ []) (length xs) b ≡ xs ++ b ∷ []
-set_last [] a b = refl
-set_last (x ∷ xs) a b = ap (λ z. x ∷ z) (set_last xs a b)
-
-map_append : {A B : Type 0} (f : A → B) (xs ys : List A) → map f (xs ++ ys) ≡ map f xs ++ map f ys
-map_append f [] ys = refl
-map_append f (x ∷ xs) ys = ap (λ z. f x ∷ z) (map_append f xs ys)
-
-map_length : {A B : Type 0} (f : A → B) (xs : List A) → length (map f xs) ≡ length xs
-map_length f [] = refl
-map_length f (x ∷ xs) = ap (λ n. suc n) (map_length f xs)
 
 abbrev new_place : ℕ → inner.Place
 new_place first = record { generation = first; state = Free }
@@ -34,12 +23,12 @@ new_place first = record { generation = first; state = Free }
 -- a slot more, and what is in it
 at_more : (slots : List inner.Place) (first t : ℕ) →
     ((t < length slots) × (place_at (slots ++ new_place first ∷ []) t ≡ place_at slots t)) ⊎ (((t ≡ length slots) × (place_at (slots ++ new_place first ∷ []) t ≡ new_place first)) ⊎ ((length slots < t) × (place_at (slots ++ new_place first ∷ []) t ≡ unmade_place)))
-at_more slots first t = elim (cases (nat_lt t (length slots))) [
-  | inl e ↦ let l : t < length slots = grind arith in inl (l, get_or_append_left slots (new_place first ∷ []) unmade_place t l)
-  | inr e ↦ elim (cases (t == length slots)) [
-    | inl f ↦ let n : t ≡ length slots = grind arith in inr (inl (n, ap (place_at (slots ++ new_place first ∷ [])) n ∙ get_or-append_seam slots (new_place first) [] unmade_place))
-    | inr f ↦ let l : length slots < t = grind arith in inr (inr (l, grind (arith, common_steps)))
-  ]
+at_more slots first t = elim (cases_order t (length slots)) [
+  | inl e ↦ inr (inl (e, ap (place_at (slots ++ new_place first ∷ [])) e ∙ get_or-append_seam slots (new_place first) [] unmade_place))
+  | inr (inl l) ↦ inl (l, get_or_append_left slots (new_place first ∷ []) unmade_place t l)
+  | inr (inr l) ↦
+      let n : length (slots ++ new_place first ∷ []) ≡ length slots + 1 = length-append slots (new_place first ∷ []) in
+      inr (inr (l, get_or-eq_default (slots ++ new_place first ∷ []) unmade_place (omega (arith, n))))
 ]
 
 module _ {T : Type 0} where
@@ -128,9 +117,6 @@ module _ {T : Type 0} where
       let c : seen_slots h2 (slice_set slots s n) ≡ slice_set (seen_slots h1 slots) s y =
       seen_change h1 h2 slots s p (Some x) n u (λ j q _ e f. never_some (ap (get h1) f ∙ none) (r.holding j q e)) ∙ ap (slice_set (seen_slots h1 slots) s) is in
       at t c where
-        never_some : {o : Option T} → o ≡ None → IsSome o → ⊥
-        never_some e i = cc (ap is_some e, i)
-
         at : Takes first slots0 free0 slots free s →
             seen_slots h2 (slice_set slots s (record { generation = (place_at slots s).generation; state = Held p })) ≡ slice_set (seen_slots h1 slots) s (record { generation = (place_at slots s).generation; holds = Some x; retired = false }) →
             Enters (record { slots = seen_slots h1 slots0; first = first; limit = limit }) (record { slots = seen_slots h2 (slice_set slots s (record { generation = (place_at slots s).generation; state = Held p })); first = first; limit = limit }) s (place_at slots s).generation x
@@ -138,7 +124,7 @@ module _ {T : Type 0} where
             let arena : List (Slot T) → Arena T = λ l. record { slots = l; first = first; limit = limit } in
             let g : ℕ = (place_at slots s).generation in
             let y : Slot T = record { generation = g; holds = Some x; retired = false } in
-            let len : length (seen_slots h1 slots0) ≡ length slots = map_length (seen_slot h1) slots0 ∙ ap length (sym v.1) in
+            let len : length (seen_slots h1 slots0) ≡ length slots = length-map slots0 (seen_slot h1) ∙ ap length (sym v.1) in
             let below : s < length (seen_slots h1 slots0) = omega (arith, len, r.taken_made) in
             let of_state : State → Slot T = λ t. record { generation = g; holds = held_at h1 (held_place t); retired = is_retired t } in
             let was : slice_index_or (seen_slots h1 slots0) s unmade ≡ record { generation = g; holds = None; retired = false } =
@@ -150,13 +136,13 @@ module _ {T : Type 0} where
             let arena : List (Slot T) → Arena T = λ l. record { slots = l; first = first; limit = limit } in
             let g : ℕ = (place_at slots s).generation in
             let y : Slot T = record { generation = g; holds = Some x; retired = false } in
-            let len : length (seen_slots h1 slots0) ≡ length slots0 = map_length (seen_slot h1) slots0 in
+            let len : length (seen_slots h1 slots0) ≡ length slots0 = length-map slots0 (seen_slot h1) in
             let end : s ≡ length (seen_slots h1 slots0) = v.3 ∙ sym len in
             let test : nat_lt s (length (seen_slots h1 slots0)) ≡ false = grind arith in
             let gen : g ≡ first = ap (λ l. (place_at l s).generation) v.2 ∙ (ap (λ n. (place_at (slots0 ++ new_place first ∷ []) n).generation) v.3 ∙ ap (λ q. q.generation) (get_or-append_seam slots0 (new_place first) [] unmade_place)) in
-            let more : seen_slots h1 slots ≡ seen_slots h1 slots0 ++ seen_slot h1 (new_place first) ∷ [] = ap (seen_slots h1) v.2 ∙ map_append (seen_slot h1) slots0 (new_place first ∷ []) in
+            let more : seen_slots h1 slots ≡ seen_slots h1 slots0 ++ seen_slot h1 (new_place first) ∷ [] = ap (seen_slots h1) v.2 ∙ map-append (seen_slot h1) slots0 (new_place first ∷ []) in
             let one : slice_set (seen_slots h1 slots) s y ≡ seen_slots h1 slots0 ++ y ∷ [] =
-            ap (λ l. slice_set l s y) more ∙ (ap (λ n. slice_set (seen_slots h1 slots0 ++ seen_slot h1 (new_place first) ∷ []) n y) end ∙ set_last (seen_slots h1 slots0) (seen_slot h1 (new_place first)) y) in
+            ap (λ l. slice_set l s y) more ∙ (ap (λ n. slice_set (seen_slots h1 slots0 ++ seen_slot h1 (new_place first) ∷ []) n y) end ∙ set-append_seam (seen_slots h1 slots0) (seen_slot h1 (new_place first)) [] y) in
             let two : seen_slots h1 slots0 ++ y ∷ [] ≡ with_slot (seen_slots h1 slots0) s y = rw test refl in
             record { place = inr (end, gen); result = ap arena (c ∙ (one ∙ two)) }
 

@@ -1,12 +1,14 @@
+//! The slots and generations of keys, by hand.
+
 use super::*;
 
 #[test]
 fn the_last_generation_is_retired(rt: HostRuntime) {
-    let mut arena: Arena<u8, BoxMark> = Arena::starting_at(rt.alloc(), 2, 4294967295);
+    let mut arena: Arena<u8, BoxMark> = Arena::starting_at(rt.alloc(), 2, u32::MAX);
     let Ok(first) = arena.insert(10) else {
         panic!(&rt; "no memory")
     };
-    assert_eq!(rt; first.generation, 4294967295);
+    assert_eq!(rt; first.generation, u32::MAX);
     assert_eq!(rt; arena.remove(first), Some(10));
     assert_eq!(rt; arena.retired(), 1);
     assert_eq!(rt; arena.live(), 0);

@@ -1,13 +1,13 @@
 -- Boxes stay apart where some are put among them.
-use Rattle.std.proofs.Common.{◌≡◌, refl, ◌∙◌, sym, subst, Bool, true, false, ◌||◌, cond, Option, Some, None, inl, inr}
+use Rattle.std.proofs.Common.{◌≡◌, refl, ◌∙◌, sym, subst, true, false, ◌||◌, cond, Option, Some, None, inl, inr}
 use Rattle.rd_keys.specs.Keys.{same_key}
 use Rattle.rd_keys.proofs.Keys.{same_key-sound, same_key-refl}
 use Rattle.rd_tree.specs.declared.node.Item.{Item}
 use Rattle.rd_tree.specs.Document.{BoxKey, Boxes, with_child}
-use Rattle.rd_tree.specs.Forest.{empty, tree, has, from, children, under, amid, ahead, without, without_siblings, branch, in_subtree, at_subtree, ◌▷◌, AreApart, IsApart}
+use Rattle.rd_tree.specs.Forest.{empty, tree, has, from, children, under, amid, without, without_siblings, branch, in_subtree, at_subtree, ◌▷◌, AreApart, IsApart}
 use Rattle.rd_tree.specs.Works.{touch}
 use Rattle.rd_tree.specs.Edits.{moved}
-use Rattle.rd_tree.proofs.Standing.{cases, either, from_left, from_right, join-empty, has-join, out_of_children, differs_back}
+use Rattle.rd_tree.proofs.Standing.{cases, either, join-empty, has-join, out_of_children, differs_back}
 use Rattle.rd_tree.proofs.Under.{no_under, apart_under, apart_join}
 use Rattle.rd_tree.proofs.Cutting.{in_children}
 use Rattle.rd_tree.proofs.Placing.{Joined, joined}

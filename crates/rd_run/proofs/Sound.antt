@@ -1,11 +1,9 @@
 -- Trees stay sound: each key at one place, on the same canvas.
-use Rattle.std.proofs.Common.{◌≡◌, refl, ap, ◌∙◌, sym, subst, ℕ, ◌+◌, ◌≤◌, ◌<◌, Bool, true, false, ◌&&◌, ◌||◌, cond, Option, Some, None, List, [], ◌∷◌, length, arith, inl, inr, ◌⊎◌}
-use Rattle.std.specs.Prelude.{is_none, ◌==◌, Result, Ok, Err, IfOk}
-use Rattle.rd_geom.specs.Canvas.{IsCanvas}
+use Rattle.std.proofs.Common.{◌≡◌, refl, ap, ◌∙◌, sym, subst, ℕ, ◌+◌, ◌<◌, Bool, true, false, ◌&&◌, ◌||◌, Option, Some, None, List, [], ◌∷◌, length, arith}
+use Rattle.std.specs.Prelude.{is_none, Result, Ok, Err, IfOk}
 use Rattle.rd_keys.specs.Keys.{BoxKey, same_key}
 use Rattle.rd_keys.proofs.Keys.{same_key-sound, same_key-refl}
-use Rattle.rd_style.specs.declared.styles.StyleChange.{StyleChange}
-use Rattle.rd_tree.specs.Document.{Document, Boxes, IsUsed, named}
+use Rattle.rd_tree.specs.Document.{Document, Boxes, named}
 use Rattle.rd_tree.specs.Forest.{empty, tree, has, in_subtree, at_subtree, IsApart}
 use Rattle.rd_tree.specs.Works.{settled, move_by}
 use Rattle.rd_tree.specs.Edits.{restyled, replaced}

@@ -10,6 +10,7 @@ mod status;
 mod words;
 
 pub use program::run;
+pub use status::Status;
 
 #[cfg(test)]
 mod tests;

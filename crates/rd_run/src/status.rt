@@ -5,7 +5,7 @@ ghost use Rattle.rd_run.specs.Endings as ends;
 
 /// The end of a run.
 #[derive(Clone, Copy, Debug, PartialEq, Eq)]
-pub(crate) enum Status {
+pub enum Status {
     /// The whole text was written.
     Done,
     /// The words are of no form.

@@ -266,6 +266,12 @@ fn edits_of_the_form(rt: HostRuntime) -> Result<(), Fail> {
     };
     assert_eq!(rt; id.text(), "a");
     assert_eq!(rt; (*dx, *dy), (3, -2));
+    Ok(())
+}
+
+#[test]
+fn a_move_and_a_removal(rt: HostRuntime) -> Result<(), Fail> {
+    let alloc = rt.alloc();
     let text = script(
         alloc,
         CANVAS,
