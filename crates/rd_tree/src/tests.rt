@@ -71,7 +71,8 @@ fn build<B: Ledger>(rt: &impl Abort, alloc: Global, looks: &mut Steps<B>) -> Res
         None => panic!(rt; "the root is gone"),
     }
     remove_two(rt, alloc, &mut tree, looks)?;
-    move_two(rt, alloc, &mut tree, looks)
+    move_two(rt, alloc, &mut tree, looks)?;
+    near_three(rt, alloc, &mut tree, looks)
 }
 
 /// The box with this id.
@@ -204,6 +205,66 @@ fn move_two<B: Ledger>(
     shows(rt, tree, looks, root, Some(second), None);
     shows(rt, tree, looks, second, Some(first), None);
     shows(rt, tree, looks, first, None, None);
+    Ok(())
+}
+
+/// A look at the box tells so many children, this hull, and whether a box below it was touched.
+fn is_near<B: Ledger>(
+    rt: &impl Abort,
+    tree: &Tree<B>,
+    looks: &mut Steps<B>,
+    key: BoxKey,
+    children: u32,
+    hull: [i32; 4],
+    touched_below: bool,
+) {
+    match tree.look(key, looks) {
+        Some(view) => {
+            assert_eq!(rt; view.children, children);
+            assert!(rt; view.hull == rect_of(rt, hull));
+            assert_eq!(rt; view.touched_below, touched_below);
+        }
+        None => panic!(rt; "the box is gone"),
+    }
+}
+
+/// The box with this id gets another rectangle.
+fn lay<B: Ledger>(rt: &impl Abort, tree: &mut Tree<B>, id: &Id, rect: [i32; 4]) {
+    let key = box_of(rt, tree, id);
+    let rect = rect_of(rt, rect);
+    assert!(rt; fits_rect(rect));
+    tree.place(key, rect);
+}
+
+/// From the root over B to A: what looks tell once A is moved, laid elsewhere and removed.
+fn near_three<B: Ledger>(
+    rt: &impl Abort,
+    alloc: Global,
+    tree: &mut Tree<B>,
+    looks: &mut Steps<B>,
+) -> Result<(), Fail> {
+    let top = Id::new(alloc, "root")?;
+    let a = Id::new(alloc, "A")?;
+    let b = Id::new(alloc, "B")?;
+    let root = box_of(rt, tree, &top);
+    let upper = box_of(rt, tree, &b);
+    let lower = box_of(rt, tree, &a);
+    is_near(rt, tree, looks, root, 1, [0, 0, 10, 10], true);
+    is_near(rt, tree, looks, upper, 1, [0, 0, 10, 10], true);
+    is_near(rt, tree, looks, lower, 0, [0, 0, 10, 10], false);
+    tree.settle();
+    is_near(rt, tree, looks, root, 1, [0, 0, 10, 10], false);
+    lay(rt, tree, &a, [20, 5, 10, 10]);
+    is_near(rt, tree, looks, root, 1, [0, 0, 30, 15], true);
+    is_near(rt, tree, looks, upper, 1, [0, 0, 30, 15], true);
+    is_near(rt, tree, looks, lower, 0, [20, 5, 10, 10], false);
+    lay(rt, tree, &a, [12, 5, 2, 2]);
+    is_near(rt, tree, looks, root, 1, [0, 0, 14, 10], true);
+    move_last(rt, tree, &a, &top);
+    is_near(rt, tree, looks, root, 2, [0, 0, 14, 10], true);
+    is_near(rt, tree, looks, upper, 0, [0, 0, 10, 10], false);
+    take(rt, tree, &a);
+    is_near(rt, tree, looks, root, 1, [0, 0, 10, 10], false);
     Ok(())
 }
 
