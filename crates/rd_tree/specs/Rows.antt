@@ -13,7 +13,7 @@ use Rattle.rd_tree.specs.Document.{BoxKey, Item, Boxes, AllFit}
 use Rattle.std.specs.HashMap.{HashMap}
 use Rattle.std.specs.Prelude.{String}
 use Rattle.rd_tree.specs.Linked.{linked, seen, seen_from, IsSound}
-use Rattle.rd_tree.specs.Near.{near_of, near_at, is_above, extent}
+use Rattle.rd_tree.specs.Near.{near_of, near_at, is_above, extent, touched_in, hull_in}
 
 -- The row of k is this one, and those of all other slots are as they were.
 abbrev pub Puts : List Near → List Near → BoxKey → Near → Type 0
@@ -150,6 +150,14 @@ pub record CanSwap (a : Arena inner.Node) (rows : List Near) (from : Option BoxK
 -- no branch at all
 abbrev pub nothing : Whole
 nothing = record { touched = 0; hull = no_pixels }
+
+-- a touched box by itself, whose hull this is
+abbrev pub touched_box : Rectangle → Whole
+touched_box r = record { touched = 1; hull = r }
+
+-- what some boxes, with all below them, are to those above them
+abbrev pub whole_in : Boxes → Whole
+whole_in f = record { touched = touched_in f; hull = hull_in f }
 
 -- once a branch is a child of it, or stands deeper below it
 abbrev pub more : Bool → Near → Whole → Near

@@ -46,6 +46,13 @@ fn nothing() -> Whole
     }
 }
 
+/// A touched box by itself, whose hull this is.
+pub(crate) fn touched_box(hull: Rect) -> Whole
+    ensures { result ≡ rows.touched_box hull }
+{
+    Whole { touched: 1, hull }
+}
+
 /// A branch is a new child of a box.
 pub(crate) fn gain(
     near: &mut Vec<Near>,

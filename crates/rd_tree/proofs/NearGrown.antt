@@ -1,0 +1,72 @@
+-- The rows once a new box came in, but for those above it.
+use Rattle.std.proofs.Common.{◌≡◌, refl, ap, ◌∙◌, sym, subst, ℕ, ◌+◌, Bool, true, false, ◌||◌, cond, List, inl, inr, ◌⊎◌}
+use Rattle.std.specs.Prelude.{Option, Some, None, is_some}
+use Rattle.rd_geom.specs.Plane.{hull_of, no_pixels}
+use Rattle.rd_keys.specs.Keys.{same_key}
+use Rattle.rd_keys.specs.Arena.{Arena}
+use Rattle.rd_keys.proofs.Keys.{same_key-sound, same_key-refl}
+use Rattle.rd_tree.specs.declared.node.Node as inner
+use Rattle.rd_tree.specs.declared.near.Near.{Near}
+use Rattle.rd_tree.specs.declared.whole.Whole.{Whole}
+use Rattle.rd_tree.specs.Forest.{empty, tree, has, children, in_subtree, IsApart, IsPlaceIn}
+use Rattle.rd_tree.specs.Document.{BoxKey, Item, Boxes, with_child}
+use Rattle.rd_tree.specs.Linked.{linked}
+use Rattle.rd_tree.specs.Near.{near_of, near_at, extent}
+use Rattle.rd_tree.specs.Rows.{Puts, IsGaining, IsRight, alone, more, whole_in}
+use Rattle.rd_tree.proofs.Standing.{cases, never, differs_back}
+use Rattle.rd_tree.proofs.Under.{which}
+use Rattle.rd_tree.proofs.Above.{puts_at}
+use Rattle.rd_tree.proofs.NearHull.{hull-unit}
+use Rattle.rd_tree.proofs.NearBranch.{hull_near-unit}
+use Rattle.rd_tree.proofs.NearPut.{more_near}
+use Rattle.rd_tree.proofs.NearPlaced.{near-with_child, near-child, subtree-with_child, has-with_child, not_above_child}
+
+module _ (a : Arena inner.Node) (p k : BoxKey) (before : Option BoxKey) (d : Item) (g : Boxes) (rows next : List Near) (apart : IsApart same_key g) (there : has same_key p g ≡ true)
+    (place : IsPlaceIn same_key before (children same_key p g)) (out : has same_key k g ≡ false) where
+  abbrev f : Boxes
+  f = with_child p before k d g
+
+  abbrev one : Boxes
+  one = tree k d empty empty
+
+  pub grown_gains : ((j : BoxKey) → has same_key j f ≡ true → is_some (linked a j) ≡ true) → IsRight rows g → Puts rows next k (alone (hull_of (extent d) no_pixels)) → IsGaining next f p (whole_in one)
+  grown_gains live right put = record {
+    rest = λ j. near_of j g;
+    plain = λ j. hull_near-unit j g;
+    was = λ j h u. elim (old_or_new j h) [
+      | inl m ↦ stays j h m ∙ right j m
+      | inr e ↦ absurd (never (in_subtree same_key p j f) u (subst (λ i. in_subtree same_key p i f ≡ false) (sym e) (not_above_child p before k d g apart there place out p there)))
+    ];
+    is = λ j h u. elim (old_or_new j h) [
+      | inl m ↦
+          let v : in_subtree same_key p j g ≡ true = sym (subtree-with_child p before k d g apart there place out p j m far) ∙ u in
+          near-with_child p before k d g apart there place out j m ∙ ap (λ b. cond b (more_near (same_key p j) one (near_of j g)) (near_of j g)) v
+      | inr e ↦ absurd (never (in_subtree same_key p j f) u (subst (λ i. in_subtree same_key p i f ≡ false) (sym e) (not_above_child p before k d g apart there place out p there)))
+    ];
+    others = λ j h u. elim (old_or_new j h) [
+      | inl m ↦
+          let v : in_subtree same_key p j g ≡ false = sym (subtree-with_child p before k d g apart there place out p j m far) ∙ u in
+          stays j h m ∙ (right j m ∙ sym (near-with_child p before k d g apart there place out j m ∙ ap (λ b. cond b (more_near (same_key p j) one (near_of j g)) (near_of j g)) v))
+      | inr e ↦ subst (λ i. near_at next i ≡ near_of i f) (sym e) (new_row ∙ sym (near-child p before k d g apart there place out))
+    ];
+  } where
+    far : same_key p k ≡ false
+    far = elim (cases (same_key p k)) [ inl e ↦ absurd (never (has same_key p g) there (ap (λ i. has same_key i g) (same_key-sound p k e) ∙ out)) | inr e ↦ e ]
+
+    old_or_new : (j : BoxKey) → has same_key j f ≡ true → (has same_key j g ≡ true) ⊎ (j ≡ k)
+    old_or_new j h = elim (which (has same_key j g) (same_key j k) (sym (has-with_child p before k d g apart there place out j) ∙ h)) [ inl m ↦ inl m | inr e ↦ inr (same_key-sound j k e) ]
+
+    here : is_some (linked a k) ≡ true
+    here = live k (has-with_child p before k d g apart there place out k ∙ rw (out, same_key-refl k) refl)
+
+    stays : (j : BoxKey) → has same_key j f ≡ true → has same_key j g ≡ true → near_at next j ≡ near_at rows j
+    stays j h m =
+        let o : same_key k j ≡ false = differs_back same_key same_key-sound same_key-refl g j k m out in
+        puts_at a rows next k (alone (hull_of (extent d) no_pixels)) put here j (live j h) ∙ ap (λ b. cond b (alone (hull_of (extent d) no_pixels)) (near_at rows j)) o
+
+    new_row : near_at next k ≡ alone (hull_of (extent d) no_pixels)
+    new_row = puts_at a rows next k (alone (hull_of (extent d) no_pixels)) put here k here ∙ ap (λ b. cond b (alone (hull_of (extent d) no_pixels)) (near_at rows k)) (same_key-refl k)
+
+  -- what a new touched box is to those above it
+  pub one_whole : d.touched ≡ true → record { touched = 1; hull = hull_of (extent d) no_pixels } ≡ whole_in one
+  one_whole t = rw (t, hull-unit (extent d) no_pixels) refl

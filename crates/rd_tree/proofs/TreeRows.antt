@@ -1,0 +1,37 @@
+-- What a tree gives to those who keep its table.
+use Rattle.std.proofs.Common.{◌≡◌, refl, ap, sym, subst, ◌<◌, ◌≤◌, true, arith, List, length}
+use Rattle.std.specs.Prelude.{Option, Some, None, String, is_some, option_map}
+use Rattle.std.specs.HashMap.{HashMap}
+use Rattle.rd_keys.specs.Keys.{same_key}
+use Rattle.rd_keys.specs.Arena.{Arena, value}
+use Rattle.rd_keys.proofs.Calls.{live_within}
+use Rattle.rd_tree.specs.declared.node.Node as inner
+use Rattle.rd_tree.specs.declared.near.Near.{Near}
+use Rattle.rd_tree.specs.Forest.{has}
+use Rattle.rd_tree.specs.Document.{BoxKey, Boxes}
+use Rattle.rd_tree.specs.Linked.{plain, linked, IsTree, IsSound, seen}
+use Rattle.rd_tree.specs.Rows.{IsStanding, HasRows, CanClimb}
+use Rattle.rd_tree.proofs.Grow.{seen_is}
+use Rattle.rd_tree.proofs.Naming.{fits_seen}
+use Rattle.rd_tree.proofs.Above.{is_live, tree_stands}
+
+pub seen_stands : (a : Arena inner.Node) (root : BoxKey) → IsTree a root → IsStanding a root (seen a root)
+seen_stands a root t = subst (λ f. IsStanding a root f) (sym (seen_is a root t)) (tree_stands a root t)
+
+-- The slot of a live key was made.
+slot_made : (a : Arena inner.Node) (k : BoxKey) → is_some (linked a k) ≡ true → k.slot < length a.slots
+slot_made a k h = at (value a k.slot k.generation) refl where
+  at : (o : Option inner.Node) → value a k.slot k.generation ≡ o → k.slot < length a.slots
+  at None e = let n : is_some (option_map plain None) ≡ true = subst (λ o. is_some (option_map plain o) ≡ true) e h in cc (n)
+  at (Some x) e = live_within a k.slot k.generation x e
+
+-- Each box that the links stand for has a row, where each slot has one.
+pub each_has_row : (a : Arena inner.Node) (root : BoxKey) (f : Boxes) (rows : List Near) → IsStanding a root f → length a.slots ≤ length rows → HasRows rows f
+each_has_row a root f rows s most k h = let l = slot_made a k (is_live a root f s k h) in omega (arith, l, most)
+
+-- The rows above a box of a tree can be changed.
+pub tree_climbs : {Y S : Type 0} (a : Arena inner.Node) (root p : BoxKey) (ids : HashMap (String Y) BoxKey S) (rows : List Near) (Q : Boxes → Type 0) → IsSound a root ids → length a.slots ≤ length rows →
+    has same_key p (seen a root) ≡ true → Q (seen a root) → CanClimb a rows p Q
+tree_climbs a root p ids rows Q s most m q =
+    let st : IsStanding a root (seen a root) = seen_stands a root s.tree in
+    record { root = root; boxes = seen a root; is = st; there = m; has_rows = each_has_row a root (seen a root) rows st most; fits = fits_seen a root ids s; few = s.limit; ready = q }
