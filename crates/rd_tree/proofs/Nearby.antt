@@ -127,18 +127,23 @@ module _ (a : Arena inner.Node) (root : BoxKey) (f : Boxes) (is : IsStanding a r
   below_rows rows h j u = h j (in_children same_key same_key-sound same_key-refl j k f (sym (ap (has same_key j) below_seen) ∙ u))
 
   -- What the rows of the children tell of a box.
-  pub anew_is : (rows : List Near) → ((j : BoxKey) → has same_key j f ≡ true → is_above (Some k) j f ≡ false → (near_at rows j).hull ≡ (near_of j f).hull) → hull_anew_of a rows k ≡ (near_of k f).hull
-  anew_is rows w =
+  pub anew_below : (rows : List Near) → ((j : BoxKey) → has same_key j (children same_key k f) ≡ true → (near_at rows j).hull ≡ (near_of j f).hull) → hull_anew_of a rows k ≡ (near_of k f).hull
+  anew_below rows w =
       let b : Begins k node_of.0 (from same_key k f) = begins same_key same_key-sound same_key-refl (linked a) None None f (Some root) (Some root) k node_of.0 is.apart is.stands m node_of.1 in
       let low : b.below ≡ children same_key k f = sym (children-from same_key same_key-sound same_key-refl k f is.apart m ∙ ap below_first b.is) in
-      let right : hulls_by rows (children same_key k f) ≡ hull_in (children same_key k f) = hulls_right rows (children same_key k f) node_of.3 (λ j u.
-      let i : has same_key j f ≡ true = in_children same_key same_key-sound same_key-refl j k f u in
-      let off : has same_key k (children same_key j f) ≡ false = not_round same_key same_key-sound same_key-refl j k f is.apart node_of.3 node_of.4 u in
-      let n : same_key k j ≡ false = elim (cases (same_key k j)) [ inl e ↦ absurd (never (has same_key k (children same_key k f)) (subst (λ x. has same_key x (children same_key k f) ≡ true) (sym (same_key-sound k j e)) u) node_of.4) | inr e ↦ e ] in
-      let above : is_above (Some k) j f ≡ false = ap (λ b. b || has same_key k (children same_key j f)) n ∙ off in
-      w j i above ∙ ap (λ g. (near_first g).hull) (from-children same_key same_key-sound same_key-refl j k f is.apart u)) in
+      let right : hulls_by rows (children same_key k f) ≡ hull_in (children same_key k f) = hulls_right rows (children same_key k f) node_of.3 (λ j u. w j u ∙ ap (λ g. (near_first g).hull) (from-children same_key same_key-sound same_key-refl j k f is.apart u)) in
       ap (λ o. hull_of (extent_under o) (hulls_by rows (seen_from a (onward_of (linked a k)).0))) node_of.1
       ∙ (ap (λ g. hull_of (extent node_of.0.item) (hulls_by rows g)) below_seen
       ∙ (ap (hull_of (extent node_of.0.item)) right
       ∙ (ap (λ g. hull_of (extent node_of.0.item) (hull_in g)) (sym low)
       ∙ sym (ap (λ g. (near_first g).hull) b.is))))
+
+  -- No box below it has it below.
+  pub off_below : (j : BoxKey) → has same_key j (children same_key k f) ≡ true → is_above (Some k) j f ≡ false
+  off_below j u =
+      let off : has same_key k (children same_key j f) ≡ false = not_round same_key same_key-sound same_key-refl j k f is.apart node_of.3 node_of.4 u in
+      let n : same_key k j ≡ false = elim (cases (same_key k j)) [ inl e ↦ absurd (never (has same_key k (children same_key k f)) (subst (λ x. has same_key x (children same_key k f) ≡ true) (sym (same_key-sound k j e)) u) node_of.4) | inr e ↦ e ] in
+      ap (λ b. b || has same_key k (children same_key j f)) n ∙ off
+
+  pub anew_is : (rows : List Near) → ((j : BoxKey) → has same_key j f ≡ true → is_above (Some k) j f ≡ false → (near_at rows j).hull ≡ (near_of j f).hull) → hull_anew_of a rows k ≡ (near_of k f).hull
+  anew_is rows w = anew_below rows (λ j u. w j (in_children same_key same_key-sound same_key-refl j k f u) (off_below j u))

@@ -36,7 +36,7 @@ impl Gathered {
 }
 
 /// 1 where the box is touched, and else 0.
-fn touched_at(nodes: &Arena<Node, BoxMark>, key: BoxKey) -> u32
+pub(crate) fn touched_at(nodes: &Arena<Node, BoxMark>, key: BoxKey) -> u32
     ensures { result ≡ touched_under (linked nodes.now key) }
 {
     match nodes.get(key) {
@@ -46,7 +46,7 @@ fn touched_at(nodes: &Arena<Node, BoxMark>, key: BoxKey) -> u32
 }
 
 /// The row of a box with these below it.
-fn row_of(nodes: &Arena<Node, BoxMark>, key: BoxKey, below: &Gathered) -> Near
+pub(crate) fn row_of(nodes: &Arena<Node, BoxMark>, key: BoxKey, below: &Gathered) -> Near
     requires { IsFitAt (linked nodes.now key) }
     ensures { result ≡ row_over (extent_under (linked nodes.now key)) below.now }
 {

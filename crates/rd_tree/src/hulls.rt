@@ -99,7 +99,7 @@ fn hull_from(near: &[Near], nodes: &Arena<Node, BoxMark>, first: Option<BoxKey>)
 }
 
 /// The hull of a box by its own extent and by the rows of its children.
-fn hull_anew(near: &[Near], nodes: &Arena<Node, BoxMark>, key: BoxKey) -> Rect
+pub(crate) fn hull_anew(near: &[Near], nodes: &Arena<Node, BoxMark>, key: BoxKey) -> Rect
     requires fits { IsFitAt (linked nodes.now key) }
     requires read { IsRead nodes.now (onward_of (linked nodes.now key)).0 }
     requires rows { HasRows near.now (seen_from nodes.now (onward_of (linked nodes.now key)).0) }

@@ -1,0 +1,91 @@
+-- The rows of a branch once its items have changed.
+use Rattle.std.proofs.Common.{◌≡◌, refl, ap, ◌∙◌, sym, subst, ℕ, ◌+◌, ◌<◌, ◌≤◌, Bool, true, false, ◌||◌, cond, List, length, arith, inl, inr}
+use Rattle.std.specs.Prelude.{Option, Some, None, is_some}
+use Rattle.rd_geom.specs.Plane.{Rectangle, hull_of}
+use Rattle.rd_keys.specs.Keys.{same_key}
+use Rattle.rd_keys.specs.Arena.{Arena}
+use Rattle.rd_keys.proofs.Keys.{same_key-sound, same_key-refl}
+use Rattle.rd_tree.specs.declared.node.Node as inner
+use Rattle.rd_tree.specs.declared.near.Near.{Near}
+use Rattle.rd_tree.specs.declared.whole.Whole.{Whole}
+use Rattle.rd_tree.specs.declared.fill.Gathered.{Gathered}
+use Rattle.rd_tree.specs.Forest.{empty, tree, size, top, has, from, children, item_of, in_subtree, branch, IsApart}
+use Rattle.rd_tree.specs.Links.{Node, Stands, onward_of}
+use Rattle.rd_tree.specs.Document.{BoxKey, Item, Boxes, AllFit}
+use Rattle.rd_tree.specs.Linked.{linked, seen_from}
+use Rattle.rd_tree.specs.Near.{breadth, touched_in, hull_in, extent, near_of, near_at}
+use Rattle.rd_tree.specs.Rows.{IsStanding, Puts, extent_under, touched_under, with_hull, hull_anew_of}
+use Rattle.rd_tree.specs.Gathers.{Gathers, gathered_in, row_over}
+use Rattle.rd_tree.specs.Renews.{whole_in, whole_at, IsRightBelow, IsRightIn, KeepsOutside}
+use Rattle.rd_tree.proofs.Standing.{cases, never, either, differs}
+use Rattle.rd_tree.proofs.Children.{stands_children}
+use Rattle.rd_tree.proofs.Under.{which}
+use Rattle.rd_tree.proofs.Works.{flip}
+use Rattle.rd_tree.proofs.Looking.{Begins, begins, fit_from}
+use Rattle.rd_tree.proofs.Nearby.{below_first, children-from, below_seen, anew_below}
+use Rattle.rd_tree.proofs.NearBranch.{near-is, touched-branch, hull-branch}
+use Rattle.rd_tree.proofs.NearWithin.{near-children}
+use Rattle.rd_tree.proofs.NearKeeping.{put_here}
+use Rattle.rd_tree.proofs.Above.{puts_at, is_live, not_below}
+use Rattle.rd_tree.proofs.Swapping.{touched_most}
+
+same_whole : (a b : Whole) → a.touched ≡ b.touched → a.hull ≡ b.hull → a ≡ b
+same_whole a b p q = rw (sym p, sym q) refl
+
+at_most_one : (o : Option (Node BoxKey Item)) → touched_under o ≤ 1
+at_most_one None = omega arith
+at_most_one (Some n) = one n.item.touched where
+  one : (b : Bool) → cond b 1 0 ≤ 1
+  one true = omega arith
+  one false = omega arith
+
+-- All below a box are within the limits where all are.
+pub fit_children : (k : BoxKey) (f : Boxes) → IsApart same_key f → has same_key k f ≡ true → AllFit f → AllFit (children same_key k f)
+fit_children k f a m h = subst AllFit (sym (children-from same_key same_key-sound same_key-refl k f a m)) (low (from same_key k f) (fit_from k f h)) where
+  low : (g : Boxes) → AllFit g → AllFit (below_first g)
+  low empty u = tt
+  low (tree j d below rest) u = u.2
+
+module _ (a : Arena inner.Node) (root : BoxKey) (f : Boxes) (is : IsStanding a root f) (k : BoxKey) (m : has same_key k f ≡ true) where
+  -- what the links have under a box
+  found : (n : Node BoxKey Item) × (linked a k ≡ Some n) × (item_of same_key k f ≡ Some n.item)
+  found =
+      let y : (y : Node BoxKey Item) × (linked a k ≡ Some y) × Stands (linked a) (Some k) None (children same_key k f) y.first y.last None × IsApart same_key (children same_key k f) × (has same_key k (children same_key k f) ≡ false) =
+      stands_children same_key same_key-sound same_key-refl (linked a) None None f (Some root) (Some root) None k is.apart is.stands m in
+      let b : Begins k y.0 (from same_key k f) = begins same_key same_key-sound same_key-refl (linked a) None None f (Some root) (Some root) k y.0 is.apart is.stands m y.1 in
+      (y.0, y.1, ap top b.is)
+
+  -- the row of a box by its own extent and by what is below it
+  pub row_under : near_of k f ≡ row_over (extent_under (linked a k)) (gathered_in (children same_key k f))
+  row_under =
+      let n : (d : Item) × (item_of same_key k f ≡ Some d) × (near_of k f ≡ record { children = breadth (children same_key k f); touched = touched_in (children same_key k f); hull = hull_of (extent d) (hull_in (children same_key k f)) }) = near-is k f is.apart m in
+      let i : n.0 ≡ found.0.item = cc (n.1, found.2) in
+      n.2 ∙ ap (λ e. row_over e (gathered_in (children same_key k f))) (ap extent i ∙ sym (ap extent_under found.1))
+
+  -- The row of a box tells what its branch is.
+  pub whole_is : (rows : List Near) → near_at rows k ≡ near_of k f → whole_at a rows k ≡ whole_in (branch same_key k f)
+  whole_is rows r = same_whole (whole_at a rows k) (whole_in (branch same_key k f))
+      (ap (λ n. touched_under (linked a k) + n.touched) r ∙ (ap (λ t. touched_under t + (near_of k f).touched) found.1 ∙ sym (touched-branch k found.0.item f found.2)))
+      (ap (λ n. n.hull) r ∙ sym (hull-branch k f))
+
+  pub few_touched : (rows : List Near) → near_at rows k ≡ near_of k f → a.limit ≡ 20000 → touched_under (linked a k) + (near_at rows k).touched < 4294967296
+  few_touched rows r l = omega (arith, ap (λ n. n.touched) r, at_most_one (linked a k), touched_most k f, is.small, l)
+
+  -- Its row is written alone.
+  module _ (old new : List Near) (row : Near) (put : Puts old new k row) where
+    pub put_outside : KeepsOutside a f old new k
+    put_outside j l o =
+        let n : same_key k j ≡ false = flip k j ∙ (either (same_key j k) (has same_key j (children same_key k f)) o).0 in
+        puts_at a old new k row put (is_live a root f is k m) j l ∙ ap (λ b. cond b row (near_at old j)) n
+
+    put_below : (j : BoxKey) → is_some (linked a j) ≡ true → has same_key j (children same_key k f) ≡ true → near_at new j ≡ near_at old j
+    put_below j l u =
+        let n : same_key k j ≡ false = flip k j ∙ differs same_key same_key-sound same_key-refl (children same_key k f) j k u (not_below a root f is k m) in
+        puts_at a old new k row put (is_live a root f is k m) j l ∙ ap (λ b. cond b row (near_at old j)) n
+
+    -- The rows of the branch are right where that one is, and those below it.
+    put_right : ((j : BoxKey) → has same_key j (children same_key k f) ≡ true → is_some (linked a j) ≡ true) → row ≡ near_of k f → IsRightBelow old f k → IsRightIn new f k
+    put_right live r low j u = elim (which (same_key j k) (has same_key j (children same_key k f)) u) [
+      | inl e ↦ subst (λ i. near_at new i ≡ near_of i f) (sym (same_key-sound j k e)) (put_here old new k row put ∙ r)
+      | inr e ↦ put_below j (live j e) e ∙ low j e
+    ]

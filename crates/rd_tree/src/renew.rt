@@ -1,0 +1,102 @@
+//! The table's rows once the items of one branch have changed.
+ghost use Rattle.std.specs.Prelude.{◌≡◌, ◌+◌, ◌<◌, ◌↔◌, length, true};
+ghost use Rattle.rd_keys.specs.Keys.{same_key};
+ghost use Rattle.rd_tree.specs.Forest.{has};
+ghost use Rattle.rd_tree.specs.Document.{BoxKey, Boxes};
+ghost use Rattle.rd_tree.specs.Linked.{linked};
+ghost use Rattle.rd_tree.specs.Near.{near_at};
+ghost use Rattle.rd_tree.specs.Rows.{IsStanding, IsRight, CanClimb, touched_under};
+ghost use Rattle.rd_tree.specs.Renews.{whole_at, IsRightIn, KeepsOutside, IsStale, IsRenewing};
+
+use crate::fill::{gather, row_of, touched_at};
+use crate::hulls::hull_anew;
+use crate::links::up_of;
+use crate::near::{Near, put_hull, row_at, write};
+use crate::node::Node;
+use crate::reach::Reach;
+use crate::walk::onward_of;
+use crate::whole::{Whole, swap_up};
+use rd_geom::Rect;
+use rd_keys::{Arena, BoxKey, BoxMark};
+
+/// Which rows of a branch are to be worked out anew.
+#[derive(Clone, Copy)]
+pub(crate) enum Stale {
+    /// None.
+    Nothing,
+    /// That of its box, and there the hull alone.
+    Hull,
+    /// All.
+    Branch,
+}
+
+/// Which rows an edit of a box leaves stale, by how far it touches and by the extents of the box before and after.
+pub(crate) fn stale_by(reach: Reach, before: Rect, after: Rect) -> Stale
+    ensures branch { (result ≡ Stale.Branch) ↔ (reach ≡ Reach.Subtree) }
+    ensures nothing { result ≡ Stale.Nothing → before ≡ after }
+    ensures hull { result ≡ Stale.Hull → before ≡ after → ⊥ }
+{
+    match reach {
+        Reach::Subtree => Stale::Branch,
+        Reach::Nothing | Reach::Alone => {
+            if before == after {
+                Stale::Nothing
+            } else {
+                Stale::Hull
+            }
+        }
+    }
+}
+
+/// What a branch is, by the row of its box.
+pub(crate) fn whole_of(near: &[Near], nodes: &Arena<Node, BoxMark>, key: BoxKey) -> Whole
+    requires here { key.slot < length near.now }
+    requires few { touched_under (linked nodes.now key) + (near_at near.now key).touched < 4294967296 }
+    ensures { result ≡ whole_at nodes.now near.now key }
+{
+    let row = row_at(near, key);
+    Whole {
+        touched: touched_at(nodes, key) + row.touched,
+        hull: row.hull,
+    }
+}
+
+/// Works the stale rows of a branch out anew.
+fn renew(near: &mut Vec<Near>, nodes: &Arena<Node, BoxMark>, key: BoxKey, stale: Stale)
+    requires { CanClimb nodes.now near.old.items key (λ f. IsStale stale near.old.items f key) }
+    ensures right { (root : BoxKey) (f : Boxes) → IsStanding nodes.now root f → has same_key key f ≡ true → IsStale stale near.old.items f key → IsRightIn near.new.items f key }
+    ensures others { (root : BoxKey) (f : Boxes) → IsStanding nodes.now root f → has same_key key f ≡ true → KeepsOutside nodes.now f near.old.items near.new.items key }
+    ensures same_length { length near.new.items ≡ length near.old.items }
+{
+    match stale {
+        Stale::Nothing => {}
+        Stale::Hull => {
+            let hull = hull_anew(near, nodes, key);
+            put_hull(near, key, hull);
+        }
+        Stale::Branch => {
+            let below = onward_of(nodes, key).0;
+            let low = gather(near, nodes, below);
+            let row = row_of(nodes, key, &low);
+            write(near, key, row);
+        }
+    }
+}
+
+/// Sets all rows right once the items of a branch have changed, which was `old`.
+pub(crate) fn renew_up(
+    near: &mut Vec<Near>,
+    nodes: &Arena<Node, BoxMark>,
+    key: BoxKey,
+    stale: Stale,
+    old: Whole,
+)
+    requires { CanClimb nodes.now near.old.items key (λ f. IsRenewing near.old.items f key stale old) }
+    ensures right { (root : BoxKey) (f : Boxes) → IsStanding nodes.now root f → has same_key key f ≡ true → IsRenewing near.old.items f key stale old → IsRight near.new.items f }
+    ensures same_length { length near.new.items ≡ length near.old.items }
+{
+    renew(near, nodes, key, stale);
+    let new = whole_of(near, nodes, key);
+    let up = up_of(nodes, key);
+    swap_up(near, nodes, up, old, new);
+}
