@@ -16,25 +16,21 @@ use Rattle.rd_tree.specs.Document.{BoxKey, Item, Boxes, Slot, AllFit, with_left,
 use Rattle.rd_tree.specs.Linked.{linked, marks, mark_of, Relinks, IsTree, IsSound, seen}
 use Rattle.rd_tree.specs.Near.{near_of, near_at}
 use Rattle.rd_tree.specs.Rows.{IsStanding, HasRows, IsNear, IsLosing, IsRight, CanClimb, touched_under, whole_in, more}
-use Rattle.rd_tree.specs.Renews.{whole_at}
 use Rattle.rd_tree.proofs.Standing.{cases, never}
 use Rattle.rd_tree.proofs.Children.{stands_children}
 use Rattle.rd_tree.proofs.Cutting.{Among, place}
 use Rattle.rd_tree.proofs.Without.{in_without}
 use Rattle.rd_tree.proofs.Rooting.{alone_stands}
 use Rattle.rd_tree.proofs.Grow.{seen_is}
-use Rattle.rd_tree.proofs.Naming.{item_seen, fits_seen}
-use Rattle.rd_tree.proofs.Above.{is_live}
+use Rattle.rd_tree.proofs.Naming.{fits_seen}
 use Rattle.rd_tree.proofs.Unlinking.{Unlinked, cut_out, sole}
 use Rattle.rd_tree.proofs.Restoring.{restored}
-use Rattle.rd_tree.proofs.Swapping.{touched_most}
 use Rattle.rd_tree.proofs.NearPut.{more_near}
-use Rattle.rd_tree.proofs.NearBranch.{hull-branch, touched-branch}
 use Rattle.rd_tree.proofs.NearCut.{near-cut}
 use Rattle.rd_tree.proofs.TreeRows.{seen_stands, each_has_row}
 
--- The box p, by the links, is the parent of k.
-pub record IsParent (a : Arena inner.Node) (p k : BoxKey) (f : Boxes) : Type 0 where
+-- The box k is a child of p.
+pub record IsParent (p k : BoxKey) (f : Boxes) : Type 0 where
   pub there : has same_key p f ≡ true
   pub child : Among k (children same_key p f)
 
@@ -42,7 +38,7 @@ pub record IsParent (a : Arena inner.Node) (p k : BoxKey) (f : Boxes) : Type 0 w
 pub record HasParent (a : Arena inner.Node) (k : BoxKey) (f : Boxes) : Type 0 where
   pub key : BoxKey
   pub up_is : up_of (linked a k) ≡ Some key
-  pub is : IsParent a key k f
+  pub is : IsParent key k f
 
 pub parent_above : (a : Arena inner.Node) (root k : BoxKey) → IsTree a root → has same_key k (seen a root) ≡ true → same_key k root ≡ false → HasParent a k (seen a root)
 parent_above a root k t m not_root = subst (λ f. HasParent a k f) (sym e) here where
@@ -64,45 +60,11 @@ parent_above a root k t m not_root = subst (λ f. HasParent a k f) (sym e) here 
     | inr u ↦ record { key = u.0; up_is = ap up_of b.1 ∙ u.1; is = record { there = u.2; child = u.3.0 } }
   ]
 
-pub is_parent : (a : Arena inner.Node) (root k p : BoxKey) → IsTree a root → has same_key k (seen a root) ≡ true → same_key k root ≡ false → Some p ≡ up_of (linked a k) → IsParent a p k (seen a root)
+pub is_parent : (a : Arena inner.Node) (root k p : BoxKey) → IsTree a root → has same_key k (seen a root) ≡ true → same_key k root ≡ false → Some p ≡ up_of (linked a k) → IsParent p k (seen a root)
 is_parent a root k p t m not_root e =
     let h : HasParent a k (seen a root) = parent_above a root k t m not_root in
     let n : h.key ≡ p = cc (h.up_is, e) in
-    subst (λ q. IsParent a q k (seen a root)) n h.is
-
--- ---- what a branch is
-
-same_whole : (v w : Whole) → v.touched ≡ w.touched → v.hull ≡ w.hull → v ≡ w
-same_whole v w p q = rw (sym p, sym q) refl
-
-one_at_most : (o : Option (Node BoxKey Item)) → touched_under o ≤ 1
-one_at_most None = omega arith
-one_at_most (Some n) = at n.item.touched where
-  at : (b : Bool) → cond b 1 0 ≤ 1
-  at true = omega arith
-  at false = omega arith
-
-module _ (a : Arena inner.Node) (root k : BoxKey) (rows : List Near) (t : IsTree a root) (right : near_at rows k ≡ near_of k (seen a root)) where
-  -- The row of a box of a tree tells what its branch is.
-  pub whole_is : has same_key k (seen a root) ≡ true → whole_at a rows k ≡ whole_in (branch same_key k (seen a root))
-  whole_is m = at (linked a k) refl where
-    at : (o : Option (Node BoxKey Item)) → linked a k ≡ o → whole_at a rows k ≡ whole_in (branch same_key k (seen a root))
-    at None e = absurd (never (is_some (linked a k)) (is_live a root (seen a root) (seen_stands a root t) k m) (ap is_some e))
-    at (Some n) e =
-        let i : item_of same_key k (seen a root) ≡ Some n.item = sym (item_seen a root k t) ∙ ap (option_map (λ x. x.item)) e in
-        let u : touched_under (linked a k) ≡ cond n.item.touched 1 0 = ap touched_under e in
-        let v : (near_at rows k).touched ≡ (near_of k (seen a root)).touched = ap (λ r. r.touched) right in
-        same_whole (whole_at a rows k) (whole_in (branch same_key k (seen a root))) (ap (λ c. c + (near_at rows k).touched) u ∙ (ap (λ c. cond n.item.touched 1 0 + c) v ∙ sym (touched-branch k n.item (seen a root) i)))
-        (ap (λ r. r.hull) right ∙ sym (hull-branch k (seen a root)))
-
-  -- Its touched boxes can be counted.
-  pub whole_few : a.limit ≡ 20000 → touched_under (linked a k) + (near_at rows k).touched < 4294967296
-  whole_few l =
-      let v : (near_at rows k).touched ≡ (near_of k (seen a root)).touched = ap (λ r. r.touched) right in
-      let n : (near_of k (seen a root)).touched ≤ size (seen a root) = touched_most k (seen a root) in
-      let o : size (seen a root) ≤ a.limit = (seen_stands a root t).small in
-      let u : touched_under (linked a k) ≤ 1 = one_at_most (linked a k) in
-      omega (arith, v, n, o, u, l)
+    subst (λ q. IsParent q k (seen a root)) n h.is
 
 -- ---- the rows once a branch is cut out
 
@@ -125,7 +87,7 @@ loses p k f rows apart there child right =
     }
 
 module _ {Y S : Type 0} (a0 a1 : Arena inner.Node) (root k p : BoxKey) (ids : HashMap (String Y) BoxKey S) (rows : List Near) (s : IsSound a0 root ids) (m : has same_key k (seen a0 root) ≡ true) (not_root : same_key k root ≡ false)
-    (r : Relinks a0 a1 (unlinked same_key k (linked a0))) (most : length a0.slots ≤ length rows) (q : IsParent a0 p k (seen a0 root)) where
+    (r : Relinks a0 a1 (unlinked same_key k (linked a0))) (most : length a0.slots ≤ length rows) (q : IsParent p k (seen a0 root)) where
   abbrev f : Boxes
   f = seen a0 root
 
