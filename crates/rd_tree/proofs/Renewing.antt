@@ -10,23 +10,24 @@ use Rattle.rd_tree.specs.declared.near.Near.{Near}
 use Rattle.rd_tree.specs.declared.whole.Whole.{Whole}
 use Rattle.rd_tree.specs.declared.fill.Gathered.{Gathered}
 use Rattle.rd_tree.specs.Forest.{empty, tree, size, top, has, from, children, item_of, in_subtree, branch, IsApart}
-use Rattle.rd_tree.specs.Links.{Node, Stands, onward_of}
+use Rattle.rd_tree.specs.Links.{Node, Stands, onward_of, up_of}
 use Rattle.rd_tree.specs.Document.{BoxKey, Item, Boxes, AllFit}
 use Rattle.rd_tree.specs.Linked.{linked, seen_from}
-use Rattle.rd_tree.specs.Near.{breadth, touched_in, hull_in, extent, near_of, near_at}
-use Rattle.rd_tree.specs.Rows.{IsStanding, Puts, extent_under, touched_under, with_hull, hull_anew_of}
+use Rattle.rd_tree.specs.Near.{breadth, touched_in, hull_in, extent, near_of, near_at, is_above}
+use Rattle.rd_tree.specs.Rows.{IsStanding, Puts, IsSwapping, extent_under, touched_under, with_hull, hull_anew_of, whole_in, joined}
 use Rattle.rd_tree.specs.Gathers.{Gathers, gathered_in, row_over}
-use Rattle.rd_tree.specs.Renews.{whole_in, whole_at, IsRightBelow, IsRightIn, KeepsOutside}
-use Rattle.rd_tree.proofs.Standing.{cases, never, either, differs}
+use Rattle.rd_tree.specs.Renews.{whole_at, IsRightBelow, IsRightIn, KeepsOutside, IsRound}
+use Rattle.rd_tree.proofs.Standing.{cases, never, refute, either, from_left, from_right, differs}
 use Rattle.rd_tree.proofs.Children.{stands_children}
 use Rattle.rd_tree.proofs.Under.{which}
 use Rattle.rd_tree.proofs.Works.{flip}
 use Rattle.rd_tree.proofs.Looking.{Begins, begins, fit_from}
-use Rattle.rd_tree.proofs.Nearby.{below_first, children-from, below_seen, anew_below}
+use Rattle.rd_tree.proofs.Nearby.{below_first, children-from, below_seen, anew_below, off_below}
 use Rattle.rd_tree.proofs.NearBranch.{near-is, touched-branch, hull-branch}
 use Rattle.rd_tree.proofs.NearWithin.{near-children}
 use Rattle.rd_tree.proofs.NearKeeping.{put_here}
-use Rattle.rd_tree.proofs.Above.{puts_at, is_live, not_below}
+use Rattle.rd_tree.proofs.Above.{puts_at, is_live, not_below, above_up, off_above}
+use Rattle.rd_tree.proofs.Cutting.{in_children}
 use Rattle.rd_tree.proofs.Swapping.{touched_most}
 
 same_whole : (a b : Whole) → a.touched ≡ b.touched → a.hull ≡ b.hull → a ≡ b
@@ -71,6 +72,9 @@ module _ (a : Arena inner.Node) (root : BoxKey) (f : Boxes) (is : IsStanding a r
   pub few_touched : (rows : List Near) → near_at rows k ≡ near_of k f → a.limit ≡ 20000 → touched_under (linked a k) + (near_at rows k).touched < 4294967296
   few_touched rows r l = omega (arith, ap (λ n. n.touched) r, at_most_one (linked a k), touched_most k f, is.small, l)
 
+  live_below : (j : BoxKey) → has same_key j (children same_key k f) ≡ true → is_some (linked a j) ≡ true
+  live_below j u = is_live a root f is j (in_children same_key same_key-sound same_key-refl j k f u)
+
   -- Its row is written alone.
   module _ (old new : List Near) (row : Near) (put : Puts old new k row) where
     pub put_outside : KeepsOutside a f old new k
@@ -84,8 +88,53 @@ module _ (a : Arena inner.Node) (root : BoxKey) (f : Boxes) (is : IsStanding a r
         puts_at a old new k row put (is_live a root f is k m) j l ∙ ap (λ b. cond b row (near_at old j)) n
 
     -- The rows of the branch are right where that one is, and those below it.
-    put_right : ((j : BoxKey) → has same_key j (children same_key k f) ≡ true → is_some (linked a j) ≡ true) → row ≡ near_of k f → IsRightBelow old f k → IsRightIn new f k
-    put_right live r low j u = elim (which (same_key j k) (has same_key j (children same_key k f)) u) [
+    put_right : row ≡ near_of k f → IsRightBelow old f k → IsRightIn new f k
+    put_right r low j u = elim (which (same_key j k) (has same_key j (children same_key k f)) u) [
       | inl e ↦ subst (λ i. near_at new i ≡ near_of i f) (sym (same_key-sound j k e)) (put_here old new k row put ∙ r)
-      | inr e ↦ put_below j (live j e) e ∙ low j e
+      | inr e ↦ put_below j (live_below j e) e ∙ low j e
     ]
+
+  -- The hull of a box is worked out anew.
+  pub hull_renewed : (old new : List Near) (h : Rectangle) → h ≡ hull_anew_of a old k → Puts old new k (with_hull h (near_at old k)) → IsRightBelow old f k → near_at old k ≡ with_hull (near_at old k).hull (near_of k f) → IsRightIn new f k
+  hull_renewed old new h e put low here = put_right old new (with_hull h (near_at old k)) put
+      (ap (with_hull h) here ∙ ap (λ r. with_hull r (near_of k f)) (e ∙ anew_below a root f is k m old (λ j u. ap (λ n. n.hull) (low j u)))) low
+
+  -- All rows of a branch are worked out anew.
+  module _ (old next new : List Near) (low : Gathered) (told : low ≡ gathered_in (seen_from a (onward_of (linked a k)).0)) (g : Gathers a old next (seen_from a (onward_of (linked a k)).0)) (put : Puts next new k (row_over (extent_under (linked a k)) low)) where
+    gathered : (j : BoxKey) → is_some (linked a j) ≡ true → near_at next j ≡ cond (has same_key j (children same_key k f)) (near_of j (children same_key k f)) (near_at old j)
+    gathered j l = g j l ∙ ap (λ z. cond (has same_key j z) (near_of j z) (near_at old j)) (below_seen a root f is k m)
+
+    pub branch_renewed : IsRightIn new f k
+    branch_renewed = put_right next new (row_over (extent_under (linked a k)) low) put
+        (ap (row_over (extent_under (linked a k))) (told ∙ ap gathered_in (below_seen a root f is k m)) ∙ sym row_under)
+        (λ j u. gathered j (live_below j u) ∙ (ap (λ b. cond b (near_of j (children same_key k f)) (near_at old j)) u ∙ sym (near-children j k f is.apart u)))
+
+    pub branch_outside : KeepsOutside a f old new k
+    branch_outside j l o =
+        put_outside next new (row_over (extent_under (linked a k)) low) put j l o
+        ∙ (gathered j l ∙ ap (λ b. cond b (near_of j (children same_key k f)) (near_at old j)) (either (same_key j k) (has same_key j (children same_key k f)) o).1)
+
+  -- Once the rows of the branch are right, the rows above it are to have it in place of what it was.
+  module _ (old_rows rows : List Near) (right : IsRightIn rows f k) (kept : KeepsOutside a f old_rows rows k) (old : Whole) (round : IsRound old_rows f k old) where
+    higher : (j : BoxKey) → is_above (up_of (linked a k)) j f ≡ true → (same_key j k ≡ false) × (in_subtree same_key k j f ≡ true) × (in_subtree same_key j k f ≡ false)
+    higher j u =
+        let n : same_key j k ≡ false = refute (same_key j k) (λ e. never (is_above (up_of (linked a k)) k f) (subst (λ i. is_above (up_of (linked a k)) i f ≡ true) (same_key-sound j k e) u) (off_above a root f is k m)) in
+        let i : in_subtree same_key k j f ≡ true = above_up a root f is k m j ∙ from_right (same_key k j) (is_above (up_of (linked a k)) j f) u in
+        let o : has same_key j (children same_key k f) ≡ false = refute (has same_key j (children same_key k f)) (λ v. never (in_subtree same_key k j f) i (off_below a root f is k m j v)) in
+        (n, i, ap (λ b. b || has same_key j (children same_key k f)) n ∙ o)
+
+    pub renewing : (new : Whole) → new ≡ whole_at a rows k → IsSwapping rows f (up_of (linked a k)) old new
+    renewing new e = record {
+      rest = round.rest;
+      was = λ j h u. let s = higher j u in kept j (is_live a root f is j h) s.2 ∙ round.was j h s.0 s.1;
+      is = λ j h u.
+          let s = higher j u in
+          let w : whole_in (branch same_key k f) ≡ new = sym (e ∙ whole_is rows (right k (from_left (same_key k k) (has same_key k (children same_key k f)) (same_key-refl k)))) in
+          round.is j h s.0 s.1 ∙ ap (joined (round.rest j)) w;
+      others = λ j h u. elim (cases (in_subtree same_key j k f)) [
+        | inl v ↦ right j v
+        | inr v ↦
+            let n : same_key k j ≡ false = flip k j ∙ (either (same_key j k) (has same_key j (children same_key k f)) v).0 in
+            kept j (is_live a root f is j h) v ∙ round.others j h v (above_up a root f is k m j ∙ (ap (λ b. b || is_above (up_of (linked a k)) j f) n ∙ u))
+      ];
+    }

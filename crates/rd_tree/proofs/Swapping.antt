@@ -45,7 +45,7 @@ pub children_most : (k : BoxKey) (f : Boxes) → (near_of k f).children ≤ size
 children_most k f = let a = first_breadth (from same_key k f) in let b = size-from k f in omega (arith, a, b)
 
 -- no more boxes are touched below one than there are
-touched_most : (k : BoxKey) (f : Boxes) → (near_of k f).touched ≤ size f
+pub touched_most : (k : BoxKey) (f : Boxes) → (near_of k f).touched ≤ size f
 touched_most k f = let a = first_small (from same_key k f) in let b = size-from k f in omega (arith, a, b)
 
 -- The counts above can be marked.

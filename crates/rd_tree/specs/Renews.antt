@@ -1,5 +1,5 @@
 -- Rows that are set right once the items of one branch have changed.
-use Rattle.std.specs.Prelude.{◌≡◌, ◌+◌, Bool, true, false, List, is_some}
+use Rattle.std.specs.Prelude.{◌≡◌, ◌+◌, true, false, List, is_some}
 use Rattle.rd_keys.specs.Keys.{same_key}
 use Rattle.rd_keys.specs.Arena.{Arena}
 use Rattle.rd_tree.specs.declared.node.Node as inner
@@ -10,14 +10,10 @@ use Rattle.rd_tree.specs.declared.renew.Stale.TheVariants.{Nothing, Hull, Branch
 use Rattle.rd_tree.specs.Forest.{has, children, in_subtree, branch}
 use Rattle.rd_tree.specs.Document.{BoxKey, Boxes}
 use Rattle.rd_tree.specs.Linked.{linked}
-use Rattle.rd_tree.specs.Near.{touched_in, hull_in, near_of, near_at}
-use Rattle.rd_tree.specs.Rows.{touched_under, with_hull, joined}
+use Rattle.rd_tree.specs.Near.{near_of, near_at}
+use Rattle.rd_tree.specs.Rows.{touched_under, with_hull, whole_in, joined}
 
--- how many of some boxes are touched, and the hull of them all
-abbrev pub whole_in : Boxes → Whole
-whole_in f = record { touched = touched_in f; hull = hull_in f }
-
--- the same of the branch of a box, by its row
+-- what the branch of a box is, by its row
 abbrev pub whole_at : Arena inner.Node → List Near → BoxKey → Whole
 whole_at a rows k = record { touched = touched_under (linked a k) + (near_at rows k).touched; hull = (near_at rows k).hull }
 

@@ -1,53 +1,46 @@
-use Rattle.std.proofs.Common.{rules, ◌≡◌, ◌+◌, ◌<◌, ◌↔◌, length, true, ℕ, ◌-◌, ◌*◌, ◌≤◌, ◌/◌, ◌%◌, Bool, false, nat_eq, nat_lt, List, [], ◌∷◌, ◌++◌, slice_index_or, slice_set, bit_and, bit_or, Fits, w8, w32, w64, Bor, MutBor}
-use Rattle.rd_keys.specs.Keys.{same_key}
-use Rattle.rd_tree.specs.Forest.{has}
-use Rattle.rd_tree.specs.Document.{BoxKey, Boxes}
-use Rattle.rd_tree.specs.Linked.{linked}
-use Rattle.rd_tree.specs.Near.{near_at}
-use Rattle.rd_tree.specs.Rows.{IsStanding, IsRight, CanClimb, touched_under}
-use Rattle.rd_tree.specs.Renews.{whole_at, IsRightIn, KeepsOutside, IsStale, IsRenewing}
+use Rattle.std.proofs.Common.{sym, subst}
+use Rattle.rd_tree.specs.declared.renew.Stale.TheVariants.{Hull}
+use Rattle.rd_tree.specs.Document.{AllFit}
+use Rattle.rd_tree.specs.Renews.{IsStale}
+use Rattle.rd_tree.proofs.Nearby.{fit_at, below_read, below_rows, below_seen}
+use Rattle.rd_tree.proofs.Renewing.{fit_children, put_outside, hull_renewed, branch_renewed, branch_outside}
 use Rattle.rd_tree.proofs.renew.renew.Goals as goal
 
--- src/renew.rt:74:17
 pub hull_anew-hull-requires-clause-fits : goal.hull_anew-hull-requires-clause-fits
-hull_anew-hull-requires-clause-fits c = ?
+hull_anew-hull-requires-clause-fits c = let r = c.requires in fit_at c.args.nodes.now r.root r.boxes r.is c.args.key r.there r.fits
 
--- src/renew.rt:74:17
 pub hull_anew-hull-requires-clause-read : goal.hull_anew-hull-requires-clause-read
-hull_anew-hull-requires-clause-read c = ?
+hull_anew-hull-requires-clause-read c = let r = c.requires in below_read c.args.nodes.now r.root r.boxes r.is c.args.key r.there
 
--- src/renew.rt:74:17
 pub hull_anew-hull-requires-clause-rows : goal.hull_anew-hull-requires-clause-rows
-hull_anew-hull-requires-clause-rows c = ?
+hull_anew-hull-requires-clause-rows c = let r = c.requires in rw c.deref.ensures.value (below_rows c.args.nodes.now r.root r.boxes r.is c.args.key r.there c.args.near.now.items r.has_rows)
 
--- src/renew.rt:79:23
 pub gather-low-requires-clause-read : goal.gather-low-requires-clause-read
-gather-low-requires-clause-read c = ?
+gather-low-requires-clause-read c = let r = c.requires in rw c.onward_of-below.ensures (below_read c.args.nodes.now r.root r.boxes r.is c.args.key r.there)
 
--- src/renew.rt:79:23
 pub gather-low-requires-clause-has_rows : goal.gather-low-requires-clause-has_rows
-gather-low-requires-clause-has_rows c = ?
+gather-low-requires-clause-has_rows c = let r = c.requires in rw c.onward_of-below.ensures (below_rows c.args.nodes.now r.root r.boxes r.is c.args.key r.there c.args.near.now.items r.has_rows)
 
--- src/renew.rt:79:23
 pub gather-low-requires-clause-fits : goal.gather-low-requires-clause-fits
-gather-low-requires-clause-fits c = ?
+gather-low-requires-clause-fits c = let r = c.requires in rw c.onward_of-below.ensures (subst AllFit (sym (below_seen c.args.nodes.now r.root r.boxes r.is c.args.key r.there)) (fit_children c.args.key r.boxes r.is.apart r.there r.fits))
 
--- src/renew.rt:80:17
 pub row_of-row-requires : goal.row_of-row-requires
-row_of-row-requires c = ?
+row_of-row-requires c = let r = c.requires in fit_at c.args.nodes.now r.root r.boxes r.is c.args.key r.there r.fits
 
--- src/renew.rt:65:1
 pub returns-in-Hull-clause-right : goal.returns-in-Hull-clause-right
-returns-in-Hull-clause-right c = ?
+returns-in-Hull-clause-right c root f is m st =
+    let s : IsStale Hull c.args.near.now.items f c.args.key = subst (λ x. IsStale x c.args.near.now.items f c.args.key) c.in-Hull.is st in
+    hull_renewed c.args.nodes.now root f is c.args.key m c.args.near.now.items c.put_hull.new.near.items c.hull_anew-hull.result (rw c.deref.ensures.value at c.hull_anew-hull.ensures) c.put_hull.ensures.rows s.0 s.1
 
--- src/renew.rt:65:1
 pub returns-in-Hull-clause-others : goal.returns-in-Hull-clause-others
-returns-in-Hull-clause-others c = ?
+returns-in-Hull-clause-others c root f is m = put_outside c.args.nodes.now root f is c.args.key m c.args.near.now.items c.put_hull.new.near.items _ c.put_hull.ensures.rows
 
--- src/renew.rt:65:1
 pub returns-in-Branch-clause-right : goal.returns-in-Branch-clause-right
-returns-in-Branch-clause-right c = ?
+returns-in-Branch-clause-right c root f is m st =
+    branch_renewed c.args.nodes.now root f is c.args.key m c.args.near.now.items c.gather-low.new.near.items c.write.new.near.items c.gather-low.result
+    (rw c.onward_of-below.ensures at c.gather-low.ensures.told) (rw c.onward_of-below.ensures at c.gather-low.ensures.rows) (rw c.row_of-row.ensures at c.write.ensures.rows)
 
--- src/renew.rt:65:1
 pub returns-in-Branch-clause-others : goal.returns-in-Branch-clause-others
-returns-in-Branch-clause-others c = ?
+returns-in-Branch-clause-others c root f is m =
+    branch_outside c.args.nodes.now root f is c.args.key m c.args.near.now.items c.gather-low.new.near.items c.write.new.near.items c.gather-low.result
+    (rw c.onward_of-below.ensures at c.gather-low.ensures.told) (rw c.onward_of-below.ensures at c.gather-low.ensures.rows) (rw c.row_of-row.ensures at c.write.ensures.rows)

@@ -1,21 +1,40 @@
-use Rattle.std.proofs.Common.{rules, ◌≡◌, ◌+◌, ◌<◌, ◌↔◌, length, true, ℕ, ◌-◌, ◌*◌, ◌≤◌, ◌/◌, ◌%◌, Bool, false, nat_eq, nat_lt, List, [], ◌∷◌, ◌++◌, slice_index_or, slice_set, bit_and, bit_or, Fits, w8, w32, w64, Bor, MutBor}
+use Rattle.std.proofs.Common.{◌≡◌, true, List, length, subst, sym, arith, refl}
 use Rattle.rd_keys.specs.Keys.{same_key}
-use Rattle.rd_tree.specs.Forest.{has}
-use Rattle.rd_tree.specs.Document.{BoxKey, Boxes}
+use Rattle.rd_tree.specs.declared.near.Near.{Near}
+use Rattle.rd_tree.specs.Forest.{has, children}
+use Rattle.rd_tree.specs.Links.{up_of}
 use Rattle.rd_tree.specs.Linked.{linked}
-use Rattle.rd_tree.specs.Near.{near_at}
-use Rattle.rd_tree.specs.Rows.{IsStanding, IsRight, CanClimb, touched_under}
-use Rattle.rd_tree.specs.Renews.{whole_at, IsRightIn, KeepsOutside, IsStale, IsRenewing}
+use Rattle.rd_tree.specs.Near.{near_of, near_at}
+use Rattle.rd_tree.specs.Rows.{HasRows, IsSwapping, touched_under}
+use Rattle.rd_tree.specs.Renews.{IsRightIn, whole_at}
+use Rattle.rd_tree.proofs.Above.{in_up, above_self}
+use Rattle.rd_tree.proofs.Renewing.{few_touched, renewing}
 use Rattle.rd_tree.proofs.renew.renew_up.Goals as goal
 
--- src/renew.rt:99:9
 pub whole_of-new-requires-clause-few : goal.whole_of-new-requires-clause-few
-whole_of-new-requires-clause-few c = ?
+whole_of-new-requires-clause-few c =
+    let r = c.requires in
+    let i : IsRightIn c.renew.new.near.items r.boxes c.args.key = c.renew.ensures.right r.root r.boxes r.is r.there r.ready.inner in
+    rw c.deref.ensures.value (few_touched c.args.nodes.now r.root r.boxes r.is c.args.key r.there c.renew.new.near.items (i c.args.key (above_self c.args.nodes.now r.root r.boxes r.is c.args.key r.there)) r.few)
 
--- src/renew.rt:101:5
 pub swap_up-requires : goal.swap_up-requires
-swap_up-requires c = ?
+swap_up-requires c =
+    let r = c.requires in
+    let i : IsRightIn c.renew.new.near.items r.boxes c.args.key = c.renew.ensures.right r.root r.boxes r.is r.there r.ready.inner in
+    rw c.up_of-up.ensures (record {
+      root = r.root;
+      boxes = r.boxes;
+      is = r.is;
+      there = in_up c.args.nodes.now r.root r.boxes r.is c.args.key r.there;
+      has_rows = λ k h. let l = r.has_rows k h in omega (arith, l, c.renew.ensures.same_length);
+      fits = r.fits;
+      few = r.few;
+      swapping = renewing c.args.nodes.now r.root r.boxes r.is c.args.key r.there c.args.near.now.items c.renew.new.near.items i (c.renew.ensures.others r.root r.boxes r.is r.there) c.args.old r.ready.outer c.whole_of-new.result (rw c.deref.ensures.value at c.whole_of-new.ensures);
+    })
 
--- src/renew.rt:87:1
 pub returns-clause-right : goal.returns-clause-right
-returns-clause-right c = ?
+returns-clause-right c root f is m q =
+    let i : IsRightIn c.renew.new.near.items f c.args.key = c.renew.ensures.right root f is m q.inner in
+    let w : IsSwapping c.renew.new.near.items f (up_of (linked c.args.nodes.now c.args.key)) c.args.old c.whole_of-new.result =
+    renewing c.args.nodes.now root f is c.args.key m c.args.near.now.items c.renew.new.near.items i (c.renew.ensures.others root f is m) c.args.old q.outer c.whole_of-new.result (rw c.deref.ensures.value at c.whole_of-new.ensures) in
+    (rw c.up_of-up.ensures at c.swap_up.ensures.right) root f is (in_up c.args.nodes.now root f is c.args.key m) w
