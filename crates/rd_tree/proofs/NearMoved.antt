@@ -1,5 +1,5 @@
 -- The rows once a box is moved, with all below it.
-use Rattle.std.proofs.Common.{◌≡◌, refl, ap, ◌∙◌, sym, subst, ℕ, ◌+◌, ◌≤◌, Bool, true, false, ◌||◌, cond, arith, List, length, inl, inr, ◌⊎◌}
+use Rattle.std.proofs.Common.{◌≡◌, refl, ap, ◌∙◌, sym, subst, ◌≤◌, Bool, true, false, ◌||◌, cond, arith, List, length, inl, inr, ◌⊎◌}
 use Rattle.std.specs.Prelude.{Option, Some, None, String, is_some, option_map}
 use Rattle.std.specs.HashMap.{HashMap}
 use Rattle.rd_keys.specs.Keys.{same_key}

@@ -1,6 +1,6 @@
 -- The rows of the boxes that stay once a branch is cut out.
-use Rattle.std.proofs.Common.{◌≡◌, refl, ap, ◌∙◌, sym, subst, ℕ, ◌+◌, ◌<◌, ◌≤◌, Bool, true, false, cond, arith, List, [], ◌∷◌, length, map, inl, inr}
-use Rattle.std.specs.Prelude.{Option, Some, None, String, is_some, option_map}
+use Rattle.std.proofs.Common.{◌≡◌, refl, ap, ◌∙◌, sym, subst, ◌≤◌, true, false, cond, arith, List, [], ◌∷◌, length, inl, inr}
+use Rattle.std.specs.Prelude.{Some, None, String}
 use Rattle.std.specs.HashMap.{HashMap}
 use Rattle.std.proofs.lemmas.List.{length-set, length-map}
 use Rattle.rd_keys.specs.Keys.{same_key}
@@ -10,12 +10,12 @@ use Rattle.rd_keys.proofs.Calls.{live_occupied}
 use Rattle.rd_tree.specs.declared.node.Node as inner
 use Rattle.rd_tree.specs.declared.near.Near.{Near}
 use Rattle.rd_tree.specs.declared.whole.Whole.{Whole}
-use Rattle.rd_tree.specs.Forest.{empty, tree, size, top, has, from, children, item_of, in_subtree, without, branch, IsApart}
+use Rattle.rd_tree.specs.Forest.{empty, tree, has, children, without, branch, IsApart}
 use Rattle.rd_tree.specs.Links.{Node, Stands, up_of, unlinked}
 use Rattle.rd_tree.specs.Document.{BoxKey, Item, Boxes, Slot, AllFit, with_left, with_all_left}
 use Rattle.rd_tree.specs.Linked.{linked, marks, mark_of, Relinks, IsTree, IsSound, seen}
 use Rattle.rd_tree.specs.Near.{near_of, near_at}
-use Rattle.rd_tree.specs.Rows.{IsStanding, HasRows, IsNear, IsLosing, IsRight, CanClimb, touched_under, whole_in, more}
+use Rattle.rd_tree.specs.Rows.{IsStanding, IsNear, IsLosing, IsRight, CanClimb, whole_in}
 use Rattle.rd_tree.proofs.Standing.{cases, never}
 use Rattle.rd_tree.proofs.Children.{stands_children}
 use Rattle.rd_tree.proofs.Cutting.{Among, place}

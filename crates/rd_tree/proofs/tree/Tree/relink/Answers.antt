@@ -1,4 +1,4 @@
-use Rattle.std.proofs.Common.{◌≡◌, refl, ap, ◌∙◌, sym, Some, None}
+use Rattle.std.proofs.Common.{◌≡◌, refl, ap, ◌∙◌, sym, Some}
 use Rattle.rd_keys.specs.Keys.{same_key}
 use Rattle.rd_tree.specs.Forest.{without}
 use Rattle.rd_tree.specs.Linked.{IsSound, marks, seen}
@@ -94,13 +94,13 @@ invariant_of-self g c =
     record {
       sound = t.0;
       near = landed_near c.self.inside.nodes c.work_below.new.nodes c.self.inside.root c.args.key c.in-Some.up c.self.inside.ids c.self.inside.near.items c.self.invariant.sound (rw (← c.self.view_is) at c.requires.live) (rw (← c.self.view_is) at c.requires.below) c.work_below.ensures c.self.invariant.near (is_parent c.self.inside.nodes c.self.inside.root c.args.key c.in-Some.up c.self.invariant.sound.tree (rw (← c.self.view_is) at c.requires.live) (rw (← c.self.view_is) at c.requires.below) (sym c.in-Some.is ∙ c.up_of.ensures))
-    c.unlink.new.nodes c.renew.new.near.items c.unlink.ensures inner outer c.renew.ensures.same_length
-    c.args.parent c.args.before (rw (← c.self.view_is) at c.requires.parent) (rw (← c.self.view_is) at c.requires.outside) (rw (← c.self.view_is) at c.requires.place) c.requires.other c.graft.new.nodes c.lose.new.near.items right others c.lose.ensures.same_length t.0 t.1 t.2 c.gain.new.near.items c.gain.ensures.same_length
+          c.unlink.new.nodes c.renew.new.near.items c.unlink.ensures inner outer c.renew.ensures.same_length
+          c.args.parent c.args.before (rw (← c.self.view_is) at c.requires.parent) (rw (← c.self.view_is) at c.requires.outside) (rw (← c.self.view_is) at c.requires.place) c.requires.other c.graft.new.nodes c.lose.new.near.items right others c.lose.ensures.same_length t.0 t.1 t.2 c.gain.new.near.items c.gain.ensures.same_length
           (c.gain.ensures.right c.self.inside.root (seen c.graft.new.nodes c.self.inside.root) (seen_stands c.graft.new.nodes c.self.inside.root t.0.tree) (landed_parent c.self.inside.nodes c.work_below.new.nodes c.self.inside.root c.args.key c.in-Some.up c.self.inside.ids c.self.inside.near.items c.self.invariant.sound (rw (← c.self.view_is) at c.requires.live) (rw (← c.self.view_is) at c.requires.below) c.work_below.ensures c.self.invariant.near (is_parent c.self.inside.nodes c.self.inside.root c.args.key c.in-Some.up c.self.invariant.sound.tree (rw (← c.self.view_is) at c.requires.live) (rw (← c.self.view_is) at c.requires.below) (sym c.in-Some.is ∙ c.up_of.ensures))
-    c.unlink.new.nodes c.renew.new.near.items c.unlink.ensures inner outer c.renew.ensures.same_length
-    c.args.parent c.args.before (rw (← c.self.view_is) at c.requires.parent) (rw (← c.self.view_is) at c.requires.outside) (rw (← c.self.view_is) at c.requires.place) c.requires.other c.graft.new.nodes c.lose.new.near.items right others c.lose.ensures.same_length t.0 t.1 t.2) (landed_gains c.self.inside.nodes c.work_below.new.nodes c.self.inside.root c.args.key c.in-Some.up c.self.inside.ids c.self.inside.near.items c.self.invariant.sound (rw (← c.self.view_is) at c.requires.live) (rw (← c.self.view_is) at c.requires.below) c.work_below.ensures c.self.invariant.near (is_parent c.self.inside.nodes c.self.inside.root c.args.key c.in-Some.up c.self.invariant.sound.tree (rw (← c.self.view_is) at c.requires.live) (rw (← c.self.view_is) at c.requires.below) (sym c.in-Some.is ∙ c.up_of.ensures))
-    c.unlink.new.nodes c.renew.new.near.items c.unlink.ensures inner outer c.renew.ensures.same_length
-    c.args.parent c.args.before (rw (← c.self.view_is) at c.requires.parent) (rw (← c.self.view_is) at c.requires.outside) (rw (← c.self.view_is) at c.requires.place) c.requires.other c.graft.new.nodes c.lose.new.near.items right others c.lose.ensures.same_length t.0 t.1 t.2 c.whole_of-new.result (c.whole_of-new.ensures ∙ whole_is c.work_below.new.nodes c.self.inside.root (seen c.work_below.new.nodes c.self.inside.root) stands c.args.key there c.deref-2.result.now (ap (λ r. near_at r c.args.key) c.deref-2.ensures.value ∙ inner c.args.key (above_self c.work_below.new.nodes c.self.inside.root (seen c.work_below.new.nodes c.self.inside.root) stands c.args.key there)))));
+          c.unlink.new.nodes c.renew.new.near.items c.unlink.ensures inner outer c.renew.ensures.same_length
+          c.args.parent c.args.before (rw (← c.self.view_is) at c.requires.parent) (rw (← c.self.view_is) at c.requires.outside) (rw (← c.self.view_is) at c.requires.place) c.requires.other c.graft.new.nodes c.lose.new.near.items right others c.lose.ensures.same_length t.0 t.1 t.2) (landed_gains c.self.inside.nodes c.work_below.new.nodes c.self.inside.root c.args.key c.in-Some.up c.self.inside.ids c.self.inside.near.items c.self.invariant.sound (rw (← c.self.view_is) at c.requires.live) (rw (← c.self.view_is) at c.requires.below) c.work_below.ensures c.self.invariant.near (is_parent c.self.inside.nodes c.self.inside.root c.args.key c.in-Some.up c.self.invariant.sound.tree (rw (← c.self.view_is) at c.requires.live) (rw (← c.self.view_is) at c.requires.below) (sym c.in-Some.is ∙ c.up_of.ensures))
+          c.unlink.new.nodes c.renew.new.near.items c.unlink.ensures inner outer c.renew.ensures.same_length
+          c.args.parent c.args.before (rw (← c.self.view_is) at c.requires.parent) (rw (← c.self.view_is) at c.requires.outside) (rw (← c.self.view_is) at c.requires.place) c.requires.other c.graft.new.nodes c.lose.new.near.items right others c.lose.ensures.same_length t.0 t.1 t.2 c.whole_of-new.result (c.whole_of-new.ensures ∙ whole_is c.work_below.new.nodes c.self.inside.root (seen c.work_below.new.nodes c.self.inside.root) stands c.args.key there c.deref-2.result.now (ap (λ r. near_at r c.args.key) c.deref-2.ensures.value ∙ inner c.args.key (above_self c.work_below.new.nodes c.self.inside.root (seen c.work_below.new.nodes c.self.inside.root) stands c.args.key there)))));
     }
 
 pub returns : goal.returns
