@@ -9,7 +9,7 @@ use Rattle.rd_tree.proofs.Standing.{never, refute, from_left, from_right, join-e
 use Rattle.rd_tree.proofs.Cutting.{Among, among-in, apart_right, in_children}
 use Rattle.rd_tree.proofs.Without.{flipped, stays}
 use Rattle.rd_tree.proofs.Restoring.{Restored, restored, branch_there, apart_children}
-use Rattle.rd_tree.proofs.NearPut.{more_near, near-put, has-put, below-put_new, subtree-put, subtree-put_new, not_above_old}
+use Rattle.rd_tree.proofs.NearPut.{more_near, near-put, near-put_new, has-put, below-put_new, subtree-put, subtree-put_new, not_above_old}
 
 module _ (p k : BoxKey) (f : Boxes) (w : Among k (children same_key p f)) (a : IsApart same_key f) (m : has same_key p f ≡ true) where
   abbrev g : Boxes
@@ -27,6 +27,13 @@ module _ (p k : BoxKey) (f : Boxes) (w : Among k (children same_key p f)) (a : I
       ap (near_of j) back.is
       ∙ (near-put k w.item w.below w.before w.after p g back.apart back.there back.siblings back.off j u
       ∙ ap (λ b. cond (in_subtree same_key p j g) (more_near (same_key p j) b (near_of j g)) (near_of j g)) (sym back.branch_is))
+
+  -- What is told of a box of the branch is told by the branch alone.
+  pub near-cut_branch : (j : BoxKey) → has same_key j (branch same_key k f) ≡ true → near_of j f ≡ near_of j (branch same_key k f)
+  near-cut_branch j u =
+      ap (near_of j) back.is
+      ∙ (near-put_new k w.item w.below w.before w.after p g back.apart back.there back.siblings back.off j (subst (λ b. has same_key j b ≡ true) back.branch_is u)
+      ∙ ap (near_of j) (sym back.branch_is))
 
   -- What stays is below the same boxes.
   pub subtree-cut : (q j : BoxKey) → has same_key j g ≡ true → has same_key q (branch same_key k f) ≡ false → in_subtree same_key q j f ≡ in_subtree same_key q j g

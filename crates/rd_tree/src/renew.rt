@@ -62,7 +62,7 @@ pub(crate) fn whole_of(near: &[Near], nodes: &Arena<Node, BoxMark>, key: BoxKey)
 }
 
 /// Works the stale rows of a branch out anew.
-fn renew(near: &mut Vec<Near>, nodes: &Arena<Node, BoxMark>, key: BoxKey, stale: Stale)
+pub(crate) fn renew(near: &mut Vec<Near>, nodes: &Arena<Node, BoxMark>, key: BoxKey, stale: Stale)
     requires { CanClimb nodes.now near.old.items key (λ f. IsStale stale near.old.items f key) }
     ensures right { (root : BoxKey) (f : Boxes) → IsStanding nodes.now root f → has same_key key f ≡ true → IsStale stale near.old.items f key → IsRightIn near.new.items f key }
     ensures others { (root : BoxKey) (f : Boxes) → IsStanding nodes.now root f → has same_key key f ≡ true → KeepsOutside nodes.now f near.old.items near.new.items key }

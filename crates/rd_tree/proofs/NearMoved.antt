@@ -1,0 +1,206 @@
+-- The rows once a box is moved, with all below it.
+use Rattle.std.proofs.Common.{◌≡◌, refl, ap, ◌∙◌, sym, subst, ◌≤◌, Bool, true, false, ◌||◌, cond, arith, List, length, inl, inr, ◌⊎◌}
+use Rattle.std.specs.Prelude.{Option, Some, None, String, is_some, option_map}
+use Rattle.std.specs.HashMap.{HashMap}
+use Rattle.rd_keys.specs.Keys.{same_key}
+use Rattle.rd_keys.specs.Arena.{Arena}
+use Rattle.rd_keys.proofs.Keys.{same_key-sound, same_key-refl}
+use Rattle.rd_tree.specs.declared.node.Node as inner
+use Rattle.rd_tree.specs.declared.near.Near.{Near}
+use Rattle.rd_tree.specs.declared.whole.Whole.{Whole}
+use Rattle.rd_tree.specs.declared.reach.Reach.TheVariants.{Subtree}
+use Rattle.rd_tree.specs.declared.renew.Stale.TheVariants.{Branch}
+use Rattle.rd_tree.specs.Forest.{empty, tree, has, children, in_subtree, without, branch, each_if, IsApart, IsPlaceIn}
+use Rattle.rd_tree.specs.Links.{Node, on_each, onward_of, unlinked}
+use Rattle.rd_tree.specs.Document.{BoxKey, Item, Boxes}
+use Rattle.rd_tree.specs.Linked.{linked, marks, Relinks, IsSound, seen, seen_from}
+use Rattle.rd_tree.specs.Near.{near_of, near_at}
+use Rattle.rd_tree.specs.Rows.{IsStanding, IsNear, IsGaining, IsLosing, IsRight, KeepsOthers, CanClimb, whole_in}
+use Rattle.rd_tree.specs.Renews.{IsRightIn, IsStale, KeepsOutside}
+use Rattle.rd_tree.specs.Works.{touch}
+use Rattle.rd_tree.specs.WorksAt.{reached}
+use Rattle.rd_tree.specs.Edits.{put_elsewhere, moved}
+use Rattle.rd_tree.proofs.Standing.{cases, never, either}
+use Rattle.rd_tree.proofs.Under.{which}
+use Rattle.rd_tree.proofs.Cutting.{in_children}
+use Rattle.rd_tree.proofs.Without.{stays, stays_out, in_without}
+use Rattle.rd_tree.proofs.Each.{has-each, children-each, place_each}
+use Rattle.rd_tree.proofs.EachBranch.{among_each, without-within, within_subtree}
+use Rattle.rd_tree.proofs.Editing.{touched_sound, still_has}
+use Rattle.rd_tree.proofs.Restoring.{branch_there, branch_off}
+use Rattle.rd_tree.proofs.Unlinking.{items_unlinked}
+use Rattle.rd_tree.proofs.Above.{is_live, off_outside}
+use Rattle.rd_tree.proofs.NearKeeping.{same_slots}
+use Rattle.rd_tree.proofs.NearBranch.{hull_near-unit}
+use Rattle.rd_tree.proofs.NearPut.{more_near}
+use Rattle.rd_tree.proofs.NearCut.{near-cut_branch}
+use Rattle.rd_tree.proofs.NearPlaced.{near-elsewhere, near-elsewhere_branch, subtree-elsewhere, has-elsewhere, not_above_elsewhere}
+use Rattle.rd_tree.proofs.NearRemoved.{IsParent, loses, cut_stands, parent_stays, cut_climbs}
+use Rattle.rd_tree.proofs.TreeRows.{seen_stands, tree_climbs}
+
+-- From the new parent up, the rows lack the branch that came there.
+module _ (k q : BoxKey) (before : Option BoxKey) (h : Boxes) (a : IsApart same_key h) (m : has same_key k h ≡ true) (there : has same_key q h ≡ true) (outside : in_subtree same_key q k h ≡ false)
+    (place : IsPlaceIn same_key before (children same_key q h)) (other : before ≡ Some k → ⊥) (rows : List Near) where
+  abbrev new : Boxes
+  new = put_elsewhere k q before h
+
+  abbrev g : Boxes
+  g = without same_key k h
+
+  q_stays : has same_key q g ≡ true
+  q_stays = let o : (same_key q k ≡ false) × (has same_key q (children same_key k h) ≡ false) = either (same_key q k) (has same_key q (children same_key k h)) outside in stays same_key same_key-sound same_key-refl q k h there o.0 o.1
+
+  q_off : has same_key q (branch same_key k h) ≡ false
+  q_off = branch_off same_key same_key-sound same_key-refl k h a m q q_stays
+
+  old_or_moved : (j : BoxKey) → has same_key j new ≡ true → (has same_key j g ≡ true) ⊎ (has same_key j (branch same_key k h) ≡ true)
+  old_or_moved j i = which (has same_key j g) (has same_key j (branch same_key k h)) (sym (has-elsewhere k q before h a m there outside place other j) ∙ i)
+
+  above_as : (j : BoxKey) → has same_key j g ≡ true → in_subtree same_key q j new ≡ in_subtree same_key q j g
+  above_as j i = subtree-elsewhere k q before h a m there outside place other q j i q_off
+
+  told : (j : BoxKey) → has same_key j g ≡ true → (b : Bool) → in_subtree same_key q j new ≡ b → near_of j new ≡ cond b (more_near (same_key q j) (branch same_key k h) (near_of j g)) (near_of j g)
+  told j i b u = near-elsewhere k q before h a m there outside place other j i ∙ ap (λ c. cond c (more_near (same_key q j) (branch same_key k h) (near_of j g)) (near_of j g)) (sym (above_as j i) ∙ u)
+
+  not_above : (j : BoxKey) → has same_key j (branch same_key k h) ≡ true → in_subtree same_key q j new ≡ false
+  not_above j i = not_above_elsewhere k q before h a m there outside place other q j i q_stays
+
+  pub parent_there : has same_key q new ≡ true
+  parent_there = has-elsewhere k q before h a m there outside place other q ∙ ap (λ b. b || has same_key q (branch same_key k h)) q_stays
+
+  pub moved_gains : IsRight rows g → ((j : BoxKey) → has same_key j (branch same_key k h) ≡ true → near_at rows j ≡ near_of j (branch same_key k h)) → IsGaining rows new q (whole_in (branch same_key k h))
+  moved_gains right inner = record {
+    rest = λ j. near_of j g;
+    plain = λ j. hull_near-unit j g;
+    was = λ j i u. elim (old_or_moved j i) [ inl v ↦ right j v | inr v ↦ absurd (never (in_subtree same_key q j new) u (not_above j v)) ];
+    is = λ j i u. elim (old_or_moved j i) [ inl v ↦ told j v true u | inr v ↦ absurd (never (in_subtree same_key q j new) u (not_above j v)) ];
+    others = λ j i u. elim (old_or_moved j i) [
+      | inl v ↦ right j v ∙ sym (told j v false u)
+      | inr v ↦ inner j v ∙ sym (near-elsewhere_branch k q before h a m there outside place other j v)
+    ];
+  }
+
+-- a box of a branch is its top or below that
+in_branch : (j k : BoxKey) (f : Boxes) → IsApart same_key f → has same_key k f ≡ true → has same_key j (branch same_key k f) ≡ true → in_subtree same_key j k f ≡ true
+in_branch j k f a m u =
+    let t : (d : Item) × (branch same_key k f ≡ tree k d (children same_key k f) empty) = branch_there same_key same_key-sound same_key-refl k f a m in
+    at (same_key j k) (has same_key j (children same_key k f)) (ap (has same_key j) (sym t.1) ∙ u) where
+      at : (b c : Bool) → (b || (c || false)) ≡ true → (b || c) ≡ true
+      at true c e = refl
+      at false true e = refl
+      at false false e = e
+
+-- what is cut out stays live
+some_item : (o : Option (Node BoxKey Item)) → is_some (option_map (λ n. n.item) o) ≡ is_some o
+some_item None = refl
+some_item (Some n) = refl
+
+module _ {Y S : Type 0} (a0 a1 : Arena inner.Node) (root k p : BoxKey) (ids : HashMap (String Y) BoxKey S) (rows : List Near) (s : IsSound a0 root ids) (m : has same_key k (seen a0 root) ≡ true) (not_root : same_key k root ≡ false)
+    (r0 : Relinks a0 a1 (on_each (reached Subtree k (seen_from a0 (onward_of (linked a0 k)).0)) touch (linked a0))) (near : IsNear a0 rows (seen a0 root)) (up : IsParent p k (seen a0 root)) where
+  abbrev f : Boxes
+  f = seen a0 root
+
+  abbrev touched : Boxes
+  touched = seen a1 root
+
+  abbrev stay : Boxes
+  stay = without same_key k touched
+
+  s1 : IsSound a1 root ids × (touched ≡ each_if (λ j. in_subtree same_key j k f) touch f)
+  s1 = touched_sound a0 a1 root k ids Subtree s m r0
+
+  pub touched_limit : a1.limit ≡ 20000
+  touched_limit = s1.0.limit
+
+  pub still_there : has same_key k touched ≡ true
+  still_there = still_has (λ j. in_subtree same_key j k f) touch k f touched s1.1 m
+
+  pub touched_stands : IsStanding a1 root touched
+  touched_stands = seen_stands a1 root s1.0.tree
+
+  pub touched_rows : length a1.slots ≤ length rows
+  touched_rows = let n : length a1.slots ≡ length a0.slots = same_slots a0 a1 r0.same_slots in omega (arith, n, near.all_rows)
+
+  pub touched_climbs : CanClimb a1 rows k (λ h. IsStale Branch rows h k)
+  touched_climbs = tree_climbs a1 root k ids rows (λ h. IsStale Branch rows h k) s1.0 touched_rows still_there tt
+
+  pub still_parent : IsParent p k touched
+  still_parent = subst (λ h. IsParent p k h) (sym s1.1) (record { there = has-each (λ j. in_subtree same_key j k f) touch same_key p f ∙ up.there; child = among_each (λ j. in_subtree same_key j k f) touch same_key k p f up.child })
+
+  stay_is : stay ≡ without same_key k f
+  stay_is = ap (without same_key k) s1.1 ∙ without-within same_key same_key-sound same_key-refl (λ j. in_subtree same_key j k f) touch k f (seen_stands a0 root s.tree).apart (within_subtree same_key k f)
+
+  -- The rows of the branch were worked out anew, and the branch was cut out.
+  module _ (a2 : Arena inner.Node) (next : List Near) (r1 : Relinks a1 a2 (unlinked same_key k (linked a1))) (within : IsRightIn next touched k) (outer : KeepsOutside a1 touched rows next k) (same : length next ≡ length rows) where
+    next_rows : length a1.slots ≤ length next
+    next_rows = omega (arith, touched_rows, same)
+
+    as_before : (j : BoxKey) → has same_key j (without same_key k f) ≡ true → near_at next j ≡ near_of j f
+    as_before j i =
+        let v : has same_key j stay ≡ true = subst (λ h. has same_key j h ≡ true) (sym stay_is) i in
+        let o : (same_key j k ≡ false) × (has same_key j (children same_key k touched) ≡ false) = stays_out same_key same_key-sound same_key-refl j k touched touched_stands.apart v in
+        outer j (is_live a1 root touched touched_stands j (in_without same_key same_key-sound same_key-refl j k touched v)) (ap (λ b. b || has same_key j (children same_key k touched)) o.0 ∙ o.1)
+        ∙ near.right j (in_without same_key same_key-sound same_key-refl j k f i)
+
+    pub touched_loses : (w : Whole) → w ≡ whole_in (branch same_key k f) → IsLosing next stay p w
+    touched_loses w e = subst (λ v. IsLosing next stay p v) (sym e) (subst (λ h. IsLosing next h p (whole_in (branch same_key k f))) (sym stay_is) (loses p k f next (seen_stands a0 root s.tree).apart up.there up.child as_before))
+
+    pub stay_climbs : (w : Whole) → w ≡ whole_in (branch same_key k f) → CanClimb a2 next p (λ h. IsLosing next h p w)
+    stay_climbs w e = cut_climbs a1 a2 root k p ids next s1.0 still_there not_root r1 next_rows still_parent (λ h. IsLosing next h p w) (touched_loses w e)
+
+    pub stay_stands : IsStanding a2 root stay
+    stay_stands = cut_stands a1 a2 root k p ids next s1.0 still_there not_root r1 next_rows still_parent
+
+    pub stay_parent : has same_key p stay ≡ true
+    stay_parent = parent_stays a1 a2 root k p ids next s1.0 still_there not_root r1 next_rows still_parent
+
+    -- The rows of the branch stay right while others lose it.
+    pub branch_kept : (last : List Near) → KeepsOthers a2 stay next last (Some p) → (j : BoxKey) → has same_key j (branch same_key k touched) ≡ true → near_at last j ≡ near_of j (branch same_key k touched)
+    branch_kept last others j i =
+        let u : in_subtree same_key j k touched ≡ true = in_branch j k touched touched_stands.apart still_there i in
+        let out : has same_key j stay ≡ false = elim (cases (has same_key j stay)) [ inl v ↦ absurd (never (has same_key j (branch same_key k touched)) i (branch_off same_key same_key-sound same_key-refl k touched touched_stands.apart still_there j v)) | inr v ↦ v ] in
+        let told : near_of j touched ≡ near_of j (branch same_key k touched) = near-cut_branch p k touched still_parent.child touched_stands.apart still_parent.there j i in
+        others j (live j u) (off_outside (Some p) j stay stay_parent out) ∙ (within j u ∙ told) where
+          in_touched : (j : BoxKey) → in_subtree same_key j k touched ≡ true → has same_key j touched ≡ true
+          in_touched j u = elim (which (same_key j k) (has same_key j (children same_key k touched)) u) [
+            | inl e ↦ subst (λ x. has same_key x touched ≡ true) (sym (same_key-sound j k e)) still_there
+            | inr e ↦ in_children same_key same_key-sound same_key-refl j k touched e
+          ]
+
+          live : (j : BoxKey) → in_subtree same_key j k touched ≡ true → is_some (linked a2 j) ≡ true
+          live j u =
+              sym (some_item (linked a2 j)) ∙ (ap is_some (items_unlinked a1 a2 k r1 j) ∙ (some_item (linked a1 j) ∙ is_live a1 root touched touched_stands j (in_touched j u)))
+
+    -- The branch came below another box.
+    module _ (q : BoxKey) (before : Option BoxKey) (q_in : has same_key q f ≡ true) (outside : in_subtree same_key q k f ≡ false) (place : IsPlaceIn same_key before (children same_key q f)) (other : before ≡ Some k → ⊥)
+        (a4 : Arena inner.Node) (last : List Near) (right : IsRight last stay) (others : KeepsOthers a2 stay next last (Some p)) (length_same : length last ≡ length next) (s4 : IsSound a4 root ids) (sees : seen a4 root ≡ moved k q before f) (slots : marks a4 ≡ marks a0) where
+      q_still : has same_key q touched ≡ true
+      q_still = still_has (λ j. in_subtree same_key j k f) touch q f touched s1.1 q_in
+
+      outside_still : in_subtree same_key q k touched ≡ false
+      outside_still =
+          ap (in_subtree same_key q k) s1.1
+          ∙ (ap (λ b. same_key q k || b) (ap (has same_key q) (children-each (λ j. in_subtree same_key j k f) touch same_key k f) ∙ has-each (λ j. in_subtree same_key j k f) touch same_key q (children same_key k f)) ∙ outside)
+
+      place_still : IsPlaceIn same_key before (children same_key q touched)
+      place_still = subst (λ h. IsPlaceIn same_key before h) (sym (ap (children same_key q) s1.1 ∙ children-each (λ j. in_subtree same_key j k f) touch same_key q f)) (place_each (λ j. in_subtree same_key j k f) touch same_key before (children same_key q f) place)
+
+      sees_touched : seen a4 root ≡ put_elsewhere k q before touched
+      sees_touched = sees ∙ ap (put_elsewhere k q before) (sym s1.1)
+
+      pub landed_parent : has same_key q (seen a4 root) ≡ true
+      landed_parent = ap (has same_key q) sees_touched ∙ parent_there k q before touched touched_stands.apart still_there q_still outside_still place_still other last
+
+      pub landed_gains : (w : Whole) → w ≡ whole_in (branch same_key k touched) → IsGaining last (seen a4 root) q w
+      landed_gains w e =
+          subst (λ v. IsGaining last (seen a4 root) q v) (sym e) (subst (λ h. IsGaining last h q (whole_in (branch same_key k touched))) (sym sees_touched)
+          (moved_gains k q before touched touched_stands.apart still_there q_still outside_still place_still other last right (branch_kept last others)))
+
+      landed_rows : length a4.slots ≤ length last
+      landed_rows = let n : length a4.slots ≡ length a0.slots = same_slots a0 a4 slots in omega (arith, n, near.all_rows, same, length_same)
+
+      pub landed_climbs : (w : Whole) → w ≡ whole_in (branch same_key k touched) → CanClimb a4 last q (λ h. IsGaining last h q w)
+      landed_climbs w e = tree_climbs a4 root q ids last (λ h. IsGaining last h q w) s4 landed_rows landed_parent (landed_gains w e)
+
+      pub landed_near : (final : List Near) → length final ≡ length last → IsRight final (seen a4 root) → IsNear a4 final (seen a4 root)
+      landed_near final same_final done = record { all_rows = omega (arith, landed_rows, same_final); right = done }
