@@ -76,9 +76,16 @@ seen a root = read a.limit (linked a) (Some root)
 abbrev pub shown_of : BoxKey → Bool → inner.Node → Near → Shown
 shown_of k is_root n row =
     record {
-      key = k; rect = n.item.rect; style = n.item.style; is_root = is_root;
-      children = row.children; first_child = n.links.first; next_sibling = n.links.next;
-      hull = row.hull; touched = n.item.touched; touched_below = nat_lt 0 row.touched;
+      key = k;
+      rect = n.item.rect;
+      style = n.item.style;
+      is_root = is_root;
+      children = row.children;
+      first_child = n.links.first;
+      next_sibling = n.links.next;
+      hull = row.hull;
+      touched = n.item.touched;
+      touched_below = nat_lt 0 row.touched;
     }
 
 -- the boxes that the links tell from one on: it, those below it, and its later siblings with theirs

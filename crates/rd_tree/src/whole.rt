@@ -54,12 +54,7 @@ pub(crate) fn touched_box(hull: Rect) -> Whole
 }
 
 /// A branch is a new child of a box.
-pub(crate) fn gain(
-    near: &mut Vec<Near>,
-    nodes: &Arena<Node, BoxMark>,
-    parent: BoxKey,
-    whole: Whole,
-)
+pub(crate) fn gain(near: &mut Vec<Near>, nodes: &Arena<Node, BoxMark>, parent: BoxKey, whole: Whole)
     requires { CanClimb nodes.now near.old.items parent (λ f. IsGaining near.old.items f parent whole) }
     ensures right { (root : BoxKey) (f : Boxes) → IsStanding nodes.now root f → has same_key parent f ≡ true → IsGaining near.old.items f parent whole → IsRight near.new.items f }
     ensures others { (root : BoxKey) (f : Boxes) → IsStanding nodes.now root f → has same_key parent f ≡ true → KeepsOthers nodes.now f near.old.items near.new.items (Some parent) }
@@ -70,12 +65,7 @@ pub(crate) fn gain(
 }
 
 /// A branch is a child of a box no more.
-pub(crate) fn lose(
-    near: &mut Vec<Near>,
-    nodes: &Arena<Node, BoxMark>,
-    parent: BoxKey,
-    whole: Whole,
-)
+pub(crate) fn lose(near: &mut Vec<Near>, nodes: &Arena<Node, BoxMark>, parent: BoxKey, whole: Whole)
     requires { CanClimb nodes.now near.old.items parent (λ f. IsLosing near.old.items f parent whole) }
     ensures right { (root : BoxKey) (f : Boxes) → IsStanding nodes.now root f → has same_key parent f ≡ true → IsLosing near.old.items f parent whole → IsRight near.new.items f }
     ensures others { (root : BoxKey) (f : Boxes) → IsStanding nodes.now root f → has same_key parent f ≡ true → KeepsOthers nodes.now f near.old.items near.new.items (Some parent) }
