@@ -6,7 +6,6 @@ use Rattle.std.specs.Map.{lookup}
 use Rattle.std.specs.String.{string_bytes, string_eq}
 use Rattle.std.proofs.lemmas.Map.Text.{hash_map_updates_text}
 use Rattle.std.specs.Str.{bytes_eq}
-use Rattle.std.proofs.lemmas.Grind.{common_steps}
 use Rattle.rd_keys.specs.Keys.{same_key}
 use Rattle.rd_keys.specs.Arena.{Arena, value, live, occupied, Enters}
 use Rattle.rd_keys.proofs.Calls.{value-before, live-enters, occupied-enters, limit-enters}
@@ -15,10 +14,10 @@ use Rattle.rd_tree.specs.declared.node.Node as inner
 use Rattle.rd_tree.specs.Forest.{empty, tree, has, children, IsPlaceIn}
 use Rattle.rd_tree.specs.Links.{Node, ends_of, left_of, grafted}
 use Rattle.rd_style.specs.Limits.{FitsRect, Fits}
-use Rattle.rd_tree.specs.Document.{BoxKey, Item, Boxes, Slot, named, with_child, with_taken}
+use Rattle.rd_tree.specs.Document.{BoxKey, Item, named, with_taken}
 use Rattle.rd_tree.specs.Linked.{plain, linked, Relinks, IsTree, seen, marks, item_at, IsIndexed, AddsText, EachFits, IsSound}
 use Rattle.rd_tree.proofs.Marks.{marks-enters}
-use Rattle.rd_tree.proofs.Standing.{cases, never}
+use Rattle.rd_tree.proofs.Standing.{cases}
 use Rattle.rd_tree.proofs.Grow.{fresh, alone, linked_put, GrownTree, grow_tree, planted, no_value}
 use Rattle.rd_tree.proofs.Items.{items_grown}
 use Rattle.rd_tree.proofs.Naming.{bytes_same, bytes_refl, named_seen}

@@ -1,21 +1,18 @@
 -- Items that change where they stand.
-use Rattle.std.proofs.Common.{◌≡◌, refl, ap, ◌∙◌, sym, subst, ℕ, ◌+◌, ◌≤◌, Bool, true, false, ◌||◌, cond, arith, List, inl, inr}
+use Rattle.std.proofs.Common.{◌≡◌, refl, ap, ◌∙◌, sym, subst, ◌+◌, ◌≤◌, Bool, true, false, ◌||◌, cond, arith, inl, inr}
 use Rattle.std.specs.Prelude.{Option, Some, None, String, option_map, is_some}
 use Rattle.std.specs.HashMap.{HashMap, get_by_text}
 use Rattle.rd_keys.specs.Keys.{same_key}
-use Rattle.rd_keys.specs.Arena.{Arena, live, occupied}
+use Rattle.rd_keys.specs.Arena.{Arena}
 use Rattle.rd_keys.proofs.Keys.{same_key-sound, same_key-refl}
 use Rattle.rd_keys.proofs.Calls.{live_occupied}
 use Rattle.rd_style.specs.Limits.{FitsRect, Fits}
 use Rattle.rd_tree.specs.declared.node.Node as inner
-use Rattle.rd_tree.specs.declared.walk.Work.{Work}
-use Rattle.rd_tree.specs.Forest.{Forest, empty, tree, size, ◌▷◌, has, head, from, children, each_if, in_subtree, is_among, AllItems, IsPlaceIn, AreApart, IsApart}
-use Rattle.rd_tree.specs.Links.{Node, node, with_item, Stands, edit, on_each, onward_of}
+use Rattle.rd_tree.specs.Forest.{Forest, empty, tree, size, ◌▷◌, has, children, each_if, is_among, AllItems, IsPlaceIn, IsApart}
+use Rattle.rd_tree.specs.Links.{Node, node, with_item, Stands, on_each, onward_of}
 use Rattle.rd_tree.specs.Document.{BoxKey, Item, Boxes}
-use Rattle.rd_tree.specs.Linked.{linked, Relinks, IsLinked, IsTree, IsRead, seen, seen_from, item_at, IsIndexed, EachFits, IsSound}
-use Rattle.rd_tree.specs.Works.{Allows, done}
-use Rattle.rd_tree.specs.WorksAt.{AllowsAt}
-use Rattle.rd_tree.proofs.Standing.{cases, never, frame, agree_at, from_left, from_right, out_of_children}
+use Rattle.rd_tree.specs.Linked.{linked, Relinks, IsTree, IsRead, seen, seen_from, item_at, IsIndexed, EachFits, IsSound}
+use Rattle.rd_tree.proofs.Standing.{cases, frame, agree_at, from_left, from_right}
 use Rattle.rd_tree.proofs.Children.{stands_children}
 use Rattle.rd_tree.proofs.Grow.{seen_is, same_occupied}
 use Rattle.rd_tree.proofs.Under.{size-join}

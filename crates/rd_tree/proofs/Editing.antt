@@ -13,15 +13,15 @@ use Rattle.rd_style.specs.Limits.{FitsRect, Fits}
 use Rattle.rd_tree.specs.declared.node.Node as inner
 use Rattle.rd_tree.specs.declared.reach.Reach.{Reach}
 use Rattle.rd_tree.specs.declared.reach.Reach.TheVariants.{Nothing, Alone, Subtree}
-use Rattle.rd_tree.specs.declared.walk.Work.TheVariants.{Settle, Shift}
-use Rattle.rd_tree.specs.Forest.{Forest, empty, tree, has, children, top, from, each_if, in_subtree, at_box, at_subtree, AllItems, IsApart}
-use Rattle.rd_tree.specs.Links.{Node, node, with_item, Stands, edit, on_each, onward_of}
+use Rattle.rd_tree.specs.declared.walk.Work.TheVariants.{Shift}
+use Rattle.rd_tree.specs.Forest.{empty, tree, has, children, top, from, each_if, at_box, at_subtree, AllItems, IsApart}
+use Rattle.rd_tree.specs.Links.{Node, with_item, Stands, edit, on_each, onward_of}
 use Rattle.rd_tree.specs.Document.{BoxKey, Item, Boxes}
 use Rattle.rd_tree.specs.Linked.{linked, Relinks, IsTree, seen, seen_from, item_at, EachFits, IsSound}
-use Rattle.rd_tree.specs.Works.{touch, settled, move_by, shifted, Allows, done}
+use Rattle.rd_tree.specs.Works.{touch, settled, move_by, shifted, Allows}
 use Rattle.rd_tree.specs.WorksAt.{AllowsAt, FitsAt, ShiftFitsAt, reached}
 use Rattle.rd_tree.specs.Edits.{touched_by, restyle, with_rect, CanRestyle, CanShift}
-use Rattle.rd_tree.proofs.Standing.{cases, never}
+use Rattle.rd_tree.proofs.Standing.{never}
 use Rattle.rd_tree.proofs.Under.{which}
 use Rattle.rd_tree.proofs.Children.{stands_children}
 use Rattle.rd_tree.proofs.Grow.{seen_is}

@@ -1,7 +1,6 @@
 -- The rows of the boxes above a branch that comes or goes.
-use Rattle.std.proofs.Common.{◌≡◌, refl, ap, ◌∙◌, sym, subst, ℕ, ◌+◌, ◌-◌, ◌<◌, ◌≤◌, Bool, true, false, ◌||◌, cond, arith, List, length, inl, inr}
-use Rattle.std.specs.Prelude.{Option, Some, None, is_some}
-use Rattle.rd_geom.specs.Plane.{Rectangle, hull_of, no_pixels}
+use Rattle.std.proofs.Common.{◌≡◌, refl, ap, ◌∙◌, sym, ℕ, ◌+◌, ◌-◌, ◌<◌, ◌≤◌, Bool, true, false, cond, arith, List, length, inl, inr}
+use Rattle.std.specs.Prelude.{Some, is_some}
 use Rattle.rd_keys.specs.Keys.{same_key}
 use Rattle.rd_keys.specs.Arena.{Arena}
 use Rattle.rd_keys.proofs.Keys.{same_key-sound, same_key-refl}
@@ -11,8 +10,8 @@ use Rattle.rd_tree.specs.declared.whole.Whole.{Whole}
 use Rattle.rd_tree.specs.Forest.{has, children, in_subtree, size}
 use Rattle.rd_tree.specs.Document.{BoxKey, Boxes}
 use Rattle.rd_tree.specs.Linked.{linked}
-use Rattle.rd_tree.specs.Near.{near_of, near_at, is_above}
-use Rattle.rd_tree.specs.Rows.{Puts, IsStanding, IsSwapping, IsGaining, IsLosing, CanClimb, CanSwap, HasRows, nothing, joined, more, with_children}
+use Rattle.rd_tree.specs.Near.{near_of, near_at}
+use Rattle.rd_tree.specs.Rows.{Puts, IsStanding, IsSwapping, IsGaining, IsLosing, CanClimb, CanSwap, nothing, joined, more, with_children}
 use Rattle.rd_tree.proofs.Standing.{cases, never, from_left}
 use Rattle.rd_tree.proofs.Above.{is_live, puts_at}
 use Rattle.rd_tree.proofs.NearBranch.{hull_near-unit}

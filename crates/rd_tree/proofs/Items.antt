@@ -1,8 +1,8 @@
 -- What links say of items.
-use Rattle.std.proofs.Common.{◌≡◌, refl, ap, ◌∙◌, sym, subst, Bool, true, false, cond, inl, inr}
+use Rattle.std.proofs.Common.{◌≡◌, refl, ap, ◌∙◌, Bool, true, false, cond}
 use Rattle.std.specs.Prelude.{Option, Some, None, option_map}
 use Rattle.rd_keys.specs.Keys.{same_key}
-use Rattle.rd_keys.specs.Arena.{Arena, value, Enters}
+use Rattle.rd_keys.specs.Arena.{Arena, Enters}
 use Rattle.rd_tree.specs.declared.node.Node as inner
 use Rattle.rd_tree.specs.Links.{Node, edit, edit_if, with_next, with_prev, with_ends, but, grafted}
 use Rattle.rd_tree.specs.Document.{BoxKey, Item}

@@ -1,5 +1,5 @@
 -- The index of ids and the forest say the same.
-use Rattle.std.proofs.Common.{◌≡◌, refl, ap, ◌∙◌, sym, subst, ℕ, Bool, true, false, ◌||◌, cond, List, ◌⊎◌, inl, inr}
+use Rattle.std.proofs.Common.{◌≡◌, refl, ap, ◌∙◌, sym, subst, ℕ, true, false, ◌||◌, List, ◌⊎◌, inl, inr}
 use Rattle.std.specs.Prelude.{Option, Some, None, option_map, is_some}
 use Rattle.std.specs.HashMap.{HashMap, get_by_text}
 use Rattle.std.specs.Prelude.{String}
@@ -9,11 +9,11 @@ use Rattle.rd_keys.specs.Keys.{same_key}
 use Rattle.rd_keys.specs.Arena.{Arena, value}
 use Rattle.rd_keys.proofs.Keys.{same_key-sound, same_key-refl}
 use Rattle.rd_tree.specs.declared.node.Node as inner
-use Rattle.rd_tree.specs.Forest.{Forest, empty, tree, has, from, top, children, IsApart}
-use Rattle.rd_tree.specs.Links.{Node, node, Stands}
+use Rattle.rd_tree.specs.Forest.{empty, tree, has, from, top, children, IsApart}
+use Rattle.rd_tree.specs.Links.{Node, Stands}
 use Rattle.rd_style.specs.Limits.{FitsRect, Fits}
-use Rattle.rd_tree.specs.Document.{BoxKey, Item, Boxes, or_else, named, id_of, is_touched, AllFit}
-use Rattle.rd_tree.specs.Linked.{plain, linked, IsLinked, IsTree, seen, item_at, IsIndexed, EachFits, IsSound}
+use Rattle.rd_tree.specs.Document.{BoxKey, Item, Boxes, or_else, named, AllFit}
+use Rattle.rd_tree.specs.Linked.{linked, IsLinked, IsTree, seen, item_at, IsIndexed, EachFits, IsSound}
 use Rattle.rd_tree.proofs.Standing.{cases, never, refute, from_left, from_right}
 use Rattle.rd_tree.proofs.Children.{stands_children}
 use Rattle.rd_tree.proofs.Under.{which}

@@ -1,6 +1,6 @@
 -- The rows once a new box came in, but for those above it.
-use Rattle.std.proofs.Common.{◌≡◌, refl, ap, ◌∙◌, sym, subst, ℕ, ◌+◌, Bool, true, false, ◌||◌, cond, List, length, ◌≤◌, arith, inl, inr, ◌⊎◌}
-use Rattle.std.specs.Prelude.{Option, Some, None, String, is_some}
+use Rattle.std.proofs.Common.{◌≡◌, refl, ap, ◌∙◌, sym, subst, true, false, cond, List, length, ◌≤◌, arith, inl, inr, ◌⊎◌}
+use Rattle.std.specs.Prelude.{Option, String, is_some}
 use Rattle.std.specs.HashMap.{HashMap}
 use Rattle.rd_geom.specs.Plane.{hull_of, no_pixels}
 use Rattle.rd_keys.specs.Keys.{same_key}

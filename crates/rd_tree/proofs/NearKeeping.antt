@@ -1,6 +1,6 @@
 -- The table of what is near each box stays right.
-use Rattle.std.proofs.Common.{◌≡◌, refl, ap, ◌∙◌, sym, subst, ℕ, ◌+◌, ◌<◌, ◌≤◌, ◌==◌, Bool, true, false, ◌||◌, cond, arith, List, [], ◌∷◌, ◌++◌, length, map, inl, inr}
-use Rattle.std.specs.Prelude.{Option, Some, None, slice_index_or, slice_set, nat_lt}
+use Rattle.std.proofs.Common.{◌≡◌, refl, ap, ◌∙◌, sym, subst, ℕ, ◌+◌, ◌<◌, ◌≤◌, ◌==◌, Bool, true, false, cond, arith, List, [], ◌∷◌, ◌++◌, length, map, inl, inr}
+use Rattle.std.specs.Prelude.{Some, slice_set, nat_lt}
 use Rattle.std.proofs.lemmas.List.{length-set, length-append, length-map}
 use Rattle.std.proofs.Math.ListN.{get_or-map}
 use Rattle.rd_geom.specs.Plane.{hull_of, no_pixels}
@@ -10,7 +10,7 @@ use Rattle.rd_keys.proofs.Keys.{same_key-sound, same_key-refl}
 use Rattle.rd_tree.specs.declared.node.Node as inner
 use Rattle.rd_tree.specs.declared.near.Near.{Near}
 use Rattle.rd_tree.specs.Forest.{empty, tree, has, each_if}
-use Rattle.rd_tree.specs.Document.{BoxKey, Item, Boxes}
+use Rattle.rd_tree.specs.Document.{BoxKey, Item}
 use Rattle.rd_tree.specs.Linked.{seen, marks, mark_of}
 use Rattle.rd_tree.specs.Near.{near_of, near_at, extent}
 use Rattle.rd_tree.specs.Rows.{IsNear, Puts, alone, unmarked}

@@ -1,18 +1,16 @@
 -- One branch stands in place of another in the rows of the boxes above it.
-use Rattle.std.proofs.Common.{◌≡◌, refl, ap, ◌∙◌, sym, subst, ℕ, ◌+◌, ◌-◌, ◌<◌, ◌≤◌, Bool, true, false, cond, arith, List, inl, inr}
-use Rattle.std.specs.Prelude.{Option, Some, None, is_some}
-use Rattle.rd_geom.specs.Plane.{Rectangle, hull_of}
+use Rattle.std.proofs.Common.{◌≡◌, refl, ap, ◌∙◌, sym, ℕ, ◌+◌, ◌-◌, ◌≤◌, Bool, true, false, cond, arith, List, inl, inr}
+use Rattle.std.specs.Prelude.{Option, is_some}
 use Rattle.rd_keys.specs.Keys.{same_key}
 use Rattle.rd_keys.specs.Arena.{Arena}
-use Rattle.rd_keys.proofs.Keys.{same_key-sound, same_key-refl}
 use Rattle.rd_tree.specs.declared.node.Node as inner
 use Rattle.rd_tree.specs.declared.near.Near.{Near}
 use Rattle.rd_tree.specs.declared.whole.Whole.{Whole}
 use Rattle.rd_tree.specs.Forest.{empty, tree, has, from, size}
-use Rattle.rd_tree.specs.Document.{BoxKey, Item, Boxes}
+use Rattle.rd_tree.specs.Document.{BoxKey, Boxes}
 use Rattle.rd_tree.specs.Linked.{linked}
 use Rattle.rd_tree.specs.Near.{near_first, near_of, near_at, is_above}
-use Rattle.rd_tree.specs.Rows.{IsStanding, IsIn, CanMark, MarksUp, CanMove, IsMoving, HasHulls, KeepsCounts, KeepsOthers, IsMarkable, IsSwapping, IsRight, CanSwap, joined, marked, with_hull}
+use Rattle.rd_tree.specs.Rows.{CanMark, MarksUp, IsMoving, HasHulls, KeepsCounts, IsSwapping, IsRight, CanSwap, joined, marked, with_hull}
 use Rattle.rd_tree.proofs.Standing.{cases}
 use Rattle.rd_tree.proofs.Above.{above_in}
 use Rattle.rd_tree.proofs.NearSums.{touched_small, breadth_small}

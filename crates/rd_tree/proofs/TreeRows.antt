@@ -1,5 +1,5 @@
 -- What a tree gives to those who keep its table.
-use Rattle.std.proofs.Common.{◌≡◌, refl, ap, sym, subst, ◌<◌, ◌≤◌, true, arith, List, length}
+use Rattle.std.proofs.Common.{◌≡◌, refl, sym, subst, ◌<◌, ◌≤◌, true, arith, List, length}
 use Rattle.std.specs.Prelude.{Option, Some, None, String, is_some, option_map}
 use Rattle.std.specs.HashMap.{HashMap}
 use Rattle.rd_keys.specs.Keys.{same_key}

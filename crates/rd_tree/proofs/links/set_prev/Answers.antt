@@ -1,8 +1,5 @@
-use Rattle.std.proofs.Common.{◌≡◌, refl, sym, subst}
-use Rattle.std.specs.Prelude.{Option}
-use Rattle.rd_keys.specs.Keys.{same_key}
-use Rattle.rd_tree.specs.Links.{edit_if, with_prev}
-use Rattle.rd_tree.specs.Linked.{Relinks, linked}
+use Rattle.std.proofs.Common.{refl, sym}
+use Rattle.rd_tree.specs.Links.{with_prev}
 use Rattle.rd_tree.proofs.Marks.{relinks_written}
 use Rattle.rd_tree.proofs.links.set_prev.Goals as goal
 

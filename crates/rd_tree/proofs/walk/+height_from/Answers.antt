@@ -1,5 +1,5 @@
-use Rattle.std.proofs.Common.{◌≡◌, ◌≤◌, ◌<◌, ◌+◌, ℕ, max, arith, subst, sym, ap, refl, ◌∙◌}
-use Rattle.std.specs.Prelude.{Some, None}
+use Rattle.std.proofs.Common.{◌≡◌, ◌+◌, arith, subst, sym, ◌∙◌}
+use Rattle.std.specs.Prelude.{Some}
 use Rattle.rd_tree.specs.Forest.{height}
 use Rattle.rd_tree.specs.Linked.{seen_from}
 use Rattle.rd_tree.proofs.Works.{Measured, MeasuredStep, measured_step, nothing_left, height_small, max_is}

@@ -1,4 +1,4 @@
-use Rattle.std.proofs.Common.{◌≡◌, ◌<◌, arith, subst, sym, ap, refl, ◌∙◌}
+use Rattle.std.proofs.Common.{arith, subst, sym, refl, ◌∙◌}
 use Rattle.std.specs.Prelude.{Some}
 use Rattle.rd_style.specs.Limits.{FitsRect}
 use Rattle.rd_tree.specs.Works.{shifted}

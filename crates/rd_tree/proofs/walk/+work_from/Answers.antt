@@ -1,8 +1,8 @@
-use Rattle.std.proofs.Common.{◌≡◌, ◌<◌, arith, subst, sym, ap}
+use Rattle.std.proofs.Common.{◌<◌, arith, subst}
 use Rattle.std.specs.Prelude.{Some}
 use Rattle.rd_tree.specs.Forest.{size}
 use Rattle.rd_tree.specs.Linked.{seen_from}
-use Rattle.rd_tree.proofs.Works.{Walked, begun, ended, allowed_here, Below, then_below, then_onward}
+use Rattle.rd_tree.proofs.Works.{Walked, allowed_here, Below, then_below, then_onward}
 use Rattle.rd_tree.proofs.walk.+work_from.Goals as goal
 
 pub work_on-onward-requires : goal.work_on-onward-requires

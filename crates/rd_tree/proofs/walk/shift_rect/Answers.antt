@@ -1,4 +1,4 @@
-use Rattle.std.proofs.Common.{◌≡◌, ◌∙◌, ◌+ℤ◌, arith, ap, refl, sym, subst, to_z, of_z, w32}
+use Rattle.std.proofs.Common.{◌≡◌, ◌∙◌, arith, refl, sym, subst}
 use Rattle.std.proofs.lemmas.Int.{ints}
 use Rattle.rd_geom.specs.Plane.{Rectangle, IsPlaced}
 use Rattle.rd_style.specs.Limits.{FitsRect}

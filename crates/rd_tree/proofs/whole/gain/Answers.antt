@@ -1,8 +1,5 @@
-use Rattle.std.proofs.Common.{◌≡◌, ◌∙◌, ◌+◌, Some, true, subst, sym, ap, cond}
-use Rattle.rd_keys.specs.Keys.{same_key}
-use Rattle.rd_tree.specs.Near.{near_at}
-use Rattle.rd_tree.specs.Rows.{IsSwapping, nothing, with_children}
-use Rattle.rd_tree.proofs.Above.{puts_at, is_live}
+use Rattle.std.proofs.Common.{◌∙◌, Some, subst, sym}
+use Rattle.rd_tree.specs.Rows.{IsSwapping}
 use Rattle.rd_tree.proofs.Gaining.{gaining, can_gain, can_swap, others_row}
 use Rattle.rd_tree.proofs.whole.gain.Goals as goal
 

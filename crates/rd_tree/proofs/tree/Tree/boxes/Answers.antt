@@ -1,5 +1,4 @@
-use Rattle.std.proofs.Common.{◌∙◌, sym, ap}
-use Rattle.rd_tree.specs.Forest.{size}
+use Rattle.std.proofs.Common.{◌∙◌, sym}
 use Rattle.rd_tree.proofs.Grow.{size_seen}
 use Rattle.rd_tree.proofs.tree.Tree.boxes.Goals as goal
 

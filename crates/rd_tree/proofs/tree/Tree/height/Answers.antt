@@ -1,7 +1,7 @@
-use Rattle.std.proofs.Common.{◌≡◌, ◌∙◌, ap, sym, subst, refl, ◌+◌, arith}
+use Rattle.std.proofs.Common.{◌∙◌, ap, sym, subst, ◌+◌, arith}
 use Rattle.rd_tree.specs.Forest.{height}
 use Rattle.rd_tree.specs.Linked.{IsRead, seen_from}
-use Rattle.rd_tree.proofs.Each.{Under, under_box}
+use Rattle.rd_tree.proofs.Each.{under_box}
 use Rattle.rd_tree.proofs.tree.Tree.height.Goals as goal
 
 pub height_from-requires-clause-read : goal.height_from-requires-clause-read

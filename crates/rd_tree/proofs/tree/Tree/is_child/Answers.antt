@@ -1,4 +1,4 @@
-use Rattle.std.proofs.Common.{◌∙◌, sym}
+use Rattle.std.proofs.Common.{◌∙◌}
 use Rattle.rd_tree.proofs.Climbing.{child_is, no_child}
 use Rattle.rd_tree.proofs.tree.Tree.is_child.Goals as goal
 
