@@ -22,6 +22,10 @@ use Rattle.rd_tree.proofs.Grow.{fresh, alone, linked_put, GrownTree, grow_tree, 
 use Rattle.rd_tree.proofs.Items.{items_grown}
 use Rattle.rd_tree.proofs.Naming.{bytes_same, bytes_refl, named_seen}
 
+-- A value that comes in leaves the first generation.
+first_enters : (old new : Arena inner.Node) (s g : ℕ) (x : inner.Node) → Enters old new s g x → new.first ≡ old.first
+first_enters old new s g x e = ap (λ a. a.first) e.result
+
 -- Where the items are as before but for one more.
 abbrev AddsItem : BoxKey → Item → (BoxKey → Option Item) → (BoxKey → Option Item) → Type 0
 AddsItem k d old new = (j : BoxKey) → new j ≡ cond (same_key k j) (Some d) (old j)
@@ -97,6 +101,7 @@ grow_sound a0 a1 a2 root p k before d ids0 ids1 s room m place new_id r st free 
         indexed = indexed_added k d (item_at a0) (item_at a2) ids0 ids1 items dead (named_seen a0 root ids0 d.id s ∙ new_id) adds s.indexed;
         fits = fits_added k d (item_at a0) (item_at a2) items r st s.fits;
         limit = r2.limit ∙ (limit-enters a0 a1 k.slot k.generation (fresh d p v before) stored ∙ s.limit);
+        first = r2.first ∙ (first_enters a0 a1 k.slot k.generation (fresh d p v before) stored ∙ s.first);
       },
       g,
       r2.same_slots ∙ marks-enters a0 a1 k (fresh d p v before) stored,
@@ -104,10 +109,10 @@ grow_sound a0 a1 a2 root p k before d ids0 ids1 s room m place new_id r st free 
 
 -- The first box came in.
 pub planted_sound : {Y S : Type 0} (a0 a1 : Arena inner.Node) (k : BoxKey) (d : Item) (ids0 ids1 : HashMap (String Y) BoxKey S) →
-    a0.slots ≡ [] → a0.limit ≡ 20000 → FitsRect d.rect → Fits d.style → Enters a0 a1 k.slot k.generation (alone d) → live a1 ≡ live a0 + 1 → occupied a1 ≡ occupied a0 + 1 →
+    a0.slots ≡ [] → a0.limit ≡ 20000 → a0.first ≡ 0 → FitsRect d.rect → Fits d.style → Enters a0 a1 k.slot k.generation (alone d) → live a1 ≡ live a0 + 1 → occupied a1 ≡ occupied a0 + 1 →
     ((i : List ℕ) → get_by_text ids0 i ≡ None) → AddsText d.id k ids0 ids1 →
     IsSound a1 k ids1 × (seen a1 k ≡ tree k d empty empty)
-planted_sound a0 a1 k d ids0 ids1 none limit r st stored more still no_id adds =
+planted_sound a0 a1 k d ids0 ids1 none limit first r st stored more still no_id adds =
     let t : (t : IsTree a1 k) × (seen a1 k ≡ tree k d empty empty) = planted a0 a1 k d none (rw limit (omega arith)) stored more still in
     let nothing : (j : BoxKey) → item_at a0 j ≡ None = λ j. ap (λ o. option_map (λ n. n.item) (option_map plain o)) (no_value a0 j.slot j.generation none) in
     let items : AddsItem k d (item_at a0) (item_at a1) = λ j. ap (option_map (λ n. n.item)) (linked_put a0 a1 k (alone d) stored j) ∙ kept (same_key k j) (linked a0 j) in
@@ -117,6 +122,7 @@ planted_sound a0 a1 k d ids0 ids1 none limit r st stored more still no_id adds =
         indexed = indexed_added k d (item_at a0) (item_at a1) ids0 ids1 items (nothing k) (no_id d.id) adds x;
         fits = fits_added k d (item_at a0) (item_at a1) items r st (λ j e h. cc (h, nothing j));
         limit = limit-enters a0 a1 k.slot k.generation (alone d) stored ∙ limit;
+        first = first_enters a0 a1 k.slot k.generation (alone d) stored ∙ first;
       },
       t.1,
     ) where
@@ -128,7 +134,7 @@ planted_sound a0 a1 k d ids0 ids1 none limit r st stored more still no_id adds =
 pub same_entries : {Y S : Type 0} (a : Arena inner.Node) (root : BoxKey) (ids0 ids1 : HashMap (String Y) BoxKey S) → ids1.entries ≡ ids0.entries → IsSound a root ids0 → IsSound a root ids1
 same_entries a root ids0 ids1 e s =
     let same : (i : List ℕ) → get_by_text ids1 i ≡ get_by_text ids0 i = λ i. ap (lookup (λ k. bytes_eq i (string_bytes k))) e in
-    record { tree = s.tree; indexed = record { named = λ k d h. same d.id ∙ s.indexed.named k d h; live = λ i k h. s.indexed.live i k (sym (same i) ∙ h) }; fits = s.fits; limit = s.limit }
+    record { tree = s.tree; indexed = record { named = λ k d h. same d.id ∙ s.indexed.named k d h; live = λ i k h. s.indexed.live i k (sym (same i) ∙ h) }; fits = s.fits; limit = s.limit; first = s.first }
 
 -- What an insertion into the index does.
 pub added_text : {Y S : Type 0} (ids0 ids1 ids2 : HashMap (String Y) BoxKey S) (name : String Y) (i : List ℕ) (k : BoxKey) →

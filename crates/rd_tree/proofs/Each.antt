@@ -136,6 +136,7 @@ each_sound a b root ids p g s r same_id fit = record {
   indexed = indexed_each p g (item_at a) (item_at b) (item-each p g a b r) ids same_id s.indexed;
   fits = fits_each p g (item_at a) (item_at b) (item-each p g a b r) fit s.fits;
   limit = r.limit ∙ s.limit;
+  first = r.first ∙ s.first;
 }
 
 -- all boxes of a tree are told from its root on

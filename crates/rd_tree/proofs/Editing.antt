@@ -35,6 +35,7 @@ edit_each a b k g r = record {
   same_slots = r.same_slots;
   same_live = r.same_live;
   limit = r.limit;
+  first = r.first;
 }
 
 if_some : (o : Option Item) (P : Item → Type 0) (d : Item) → IfSome o P → o ≡ Some d → P d

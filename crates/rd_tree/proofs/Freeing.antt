@@ -79,6 +79,7 @@ gone_one a k x v = record {
   counted = omega (arith, live-without a k.slot k.generation x v);
   most = occupied-without a k.slot k.generation x v;
   limit = refl;
+  first = refl;
 } where
   at : (j : BoxKey) → (same_key j k ≡ true) ⊎ (same_key j k ≡ false) → linked (without_value a k.slot k.generation) j ≡ cond (same_key j k || (false || false)) None (linked a j)
   at j (inl e) = rw e (ap (option_map plain) (ap (λ i. value (without_value a k.slot k.generation) i.slot i.generation) (same_key-sound j k e) ∙ value-gone a k.slot k.generation x v))
@@ -114,6 +115,7 @@ gone_both a b c f g h holds ks n r s = record {
   counted = omega (arith, r.counted, s.counted, n);
   most = omega (arith, r.most, s.most);
   limit = s.limit ∙ r.limit;
+  first = s.first ∙ r.first;
 }
 
 drop_both : {Y S : Type 0} (f g h : Boxes) (ids0 ids1 ids2 : HashMap (String Y) BoxKey S) → ((i : List ℕ) → is_some (named i h) ≡ (is_some (named i f) || is_some (named i g))) → DropsTexts f ids0 ids1 → DropsTexts g ids1 ids2 → DropsTexts h ids0 ids2

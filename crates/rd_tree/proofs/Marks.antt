@@ -1,5 +1,5 @@
 -- The slots of an arena without what they hold.
-use Rattle.std.proofs.Common.{◌≡◌, refl, ap, ◌∙◌, sym, ℕ, suc, ◌+◌, ◌<◌, Bool, true, false, cond, arith, List, [], ◌∷◌, ◌++◌, length, map, count_by, ◌⊎◌, inl, inr}
+use Rattle.std.proofs.Common.{◌≡◌, refl, ap, ◌∙◌, sym, subst, ℕ, suc, ◌+◌, ◌<◌, Bool, true, false, cond, arith, List, [], ◌∷◌, ◌++◌, length, map, count_by, ◌⊎◌, inl, inr}
 use Rattle.std.specs.Prelude.{Some, None, slice_index_or, nat_lt, option_map}
 use Rattle.std.proofs.lemmas.List.{map-set}
 use Rattle.std.proofs.lemmas.List.Sums.{sum_by-cons}
@@ -10,7 +10,7 @@ use Rattle.rd_keys.specs.Arena.{Arena, Slot as InnerSlot, unmade, slot_at, value
 use Rattle.rd_keys.proofs.Keys.{same_key-sound}
 use Rattle.rd_keys.proofs.Calls.{taken-live, live-with_value, value-with_value}
 use Rattle.rd_tree.specs.declared.node.Node as inner
-use Rattle.rd_tree.specs.Document.{BoxKey, Item, Slot, Document, with_taken, IsUsed}
+use Rattle.rd_tree.specs.Document.{BoxKey, Item, Slot, Document, with_taken, IsNext, IsUsed}
 use Rattle.rd_tree.specs.Links.{Node, edit}
 use Rattle.rd_tree.specs.Linked.{mark_of, marks, plain, linked, Relinks}
 
@@ -62,6 +62,7 @@ relinks_written a k x y e v is = record {
   same_slots = marks-with_value a k.slot k.generation x y v;
   same_live = live-with_value a k.slot k.generation x y v;
   limit = refl;
+  first = refl;
 } where
   kept : (j : BoxKey) (b : Bool) → same_key k j ≡ b → option_map plain (cond b (Some x) (value a j.slot j.generation)) ≡ cond b (option_map e (linked a j)) (linked a j)
   kept j true s = ap Some is ∙ ap (option_map e) (sym (ap (option_map plain) (ap (λ i. value a i.slot i.generation) (sym (same_key-sound k j s)) ∙ v)))
@@ -74,10 +75,23 @@ relinks_nothing a k e v = record {
   same_slots = refl;
   same_live = refl;
   limit = refl;
+  first = refl;
 } where
   kept : (j : BoxKey) (b : Bool) → same_key k j ≡ b → linked a j ≡ cond b (option_map e (linked a j)) (linked a j)
   kept j true s = let n : linked a j ≡ None = ap (option_map plain) (ap (λ i. value a i.slot i.generation) (sym (same_key-sound k j s)) ∙ sym v) in n ∙ sym (ap (option_map e) n)
   kept j false s = refl
+
+-- A key that enters is that of a free slot, or the first of the next one.
+pub is_next : (old new : Arena inner.Node) (k : BoxKey) (x : inner.Node) (t : Document) → t.slots ≡ marks old → old.first ≡ 0 → Enters old new k.slot k.generation x → IsNext t k
+is_next old new k x t same zero_first e = elim e.place [
+  | inl v ↦ inl (
+    subst (λ n. k.slot < n) (sym len) v.0,
+    ap (λ l. slice_index_or l k.slot (record { generation = 0; taken = false })) same ∙ (get_or-map mark_of old.slots k.slot unmade ∙ ap mark_of v.1),
+  )
+  | inr v ↦ inr (v.0 ∙ sym len, v.1 ∙ zero_first)
+] where
+  len : length t.slots ≡ length old.slots
+  len = ap length same ∙ map_length mark_of old.slots
 
 -- A key that enters was never given.
 pub not_used : (old new : Arena inner.Node) (k : BoxKey) (x : inner.Node) (t : Document) → t.slots ≡ marks old → Enters old new k.slot k.generation x → IsUsed t k → ⊥

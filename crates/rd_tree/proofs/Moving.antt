@@ -181,6 +181,7 @@ move_sound a0 a1 a2 a3 root k q before v ends ids s m not_root q_in outside plac
         indexed = indexed_same (item_at a0) (item_at a3) ids same s.indexed;
         fits = λ j d h. s.fits j d (sym (same j) ∙ h);
         limit = r3.limit ∙ (r2.limit ∙ (r1.limit ∙ s.limit));
+        first = r3.first ∙ (r2.first ∙ (r1.first ∙ s.first));
       },
       t.1,
     )

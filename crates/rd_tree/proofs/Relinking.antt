@@ -19,6 +19,7 @@ relinks_cut a0 a1 a2 a3 k p up v n ends first last place_is up_is ends_is first_
   same_slots = r3.same_slots ∙ (r2.same_slots ∙ r1.same_slots);
   same_live = r3.same_live ∙ (r2.same_live ∙ r1.same_live);
   limit = r3.limit ∙ (r2.limit ∙ r1.limit);
+  first = r3.first ∙ (r2.first ∙ r1.first);
 } where
   at1 : BoxKey → Option (Node BoxKey Item)
   at1 = edit_if same_key v (with_next n) (linked a0)

@@ -113,6 +113,7 @@ removed a0 a1 a2 root k ids0 ids1 s m off r1 r2 drops =
             (u.node.first, u.node.last, u.node.next, refl, u.found, u.low, (refl, refl)) (items_unlinked a0 a1 k r1) less texts s.indexed;
         fits = fits_dropped gone (item_at a0) (item_at a2) less s.fits;
         limit = frees.limit ∙ (r1.limit ∙ s.limit);
+        first = frees.first ∙ (r1.first ∙ s.first);
       },
       seen_is a2 root t2,
       frees.slots ∙ (ap (λ l. with_all_left l (keys gone)) r1.same_slots ∙ ap (λ f. with_all_left (marks a0) (keys f)) (sym u.is)),

@@ -74,7 +74,7 @@ pub record Walked (a0 : Arena inner.Node) (first : Option BoxKey) (work : Work) 
 
 pub begun : (a : Arena inner.Node) (first : Option BoxKey) (work : Work) → IsRead a first → AllItems (Allows work) (seen_from a first) → Walked a first work a first
 begun a first work r w = record {
-  links = record { links = λ j. none (has same_key j (seen_from a first)) (linked a j); same_slots = refl; same_live = refl; limit = refl };
+  links = record { links = λ j. none (has same_key j (seen_from a first)) (linked a j); same_slots = refl; same_live = refl; limit = refl; first = refl };
   read = r;
   allowed = w;
   within = λ j e. e;
@@ -92,6 +92,7 @@ ended a0 a first work w =
       same_slots = w.links.same_slots;
       same_live = w.links.same_live;
       limit = w.links.limit;
+      first = w.links.first;
     } where
       all : (b : Bool) → (b && not false) ≡ b
       all true = refl
@@ -190,6 +191,7 @@ module _ (a0 a a1 : Arena inner.Node) (first : Option BoxKey) (work : Work) (k :
             same_slots = r2.same_slots ∙ (r1.same_slots ∙ w.links.same_slots);
             same_live = r2.same_live ∙ (r1.same_live ∙ w.links.same_live);
             limit = limit ∙ w.links.limit;
+            first = r2.first ∙ r1.first ∙ w.links.first;
           };
           read = read2;
           allowed = subst (λ f. AllItems (Allows work) f) (sym seen2) all.2;
@@ -255,6 +257,7 @@ worked_below a a1 a2 k g f n r1 r2 = record {
   same_slots = r2.same_slots ∙ r1.same_slots;
   same_live = r2.same_live ∙ r1.same_live;
   limit = r2.limit ∙ r1.limit;
+  first = r2.first ∙ r1.first;
 } where
   once : {A : Type 0} (g : A → A) (o : A) (b low : Bool) → (b ≡ true → low ≡ false) → cond low (g (cond b (g o) o)) (cond b (g o) o) ≡ cond (b || low) (g o) o
   once g o true low h = rw (h refl) refl

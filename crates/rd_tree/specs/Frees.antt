@@ -16,6 +16,7 @@ pub record Frees (old new : Arena inner.Node) (gone : Boxes) : Type 0 where
   pub counted : live new + size gone ≡ live old
   pub most : occupied new ≤ occupied old
   pub limit : new.limit ≡ old.limit
+  pub first : new.first ≡ old.first
 
 -- The index has the ids of these boxes no more, and all else as it was.
 abbrev pub DropsTexts : {Y S : Type 0} → Boxes → HashMap (String Y) BoxKey S → HashMap (String Y) BoxKey S → Type 0

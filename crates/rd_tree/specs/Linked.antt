@@ -33,6 +33,7 @@ pub record Relinks (old new : Arena inner.Node) (at : BoxKey → Option (Node Bo
   pub same_slots : marks new ≡ marks old
   pub same_live : live new ≡ live old
   pub limit : new.limit ≡ old.limit
+  pub first : new.first ≡ old.first
 
 -- The nodes are linked as this forest, and no box is outside it.
 pub record IsLinked (a : Arena inner.Node) (root : BoxKey) (f : Boxes) : Type 0 where
@@ -68,6 +69,7 @@ pub record IsSound {Y S : Type 0} (a : Arena inner.Node) (root : BoxKey) (ids : 
   pub indexed : IsIndexed (item_at a) ids
   pub fits : EachFits (item_at a)
   pub limit : a.limit ≡ 20000
+  pub first : a.first ≡ 0
 
 abbrev pub seen : Arena inner.Node → BoxKey → Boxes
 seen a root = read a.limit (linked a) (Some root)
