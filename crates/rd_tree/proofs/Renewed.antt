@@ -1,5 +1,5 @@
 -- What the edits of one branch of a tree leave to its table.
-use Rattle.std.proofs.Common.{◌≡◌, refl, ap, ◌∙◌, sym, subst, ◌+◌, ◌<◌, ◌≤◌, true, List, length, arith}
+use Rattle.std.proofs.Common.{◌≡◌, ap, ◌∙◌, sym, subst, ◌+◌, ◌<◌, true, List, length, arith}
 use Rattle.std.specs.Prelude.{String, ◌↔◌}
 use Rattle.std.specs.HashMap.{HashMap}
 use Rattle.rd_keys.specs.Keys.{same_key}

@@ -1,5 +1,5 @@
 -- The rows of a branch once its items have changed.
-use Rattle.std.proofs.Common.{◌≡◌, refl, ap, ◌∙◌, sym, subst, ℕ, ◌+◌, ◌<◌, ◌≤◌, Bool, true, false, ◌||◌, cond, List, length, arith, inl, inr}
+use Rattle.std.proofs.Common.{◌≡◌, refl, ap, ◌∙◌, sym, subst, ◌+◌, ◌<◌, ◌≤◌, Bool, true, false, ◌||◌, cond, List, arith, inl, inr}
 use Rattle.std.specs.Prelude.{Option, Some, None, is_some}
 use Rattle.rd_geom.specs.Plane.{Rectangle, hull_of}
 use Rattle.rd_keys.specs.Keys.{same_key}
@@ -9,7 +9,7 @@ use Rattle.rd_tree.specs.declared.node.Node as inner
 use Rattle.rd_tree.specs.declared.near.Near.{Near}
 use Rattle.rd_tree.specs.declared.whole.Whole.{Whole}
 use Rattle.rd_tree.specs.declared.fill.Gathered.{Gathered}
-use Rattle.rd_tree.specs.Forest.{empty, tree, size, top, has, from, children, item_of, in_subtree, branch, IsApart}
+use Rattle.rd_tree.specs.Forest.{empty, tree, top, has, from, children, item_of, in_subtree, branch, IsApart}
 use Rattle.rd_tree.specs.Links.{Node, Stands, onward_of, up_of}
 use Rattle.rd_tree.specs.Document.{BoxKey, Item, Boxes, AllFit}
 use Rattle.rd_tree.specs.Linked.{linked, seen_from}

@@ -1,12 +1,8 @@
-use Rattle.std.proofs.Common.{◌≡◌, true, List, length, subst, sym, arith, refl}
-use Rattle.rd_keys.specs.Keys.{same_key}
-use Rattle.rd_tree.specs.declared.near.Near.{Near}
-use Rattle.rd_tree.specs.Forest.{has, children}
+use Rattle.std.proofs.Common.{arith}
 use Rattle.rd_tree.specs.Links.{up_of}
 use Rattle.rd_tree.specs.Linked.{linked}
-use Rattle.rd_tree.specs.Near.{near_of, near_at}
-use Rattle.rd_tree.specs.Rows.{HasRows, IsSwapping, touched_under}
-use Rattle.rd_tree.specs.Renews.{IsRightIn, whole_at}
+use Rattle.rd_tree.specs.Rows.{IsSwapping}
+use Rattle.rd_tree.specs.Renews.{IsRightIn}
 use Rattle.rd_tree.proofs.Above.{in_up, above_self}
 use Rattle.rd_tree.proofs.Renewing.{few_touched, renewing}
 use Rattle.rd_tree.proofs.renew.renew_up.Goals as goal

@@ -1,14 +1,12 @@
 use Rattle.std.proofs.Common.{◌≡◌, ◌∙◌, sym, ap, refl, true}
 use Rattle.rd_keys.specs.Keys.{same_key}
-use Rattle.rd_tree.specs.declared.reach.Reach.{Reach}
 use Rattle.rd_tree.specs.declared.reach.Reach.TheVariants.{Nothing}
 use Rattle.std.specs.Option.{option_map_or}
 use Rattle.rd_tree.specs.Forest.{has, top, from, at_box}
-use Rattle.rd_tree.specs.Document.{Boxes}
 use Rattle.rd_tree.specs.Linked.{marks, seen, IsSound}
 use Rattle.rd_tree.specs.Edits.{touched_by, restyle, restyled, style_reach}
 use Rattle.rd_tree.proofs.Each.{under_box}
-use Rattle.rd_tree.proofs.Editing.{styled, put, touched_sound, still_has, reach_of}
+use Rattle.rd_tree.proofs.Editing.{styled, touched_sound, still_has, reach_of}
 use Rattle.rd_tree.specs.Renews.{whole_at, IsStale}
 use Rattle.rd_tree.proofs.OneBranch.{Edited, still_touched}
 use Rattle.rd_tree.proofs.Renewed.{fit_here, row_here, few_here, renews, renewed, box_edited, box_stale}
