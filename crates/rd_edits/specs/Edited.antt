@@ -1,6 +1,6 @@
 -- The tree after an edit. It is this project's own choice.
 use Rattle.std.specs.Prelude.{◌≡◌, ℕ, false, true, List, Option, Some, option_and_then}
-use Rattle.rd_tree.specs.Document.{Document, BoxKey, Boxes, IsUsed, contains, named, with_child, with_taken}
+use Rattle.rd_tree.specs.Document.{Document, BoxKey, Boxes, IsNext, IsUsed, contains, named, with_child, with_taken}
 use Rattle.rd_keys.specs.Keys.{same_key}
 use Rattle.rd_tree.specs.Forest.{at_subtree}
 use Rattle.rd_tree.specs.Works.{move_by}
@@ -30,6 +30,15 @@ IsEdited (Move i parent before) old new =
 IsEdited (SetStyle i change) old new = IsChanged i (λ k. restyled old.root k change old.boxes) old new
 IsEdited (SetRect i rect) old new = IsChanged i (λ k. replaced old.root k rect old.boxes) old new
 IsEdited (Shift i dx dy) old new = IsChanged i (λ k. at_subtree same_key k (move_by dx dy) old.boxes) old new
+
+-- This project's own choice: a new box takes the next key of a slot. No other edit takes one.
+abbrev pub TakesNext : Edit → Document → Document → Type 0
+TakesNext (Insert i parent before rect style) old new = (k : BoxKey) × IsNext old k × (new.slots ≡ with_taken old.slots k)
+TakesNext (Remove i) old new = Unit {0}
+TakesNext (Move i parent before) old new = new.slots ≡ old.slots
+TakesNext (SetStyle i change) old new = new.slots ≡ old.slots
+TakesNext (SetRect i rect) old new = new.slots ≡ old.slots
+TakesNext (Shift i dx dy) old new = new.slots ≡ old.slots
 
 -- Is it an edit that makes a box?
 abbrev pub IsInsert : Edit → Type 0

@@ -1,7 +1,7 @@
 //! An edit is done, or refused.
 
 ghost use Rattle.std.specs.Prelude.{◌≡◌, IfErr, OnOk, OnErr, None};
-ghost use Rattle.rd_edits.specs.Edited.{IsEdited, IsInsert};
+ghost use Rattle.rd_edits.specs.Edited.{IsEdited, IsInsert, TakesNext};
 ghost use Rattle.rd_edits.specs.Faults.{test_of};
 ghost use Rattle.rd_edits.specs.Refusals.{refusal_of};
 
@@ -19,6 +19,7 @@ pub fn apply<B: Ledger>(tree: &mut Tree<B>, edit: &Edit) -> Result<(), EditFault
     ensures refused { IfErr result (λ f. refusal_of tree.old edit.now ≡ test_of f) }
     ensures accepted { OnOk result (refusal_of tree.old edit.now ≡ None) }
     ensures done { OnOk result (IsEdited edit.now tree.old tree.new) }
+    ensures next { OnOk result (TakesNext edit.now tree.old tree.new) }
     ensures kept { OnErr result (tree.new ≡ tree.old) }
     ensures memory { IfErr result (λ f. f ≡ EditFault.NoMemory → IsInsert edit.now) }
 {

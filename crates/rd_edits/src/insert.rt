@@ -1,7 +1,7 @@
 //! A box more.
 
 ghost use Rattle.std.specs.Prelude.{◌≡◌, IfErr, OnOk, OnErr, None};
-ghost use Rattle.rd_edits.specs.Edited.{IsEdited};
+ghost use Rattle.rd_edits.specs.Edited.{IsEdited, TakesNext};
 ghost use Rattle.rd_edits.specs.Faults.{test_of};
 ghost use Rattle.rd_edits.specs.Refusals.{refusal_of};
 ghost use Rattle.rd_edits.specs.declared.edit.Edit.TheVariants.{Insert};
@@ -26,6 +26,7 @@ pub(crate) fn insert<B: Ledger>(
     ensures refused { IfErr result (λ f. refusal_of tree.old (Insert id.now parent.now before.now rect style.now) ≡ test_of f) }
     ensures accepted { OnOk result (refusal_of tree.old (Insert id.now parent.now before.now rect style.now) ≡ None) }
     ensures done { OnOk result (IsEdited (Insert id.now parent.now before.now rect style.now) tree.old tree.new) }
+    ensures next { OnOk result (TakesNext (Insert id.now parent.now before.now rect style.now) tree.old tree.new) }
     ensures kept { OnErr result (tree.new ≡ tree.old) }
 {
     let Some(above) = tree.find(parent) else {

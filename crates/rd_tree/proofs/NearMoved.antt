@@ -35,7 +35,7 @@ use Rattle.rd_tree.proofs.NearBranch.{hull_near-unit}
 use Rattle.rd_tree.proofs.NearPut.{more_near}
 use Rattle.rd_tree.proofs.NearCut.{near-cut_branch}
 use Rattle.rd_tree.proofs.NearPlaced.{near-elsewhere, near-elsewhere_branch, subtree-elsewhere, has-elsewhere, not_above_elsewhere}
-use Rattle.rd_tree.proofs.NearRemoved.{IsParent, loses, cut_stands, parent_stays, cut_climbs}
+use Rattle.rd_tree.proofs.NearRemoved.{IsParent, IsLeft, loses, cut_left}
 use Rattle.rd_tree.proofs.TreeRows.{seen_stands, tree_climbs}
 
 -- From the new parent up, the rows lack the branch that came there.
@@ -95,6 +95,13 @@ some_item : (o : Option (Node BoxKey Item)) → is_some (option_map (λ n. n.ite
 some_item None = refl
 some_item (Some n) = refl
 
+-- A branch, which is w, came below q, and the table can be set right.
+pub record IsLanded (a : Arena inner.Node) (root q : BoxKey) (rows : List Near) (w : Whole) : Type 0 where
+  pub there : has same_key q (seen a root) ≡ true
+  pub gains : IsGaining rows (seen a root) q w
+  pub climbs : CanClimb a rows q (λ h. IsGaining rows h q w)
+  pub near : (final : List Near) → length final ≡ length rows → IsRight final (seen a root) → IsNear a final (seen a root)
+
 module _ {Y S : Type 0} (a0 a1 : Arena inner.Node) (root k p : BoxKey) (ids : HashMap (String Y) BoxKey S) (rows : List Near) (s : IsSound a0 root ids) (m : has same_key k (seen a0 root) ≡ true) (not_root : same_key k root ≡ false)
     (r0 : Relinks a0 a1 (on_each (reached Subtree k (seen_from a0 (onward_of (linked a0 k)).0)) touch (linked a0))) (near : IsNear a0 rows (seen a0 root)) (up : IsParent p k (seen a0 root)) where
   abbrev f : Boxes
@@ -142,21 +149,16 @@ module _ {Y S : Type 0} (a0 a1 : Arena inner.Node) (root k p : BoxKey) (ids : Ha
         outer j (is_live a1 root touched touched_stands j (in_without same_key same_key-sound same_key-refl j k touched v)) (ap (λ b. b || has same_key j (children same_key k touched)) o.0 ∙ o.1)
         ∙ near.right j (in_without same_key same_key-sound same_key-refl j k f i)
 
-    pub touched_loses : (w : Whole) → w ≡ whole_in (branch same_key k f) → IsLosing next stay p w
-    touched_loses w e = subst (λ v. IsLosing next stay p v) (sym e) (subst (λ h. IsLosing next h p (whole_in (branch same_key k f))) (sym stay_is) (loses p k f next (seen_stands a0 root s.tree).apart up.there up.child as_before))
+    touched_loses : IsLosing next stay p (whole_in (branch same_key k f))
+    touched_loses = subst (λ h. IsLosing next h p (whole_in (branch same_key k f))) (sym stay_is) (loses p k f next (seen_stands a0 root s.tree).apart up.there up.child as_before)
 
-    pub stay_climbs : (w : Whole) → w ≡ whole_in (branch same_key k f) → CanClimb a2 next p (λ h. IsLosing next h p w)
-    stay_climbs w e = cut_climbs a1 a2 root k p ids next s1.0 still_there not_root r1 next_rows still_parent (λ h. IsLosing next h p w) (touched_loses w e)
-
-    pub stay_stands : IsStanding a2 root stay
-    stay_stands = cut_stands a1 a2 root k p ids next s1.0 still_there not_root r1 next_rows still_parent
-
-    pub stay_parent : has same_key p stay ≡ true
-    stay_parent = parent_stays a1 a2 root k p ids next s1.0 still_there not_root r1 next_rows still_parent
+    -- The rows above have the branch as it was before.
+    pub touched_left : (w : Whole) → w ≡ whole_in (branch same_key k f) → IsLeft a2 root p stay next w
+    touched_left w e = cut_left a1 a2 root k p ids next s1.0 still_there not_root r1 next_rows still_parent w (subst (λ v. IsLosing next stay p v) (sym e) touched_loses)
 
     -- The rows of the branch stay right while others lose it.
-    pub branch_kept : (last : List Near) → KeepsOthers a2 stay next last (Some p) → (j : BoxKey) → has same_key j (branch same_key k touched) ≡ true → near_at last j ≡ near_of j (branch same_key k touched)
-    branch_kept last others j i =
+    branch_kept : has same_key p stay ≡ true → (last : List Near) → KeepsOthers a2 stay next last (Some p) → (j : BoxKey) → has same_key j (branch same_key k touched) ≡ true → near_at last j ≡ near_of j (branch same_key k touched)
+    branch_kept stay_parent last others j i =
         let u : in_subtree same_key j k touched ≡ true = in_branch j k touched touched_stands.apart still_there i in
         let out : has same_key j stay ≡ false = elim (cases (has same_key j stay)) [ inl v ↦ absurd (never (has same_key j (branch same_key k touched)) i (branch_off same_key same_key-sound same_key-refl k touched touched_stands.apart still_there j v)) | inr v ↦ v ] in
         let told : near_of j touched ≡ near_of j (branch same_key k touched) = near-cut_branch p k touched still_parent.child touched_stands.apart still_parent.there j i in
@@ -173,7 +175,7 @@ module _ {Y S : Type 0} (a0 a1 : Arena inner.Node) (root k p : BoxKey) (ids : Ha
 
     -- The branch came below another box.
     module _ (q : BoxKey) (before : Option BoxKey) (q_in : has same_key q f ≡ true) (outside : in_subtree same_key q k f ≡ false) (place : IsPlaceIn same_key before (children same_key q f)) (other : before ≡ Some k → ⊥)
-        (a4 : Arena inner.Node) (last : List Near) (right : IsRight last stay) (others : KeepsOthers a2 stay next last (Some p)) (length_same : length last ≡ length next) (s4 : IsSound a4 root ids) (sees : seen a4 root ≡ moved k q before f) (slots : marks a4 ≡ marks a0) where
+        (a4 : Arena inner.Node) (last : List Near) (parent_stays : has same_key p stay ≡ true) (right : IsRight last stay) (others : KeepsOthers a2 stay next last (Some p)) (length_same : length last ≡ length next) (s4 : IsSound a4 root ids) (sees : seen a4 root ≡ moved k q before f) (slots : marks a4 ≡ marks a0) where
       q_still : has same_key q touched ≡ true
       q_still = still_has (λ j. in_subtree same_key j k f) touch q f touched s1.1 q_in
 
@@ -188,19 +190,23 @@ module _ {Y S : Type 0} (a0 a1 : Arena inner.Node) (root k p : BoxKey) (ids : Ha
       sees_touched : seen a4 root ≡ put_elsewhere k q before touched
       sees_touched = sees ∙ ap (put_elsewhere k q before) (sym s1.1)
 
-      pub landed_parent : has same_key q (seen a4 root) ≡ true
+      landed_parent : has same_key q (seen a4 root) ≡ true
       landed_parent = ap (has same_key q) sees_touched ∙ parent_there k q before touched touched_stands.apart still_there q_still outside_still place_still other last
 
-      pub landed_gains : (w : Whole) → w ≡ whole_in (branch same_key k touched) → IsGaining last (seen a4 root) q w
-      landed_gains w e =
-          subst (λ v. IsGaining last (seen a4 root) q v) (sym e) (subst (λ h. IsGaining last h q (whole_in (branch same_key k touched))) (sym sees_touched)
-          (moved_gains k q before touched touched_stands.apart still_there q_still outside_still place_still other last right (branch_kept last others)))
+      landed_gains : IsGaining last (seen a4 root) q (whole_in (branch same_key k touched))
+      landed_gains =
+          subst (λ h. IsGaining last h q (whole_in (branch same_key k touched))) (sym sees_touched)
+          (moved_gains k q before touched touched_stands.apart still_there q_still outside_still place_still other last right (branch_kept parent_stays last others))
 
       landed_rows : length a4.slots ≤ length last
       landed_rows = let n : length a4.slots ≡ length a0.slots = same_slots a0 a4 slots in omega (arith, n, near.all_rows, same, length_same)
 
-      pub landed_climbs : (w : Whole) → w ≡ whole_in (branch same_key k touched) → CanClimb a4 last q (λ h. IsGaining last h q w)
-      landed_climbs w e = tree_climbs a4 root q ids last (λ h. IsGaining last h q w) s4 landed_rows landed_parent (landed_gains w e)
-
-      pub landed_near : (final : List Near) → length final ≡ length last → IsRight final (seen a4 root) → IsNear a4 final (seen a4 root)
-      landed_near final same_final done = record { all_rows = omega (arith, landed_rows, same_final); right = done }
+      pub landed : (w : Whole) → w ≡ whole_in (branch same_key k touched) → IsLanded a4 root q last w
+      landed w e =
+          let gains : IsGaining last (seen a4 root) q w = subst (λ v. IsGaining last (seen a4 root) q v) (sym e) landed_gains in
+          record {
+            there = landed_parent;
+            gains = gains;
+            climbs = tree_climbs a4 root q ids last (λ h. IsGaining last h q w) s4 landed_rows landed_parent gains;
+            near = λ final same_final done. record { all_rows = omega (arith, landed_rows, same_final); right = done };
+          }

@@ -86,6 +86,13 @@ loses p k f rows apart there child right =
       others = λ j h u. right j h ∙ (near-cut p k f child apart there j h ∙ ap (λ b. cond b (more_near (same_key p j) (branch same_key k f) (near_of j g)) (near_of j g)) u);
     }
 
+-- The links stand for the boxes g without a branch, which is w and was a child of p.
+pub record IsLeft (a : Arena inner.Node) (root p : BoxKey) (g : Boxes) (rows : List Near) (w : Whole) : Type 0 where
+  pub stands : IsStanding a root g
+  pub there : has same_key p g ≡ true
+  pub loses : IsLosing rows g p w
+  pub climbs : CanClimb a rows p (λ h. IsLosing rows h p w)
+
 module _ {Y S : Type 0} (a0 a1 : Arena inner.Node) (root k p : BoxKey) (ids : HashMap (String Y) BoxKey S) (rows : List Near) (s : IsSound a0 root ids) (m : has same_key k (seen a0 root) ≡ true) (not_root : same_key k root ≡ false)
     (r : Relinks a0 a1 (unlinked same_key k (linked a0))) (most : length a0.slots ≤ length rows) (q : IsParent p k (seen a0 root)) where
   abbrev f : Boxes
@@ -100,26 +107,32 @@ module _ {Y S : Type 0} (a0 a1 : Arena inner.Node) (root k p : BoxKey) (ids : Ha
   u : Unlinked a0 a1 root k f
   u = cut_out a0 a1 root k s.tree m not_root r
 
-  pub cut_stands : IsStanding a1 root g
+  cut_stands : IsStanding a1 root g
   cut_stands = record { stands = u.stands; apart = u.apart; small = omega (arith, u.counted, live_occupied a0, s.tree.most, r.limit) }
 
-  pub parent_stays : has same_key p g ≡ true
+  parent_stays : has same_key p g ≡ true
   parent_stays = (restored same_key same_key-sound same_key-refl p k f q.child before.apart q.there).there
 
-  pub cut_climbs : (Q : Boxes → Type 0) → Q g → CanClimb a1 rows p Q
-  cut_climbs Q ready = record {
-    root = root;
-    boxes = g;
-    is = cut_stands;
+  -- Where the rows above p have the branch too many, it can be taken out of them.
+  pub cut_left : (w : Whole) → IsLosing rows g p w → IsLeft a1 root p g rows w
+  cut_left w l = record {
+    stands = cut_stands;
     there = parent_stays;
-    has_rows = λ j h. each_has_row a0 root f rows before most j (in_without same_key same_key-sound same_key-refl j k f h);
-    fits = fit_without k f (fits_seen a0 root ids s);
-    few = r.limit ∙ s.limit;
-    ready = ready;
+    loses = l;
+    climbs = record {
+      root = root;
+      boxes = g;
+      is = cut_stands;
+      there = parent_stays;
+      has_rows = λ j h. each_has_row a0 root f rows before most j (in_without same_key same_key-sound same_key-refl j k f h);
+      fits = fit_without k f (fits_seen a0 root ids s);
+      few = r.limit ∙ s.limit;
+      ready = l;
+    };
   }
 
-  pub cut_loses : (w : Whole) → w ≡ whole_in (branch same_key k f) → ((j : BoxKey) → has same_key j g ≡ true → near_at rows j ≡ near_of j f) → IsLosing rows g p w
-  cut_loses w e right = subst (λ v. IsLosing rows g p v) (sym e) (loses p k f rows before.apart q.there q.child right)
+  pub left_by : ((j : BoxKey) → has same_key j f ≡ true → near_at rows j ≡ near_of j f) → (w : Whole) → w ≡ whole_in (branch same_key k f) → IsLeft a1 root p g rows w
+  left_by right w e = cut_left w (subst (λ v. IsLosing rows g p v) (sym e) (loses p k f rows before.apart q.there q.child (λ j h. right j (in_without same_key same_key-sound same_key-refl j k f h))))
 
 -- The table once the branch is gone.
 pub removed_near : (a0 a2 : Arena inner.Node) (root : BoxKey) (g : Boxes) (ks : List BoxKey) (rows new : List Near) → length a0.slots ≤ length rows → length new ≡ length rows → seen a2 root ≡ g → marks a2 ≡ with_all_left (marks a0) ks →

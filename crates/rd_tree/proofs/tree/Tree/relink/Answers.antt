@@ -1,9 +1,8 @@
-use Rattle.std.proofs.Common.{◌≡◌, refl, ap, ◌∙◌, sym, Some}
+use Rattle.std.proofs.Common.{◌≡◌, refl, ap, ◌∙◌, sym}
 use Rattle.rd_keys.specs.Keys.{same_key}
 use Rattle.rd_tree.specs.Forest.{without}
 use Rattle.rd_tree.specs.Linked.{IsSound, marks, seen}
 use Rattle.rd_tree.specs.Near.{near_at}
-use Rattle.rd_tree.specs.Rows.{IsRight, KeepsOthers}
 use Rattle.rd_tree.specs.Renews.{IsRightIn, KeepsOutside}
 use Rattle.rd_tree.specs.Edits.{moved}
 use Rattle.rd_tree.proofs.Each.{under_box, all_items}
@@ -11,8 +10,8 @@ use Rattle.rd_tree.proofs.Moving.{relink_sound}
 use Rattle.rd_tree.proofs.Above.{above_self}
 use Rattle.rd_tree.proofs.TreeRows.{seen_stands}
 use Rattle.rd_tree.proofs.Renewing.{whole_is, few_touched}
-use Rattle.rd_tree.proofs.NearRemoved.{parent_above, is_parent}
-use Rattle.rd_tree.proofs.NearMoved.{touched_stands, touched_limit, still_there, touched_climbs, touched_loses, stay_climbs, stay_stands, stay_parent, landed_parent, landed_gains, landed_climbs, landed_near}
+use Rattle.rd_tree.proofs.NearRemoved.{IsLeft, parent_above, is_parent}
+use Rattle.rd_tree.proofs.NearMoved.{IsLanded, touched_stands, touched_limit, still_there, touched_climbs, touched_left, landed}
 use Rattle.rd_tree.proofs.tree.Tree.relink.Goals as goal
 
 pub unreachable-requires : goal.unreachable-requires
@@ -33,74 +32,80 @@ pub work_below-requires-clause-allowed : goal.work_below-requires-clause-allowed
 work_below-requires-clause-allowed g c = all_items _ _ (λ d. tt)
 
 pub renew-requires : goal.renew-requires
-renew-requires g c = touched_climbs c.self.inside.nodes c.work_below.new.nodes c.self.inside.root c.args.key c.in-Some.up c.self.inside.ids c.self.inside.near.items c.self.invariant.sound (rw (← c.self.view_is) at c.requires.live) (rw (← c.self.view_is) at c.requires.below) c.work_below.ensures c.self.invariant.near (is_parent c.self.inside.nodes c.self.inside.root c.args.key c.in-Some.up c.self.invariant.sound.tree (rw (← c.self.view_is) at c.requires.live) (rw (← c.self.view_is) at c.requires.below) (sym c.in-Some.is ∙ c.up_of.ensures))
+renew-requires g c =
+    let up = is_parent c.self.inside.nodes c.self.inside.root c.args.key c.in-Some.up c.self.invariant.sound.tree (rw (← c.self.view_is) at c.requires.live) (rw (← c.self.view_is) at c.requires.below) (sym c.in-Some.is ∙ c.up_of.ensures) in
+    touched_climbs c.self.inside.nodes c.work_below.new.nodes c.self.inside.root c.args.key c.in-Some.up c.self.inside.ids c.self.inside.near.items c.self.invariant.sound (rw (← c.self.view_is) at c.requires.live) (rw (← c.self.view_is) at c.requires.below) c.work_below.ensures c.self.invariant.near up
 
 pub whole_of-new-requires-clause-few : goal.whole_of-new-requires-clause-few
 whole_of-new-requires-clause-few g c =
-    let stands = touched_stands c.self.inside.nodes c.work_below.new.nodes c.self.inside.root c.args.key c.in-Some.up c.self.inside.ids c.self.inside.near.items c.self.invariant.sound (rw (← c.self.view_is) at c.requires.live) (rw (← c.self.view_is) at c.requires.below) c.work_below.ensures c.self.invariant.near (is_parent c.self.inside.nodes c.self.inside.root c.args.key c.in-Some.up c.self.invariant.sound.tree (rw (← c.self.view_is) at c.requires.live) (rw (← c.self.view_is) at c.requires.below) (sym c.in-Some.is ∙ c.up_of.ensures)) in
-    let there = still_there c.self.inside.nodes c.work_below.new.nodes c.self.inside.root c.args.key c.in-Some.up c.self.inside.ids c.self.inside.near.items c.self.invariant.sound (rw (← c.self.view_is) at c.requires.live) (rw (← c.self.view_is) at c.requires.below) c.work_below.ensures c.self.invariant.near (is_parent c.self.inside.nodes c.self.inside.root c.args.key c.in-Some.up c.self.invariant.sound.tree (rw (← c.self.view_is) at c.requires.live) (rw (← c.self.view_is) at c.requires.below) (sym c.in-Some.is ∙ c.up_of.ensures)) in
-    let inner : IsRightIn c.renew.new.near.items (seen c.work_below.new.nodes c.self.inside.root) c.args.key = c.renew.ensures.right c.self.inside.root (seen c.work_below.new.nodes c.self.inside.root) stands there tt in
-    few_touched c.work_below.new.nodes c.self.inside.root (seen c.work_below.new.nodes c.self.inside.root) stands c.args.key there c.deref-2.result.now (ap (λ r. near_at r c.args.key) c.deref-2.ensures.value ∙ inner c.args.key (above_self c.work_below.new.nodes c.self.inside.root (seen c.work_below.new.nodes c.self.inside.root) stands c.args.key there)) (touched_limit c.self.inside.nodes c.work_below.new.nodes c.self.inside.root c.args.key c.in-Some.up c.self.inside.ids c.self.inside.near.items c.self.invariant.sound (rw (← c.self.view_is) at c.requires.live) (rw (← c.self.view_is) at c.requires.below) c.work_below.ensures c.self.invariant.near (is_parent c.self.inside.nodes c.self.inside.root c.args.key c.in-Some.up c.self.invariant.sound.tree (rw (← c.self.view_is) at c.requires.live) (rw (← c.self.view_is) at c.requires.below) (sym c.in-Some.is ∙ c.up_of.ensures)))
+    let up = is_parent c.self.inside.nodes c.self.inside.root c.args.key c.in-Some.up c.self.invariant.sound.tree (rw (← c.self.view_is) at c.requires.live) (rw (← c.self.view_is) at c.requires.below) (sym c.in-Some.is ∙ c.up_of.ensures) in
+    let stands = touched_stands c.self.inside.nodes c.work_below.new.nodes c.self.inside.root c.args.key c.in-Some.up c.self.inside.ids c.self.inside.near.items c.self.invariant.sound (rw (← c.self.view_is) at c.requires.live) (rw (← c.self.view_is) at c.requires.below) c.work_below.ensures c.self.invariant.near up in
+    let there = still_there c.self.inside.nodes c.work_below.new.nodes c.self.inside.root c.args.key c.in-Some.up c.self.inside.ids c.self.inside.near.items c.self.invariant.sound (rw (← c.self.view_is) at c.requires.live) (rw (← c.self.view_is) at c.requires.below) c.work_below.ensures c.self.invariant.near up in
+    let within : IsRightIn c.renew.new.near.items (seen c.work_below.new.nodes c.self.inside.root) c.args.key = c.renew.ensures.right c.self.inside.root (seen c.work_below.new.nodes c.self.inside.root) stands there tt in
+    few_touched c.work_below.new.nodes c.self.inside.root (seen c.work_below.new.nodes c.self.inside.root) stands c.args.key there c.deref-2.result.now (ap (λ r. near_at r c.args.key) c.deref-2.ensures.value ∙ within c.args.key (above_self c.work_below.new.nodes c.self.inside.root (seen c.work_below.new.nodes c.self.inside.root) stands c.args.key there)) (touched_limit c.self.inside.nodes c.work_below.new.nodes c.self.inside.root c.args.key c.in-Some.up c.self.inside.ids c.self.inside.near.items c.self.invariant.sound (rw (← c.self.view_is) at c.requires.live) (rw (← c.self.view_is) at c.requires.below) c.work_below.ensures c.self.invariant.near up)
 
 pub lose-requires : goal.lose-requires
 lose-requires g c =
-    let stands = touched_stands c.self.inside.nodes c.work_below.new.nodes c.self.inside.root c.args.key c.in-Some.up c.self.inside.ids c.self.inside.near.items c.self.invariant.sound (rw (← c.self.view_is) at c.requires.live) (rw (← c.self.view_is) at c.requires.below) c.work_below.ensures c.self.invariant.near (is_parent c.self.inside.nodes c.self.inside.root c.args.key c.in-Some.up c.self.invariant.sound.tree (rw (← c.self.view_is) at c.requires.live) (rw (← c.self.view_is) at c.requires.below) (sym c.in-Some.is ∙ c.up_of.ensures)) in
-    let there = still_there c.self.inside.nodes c.work_below.new.nodes c.self.inside.root c.args.key c.in-Some.up c.self.inside.ids c.self.inside.near.items c.self.invariant.sound (rw (← c.self.view_is) at c.requires.live) (rw (← c.self.view_is) at c.requires.below) c.work_below.ensures c.self.invariant.near (is_parent c.self.inside.nodes c.self.inside.root c.args.key c.in-Some.up c.self.invariant.sound.tree (rw (← c.self.view_is) at c.requires.live) (rw (← c.self.view_is) at c.requires.below) (sym c.in-Some.is ∙ c.up_of.ensures)) in
-    let inner : IsRightIn c.renew.new.near.items (seen c.work_below.new.nodes c.self.inside.root) c.args.key = c.renew.ensures.right c.self.inside.root (seen c.work_below.new.nodes c.self.inside.root) stands there tt in
+    let up = is_parent c.self.inside.nodes c.self.inside.root c.args.key c.in-Some.up c.self.invariant.sound.tree (rw (← c.self.view_is) at c.requires.live) (rw (← c.self.view_is) at c.requires.below) (sym c.in-Some.is ∙ c.up_of.ensures) in
+    let stands = touched_stands c.self.inside.nodes c.work_below.new.nodes c.self.inside.root c.args.key c.in-Some.up c.self.inside.ids c.self.inside.near.items c.self.invariant.sound (rw (← c.self.view_is) at c.requires.live) (rw (← c.self.view_is) at c.requires.below) c.work_below.ensures c.self.invariant.near up in
+    let there = still_there c.self.inside.nodes c.work_below.new.nodes c.self.inside.root c.args.key c.in-Some.up c.self.inside.ids c.self.inside.near.items c.self.invariant.sound (rw (← c.self.view_is) at c.requires.live) (rw (← c.self.view_is) at c.requires.below) c.work_below.ensures c.self.invariant.near up in
+    let within : IsRightIn c.renew.new.near.items (seen c.work_below.new.nodes c.self.inside.root) c.args.key = c.renew.ensures.right c.self.inside.root (seen c.work_below.new.nodes c.self.inside.root) stands there tt in
     let outer : KeepsOutside c.work_below.new.nodes (seen c.work_below.new.nodes c.self.inside.root) c.self.inside.near.items c.renew.new.near.items c.args.key = c.renew.ensures.others c.self.inside.root (seen c.work_below.new.nodes c.self.inside.root) stands there in
-    stay_climbs c.self.inside.nodes c.work_below.new.nodes c.self.inside.root c.args.key c.in-Some.up c.self.inside.ids c.self.inside.near.items c.self.invariant.sound (rw (← c.self.view_is) at c.requires.live) (rw (← c.self.view_is) at c.requires.below) c.work_below.ensures c.self.invariant.near (is_parent c.self.inside.nodes c.self.inside.root c.args.key c.in-Some.up c.self.invariant.sound.tree (rw (← c.self.view_is) at c.requires.live) (rw (← c.self.view_is) at c.requires.below) (sym c.in-Some.is ∙ c.up_of.ensures))
-    c.unlink.new.nodes c.renew.new.near.items c.unlink.ensures inner outer c.renew.ensures.same_length
-    c.whole_of-old.result (c.whole_of-old.ensures ∙ whole_is c.self.inside.nodes c.self.inside.root (seen c.self.inside.nodes c.self.inside.root) (seen_stands c.self.inside.nodes c.self.inside.root c.self.invariant.sound.tree) c.args.key (rw (← c.self.view_is) at c.requires.live) c.deref.result.now (ap (λ r. near_at r c.args.key) c.deref.ensures.value ∙ c.self.invariant.near.right c.args.key (rw (← c.self.view_is) at c.requires.live)))
+    let left : IsLeft c.unlink.new.nodes c.self.inside.root c.in-Some.up (without same_key c.args.key (seen c.work_below.new.nodes c.self.inside.root)) c.renew.new.near.items c.whole_of-old.result =
+    touched_left c.self.inside.nodes c.work_below.new.nodes c.self.inside.root c.args.key c.in-Some.up c.self.inside.ids c.self.inside.near.items c.self.invariant.sound (rw (← c.self.view_is) at c.requires.live) (rw (← c.self.view_is) at c.requires.below) c.work_below.ensures c.self.invariant.near up
+    c.unlink.new.nodes c.renew.new.near.items c.unlink.ensures within outer c.renew.ensures.same_length
+    c.whole_of-old.result (c.whole_of-old.ensures ∙ whole_is c.self.inside.nodes c.self.inside.root (seen c.self.inside.nodes c.self.inside.root) (seen_stands c.self.inside.nodes c.self.inside.root c.self.invariant.sound.tree) c.args.key (rw (← c.self.view_is) at c.requires.live) c.deref.result.now (ap (λ r. near_at r c.args.key) c.deref.ensures.value ∙ c.self.invariant.near.right c.args.key (rw (← c.self.view_is) at c.requires.live))) in
+    left.climbs
 
 pub gain-requires : goal.gain-requires
 gain-requires g c =
-    let stands = touched_stands c.self.inside.nodes c.work_below.new.nodes c.self.inside.root c.args.key c.in-Some.up c.self.inside.ids c.self.inside.near.items c.self.invariant.sound (rw (← c.self.view_is) at c.requires.live) (rw (← c.self.view_is) at c.requires.below) c.work_below.ensures c.self.invariant.near (is_parent c.self.inside.nodes c.self.inside.root c.args.key c.in-Some.up c.self.invariant.sound.tree (rw (← c.self.view_is) at c.requires.live) (rw (← c.self.view_is) at c.requires.below) (sym c.in-Some.is ∙ c.up_of.ensures)) in
-    let there = still_there c.self.inside.nodes c.work_below.new.nodes c.self.inside.root c.args.key c.in-Some.up c.self.inside.ids c.self.inside.near.items c.self.invariant.sound (rw (← c.self.view_is) at c.requires.live) (rw (← c.self.view_is) at c.requires.below) c.work_below.ensures c.self.invariant.near (is_parent c.self.inside.nodes c.self.inside.root c.args.key c.in-Some.up c.self.invariant.sound.tree (rw (← c.self.view_is) at c.requires.live) (rw (← c.self.view_is) at c.requires.below) (sym c.in-Some.is ∙ c.up_of.ensures)) in
-    let inner : IsRightIn c.renew.new.near.items (seen c.work_below.new.nodes c.self.inside.root) c.args.key = c.renew.ensures.right c.self.inside.root (seen c.work_below.new.nodes c.self.inside.root) stands there tt in
+    let up = is_parent c.self.inside.nodes c.self.inside.root c.args.key c.in-Some.up c.self.invariant.sound.tree (rw (← c.self.view_is) at c.requires.live) (rw (← c.self.view_is) at c.requires.below) (sym c.in-Some.is ∙ c.up_of.ensures) in
+    let stands = touched_stands c.self.inside.nodes c.work_below.new.nodes c.self.inside.root c.args.key c.in-Some.up c.self.inside.ids c.self.inside.near.items c.self.invariant.sound (rw (← c.self.view_is) at c.requires.live) (rw (← c.self.view_is) at c.requires.below) c.work_below.ensures c.self.invariant.near up in
+    let there = still_there c.self.inside.nodes c.work_below.new.nodes c.self.inside.root c.args.key c.in-Some.up c.self.inside.ids c.self.inside.near.items c.self.invariant.sound (rw (← c.self.view_is) at c.requires.live) (rw (← c.self.view_is) at c.requires.below) c.work_below.ensures c.self.invariant.near up in
+    let within : IsRightIn c.renew.new.near.items (seen c.work_below.new.nodes c.self.inside.root) c.args.key = c.renew.ensures.right c.self.inside.root (seen c.work_below.new.nodes c.self.inside.root) stands there tt in
     let outer : KeepsOutside c.work_below.new.nodes (seen c.work_below.new.nodes c.self.inside.root) c.self.inside.near.items c.renew.new.near.items c.args.key = c.renew.ensures.others c.self.inside.root (seen c.work_below.new.nodes c.self.inside.root) stands there in
+    let left : IsLeft c.unlink.new.nodes c.self.inside.root c.in-Some.up (without same_key c.args.key (seen c.work_below.new.nodes c.self.inside.root)) c.renew.new.near.items c.whole_of-old.result =
+    touched_left c.self.inside.nodes c.work_below.new.nodes c.self.inside.root c.args.key c.in-Some.up c.self.inside.ids c.self.inside.near.items c.self.invariant.sound (rw (← c.self.view_is) at c.requires.live) (rw (← c.self.view_is) at c.requires.below) c.work_below.ensures c.self.invariant.near up
+    c.unlink.new.nodes c.renew.new.near.items c.unlink.ensures within outer c.renew.ensures.same_length
+    c.whole_of-old.result (c.whole_of-old.ensures ∙ whole_is c.self.inside.nodes c.self.inside.root (seen c.self.inside.nodes c.self.inside.root) (seen_stands c.self.inside.nodes c.self.inside.root c.self.invariant.sound.tree) c.args.key (rw (← c.self.view_is) at c.requires.live) c.deref.result.now (ap (λ r. near_at r c.args.key) c.deref.ensures.value ∙ c.self.invariant.near.right c.args.key (rw (← c.self.view_is) at c.requires.live))) in
     let t : IsSound c.graft.new.nodes c.self.inside.root c.self.inside.ids × (seen c.graft.new.nodes c.self.inside.root ≡ moved c.args.key c.args.parent c.args.before (seen c.self.inside.nodes c.self.inside.root)) × (marks c.graft.new.nodes ≡ marks c.self.inside.nodes) =
     relink_sound c.self.inside.nodes c.work_below.new.nodes c.unlink.new.nodes c.set_place.new.nodes c.graft.new.nodes c.self.inside.root c.args.key c.args.parent c.args.before c.left_of-prev.result c.ends_of-ends.result c.self.inside.ids c.self.invariant.sound
     (rw (← c.self.view_is) at c.requires.live) (rw (← c.self.view_is) at c.requires.below) (rw (← c.self.view_is) at c.requires.parent) (rw (← c.self.view_is) at c.requires.outside) (rw (← c.self.view_is) at c.requires.place) c.requires.other
     c.work_below.ensures c.unlink.ensures c.ends_of-ends.ensures c.left_of-prev.ensures c.set_place.ensures c.graft.ensures in
-    let right : IsRight c.lose.new.near.items (without same_key c.args.key (seen c.work_below.new.nodes c.self.inside.root)) = c.lose.ensures.right c.self.inside.root (without same_key c.args.key (seen c.work_below.new.nodes c.self.inside.root)) (stay_stands c.self.inside.nodes c.work_below.new.nodes c.self.inside.root c.args.key c.in-Some.up c.self.inside.ids c.self.inside.near.items c.self.invariant.sound (rw (← c.self.view_is) at c.requires.live) (rw (← c.self.view_is) at c.requires.below) c.work_below.ensures c.self.invariant.near (is_parent c.self.inside.nodes c.self.inside.root c.args.key c.in-Some.up c.self.invariant.sound.tree (rw (← c.self.view_is) at c.requires.live) (rw (← c.self.view_is) at c.requires.below) (sym c.in-Some.is ∙ c.up_of.ensures))
-    c.unlink.new.nodes c.renew.new.near.items c.unlink.ensures inner outer c.renew.ensures.same_length) (stay_parent c.self.inside.nodes c.work_below.new.nodes c.self.inside.root c.args.key c.in-Some.up c.self.inside.ids c.self.inside.near.items c.self.invariant.sound (rw (← c.self.view_is) at c.requires.live) (rw (← c.self.view_is) at c.requires.below) c.work_below.ensures c.self.invariant.near (is_parent c.self.inside.nodes c.self.inside.root c.args.key c.in-Some.up c.self.invariant.sound.tree (rw (← c.self.view_is) at c.requires.live) (rw (← c.self.view_is) at c.requires.below) (sym c.in-Some.is ∙ c.up_of.ensures))
-    c.unlink.new.nodes c.renew.new.near.items c.unlink.ensures inner outer c.renew.ensures.same_length) (touched_loses c.self.inside.nodes c.work_below.new.nodes c.self.inside.root c.args.key c.in-Some.up c.self.inside.ids c.self.inside.near.items c.self.invariant.sound (rw (← c.self.view_is) at c.requires.live) (rw (← c.self.view_is) at c.requires.below) c.work_below.ensures c.self.invariant.near (is_parent c.self.inside.nodes c.self.inside.root c.args.key c.in-Some.up c.self.invariant.sound.tree (rw (← c.self.view_is) at c.requires.live) (rw (← c.self.view_is) at c.requires.below) (sym c.in-Some.is ∙ c.up_of.ensures))
-    c.unlink.new.nodes c.renew.new.near.items c.unlink.ensures inner outer c.renew.ensures.same_length c.whole_of-old.result (c.whole_of-old.ensures ∙ whole_is c.self.inside.nodes c.self.inside.root (seen c.self.inside.nodes c.self.inside.root) (seen_stands c.self.inside.nodes c.self.inside.root c.self.invariant.sound.tree) c.args.key (rw (← c.self.view_is) at c.requires.live) c.deref.result.now (ap (λ r. near_at r c.args.key) c.deref.ensures.value ∙ c.self.invariant.near.right c.args.key (rw (← c.self.view_is) at c.requires.live)))) in
-    let others : KeepsOthers c.unlink.new.nodes (without same_key c.args.key (seen c.work_below.new.nodes c.self.inside.root)) c.renew.new.near.items c.lose.new.near.items (Some c.in-Some.up) = c.lose.ensures.others c.self.inside.root (without same_key c.args.key (seen c.work_below.new.nodes c.self.inside.root)) (stay_stands c.self.inside.nodes c.work_below.new.nodes c.self.inside.root c.args.key c.in-Some.up c.self.inside.ids c.self.inside.near.items c.self.invariant.sound (rw (← c.self.view_is) at c.requires.live) (rw (← c.self.view_is) at c.requires.below) c.work_below.ensures c.self.invariant.near (is_parent c.self.inside.nodes c.self.inside.root c.args.key c.in-Some.up c.self.invariant.sound.tree (rw (← c.self.view_is) at c.requires.live) (rw (← c.self.view_is) at c.requires.below) (sym c.in-Some.is ∙ c.up_of.ensures))
-    c.unlink.new.nodes c.renew.new.near.items c.unlink.ensures inner outer c.renew.ensures.same_length) (stay_parent c.self.inside.nodes c.work_below.new.nodes c.self.inside.root c.args.key c.in-Some.up c.self.inside.ids c.self.inside.near.items c.self.invariant.sound (rw (← c.self.view_is) at c.requires.live) (rw (← c.self.view_is) at c.requires.below) c.work_below.ensures c.self.invariant.near (is_parent c.self.inside.nodes c.self.inside.root c.args.key c.in-Some.up c.self.invariant.sound.tree (rw (← c.self.view_is) at c.requires.live) (rw (← c.self.view_is) at c.requires.below) (sym c.in-Some.is ∙ c.up_of.ensures))
-    c.unlink.new.nodes c.renew.new.near.items c.unlink.ensures inner outer c.renew.ensures.same_length) in
-    landed_climbs c.self.inside.nodes c.work_below.new.nodes c.self.inside.root c.args.key c.in-Some.up c.self.inside.ids c.self.inside.near.items c.self.invariant.sound (rw (← c.self.view_is) at c.requires.live) (rw (← c.self.view_is) at c.requires.below) c.work_below.ensures c.self.invariant.near (is_parent c.self.inside.nodes c.self.inside.root c.args.key c.in-Some.up c.self.invariant.sound.tree (rw (← c.self.view_is) at c.requires.live) (rw (← c.self.view_is) at c.requires.below) (sym c.in-Some.is ∙ c.up_of.ensures))
-    c.unlink.new.nodes c.renew.new.near.items c.unlink.ensures inner outer c.renew.ensures.same_length
-    c.args.parent c.args.before (rw (← c.self.view_is) at c.requires.parent) (rw (← c.self.view_is) at c.requires.outside) (rw (← c.self.view_is) at c.requires.place) c.requires.other c.graft.new.nodes c.lose.new.near.items right others c.lose.ensures.same_length t.0 t.1 t.2
-    c.whole_of-new.result (c.whole_of-new.ensures ∙ whole_is c.work_below.new.nodes c.self.inside.root (seen c.work_below.new.nodes c.self.inside.root) stands c.args.key there c.deref-2.result.now (ap (λ r. near_at r c.args.key) c.deref-2.ensures.value ∙ inner c.args.key (above_self c.work_below.new.nodes c.self.inside.root (seen c.work_below.new.nodes c.self.inside.root) stands c.args.key there)))
+    let right = c.lose.ensures.right c.self.inside.root (without same_key c.args.key (seen c.work_below.new.nodes c.self.inside.root)) left.stands left.there left.loses in
+    let others = c.lose.ensures.others c.self.inside.root (without same_key c.args.key (seen c.work_below.new.nodes c.self.inside.root)) left.stands left.there in
+    let land : IsLanded c.graft.new.nodes c.self.inside.root c.args.parent c.lose.new.near.items c.whole_of-new.result =
+    landed c.self.inside.nodes c.work_below.new.nodes c.self.inside.root c.args.key c.in-Some.up c.self.inside.ids c.self.inside.near.items c.self.invariant.sound (rw (← c.self.view_is) at c.requires.live) (rw (← c.self.view_is) at c.requires.below) c.work_below.ensures c.self.invariant.near up
+    c.unlink.new.nodes c.renew.new.near.items c.unlink.ensures within outer c.renew.ensures.same_length
+    c.args.parent c.args.before (rw (← c.self.view_is) at c.requires.parent) (rw (← c.self.view_is) at c.requires.outside) (rw (← c.self.view_is) at c.requires.place) c.requires.other c.graft.new.nodes c.lose.new.near.items left.there right others c.lose.ensures.same_length t.0 t.1 t.2
+    c.whole_of-new.result (c.whole_of-new.ensures ∙ whole_is c.work_below.new.nodes c.self.inside.root (seen c.work_below.new.nodes c.self.inside.root) stands c.args.key there c.deref-2.result.now (ap (λ r. near_at r c.args.key) c.deref-2.ensures.value ∙ within c.args.key (above_self c.work_below.new.nodes c.self.inside.root (seen c.work_below.new.nodes c.self.inside.root) stands c.args.key there))) in
+    land.climbs
 
 pub invariant_of-self : goal.invariant_of-self
 invariant_of-self g c =
-    let stands = touched_stands c.self.inside.nodes c.work_below.new.nodes c.self.inside.root c.args.key c.in-Some.up c.self.inside.ids c.self.inside.near.items c.self.invariant.sound (rw (← c.self.view_is) at c.requires.live) (rw (← c.self.view_is) at c.requires.below) c.work_below.ensures c.self.invariant.near (is_parent c.self.inside.nodes c.self.inside.root c.args.key c.in-Some.up c.self.invariant.sound.tree (rw (← c.self.view_is) at c.requires.live) (rw (← c.self.view_is) at c.requires.below) (sym c.in-Some.is ∙ c.up_of.ensures)) in
-    let there = still_there c.self.inside.nodes c.work_below.new.nodes c.self.inside.root c.args.key c.in-Some.up c.self.inside.ids c.self.inside.near.items c.self.invariant.sound (rw (← c.self.view_is) at c.requires.live) (rw (← c.self.view_is) at c.requires.below) c.work_below.ensures c.self.invariant.near (is_parent c.self.inside.nodes c.self.inside.root c.args.key c.in-Some.up c.self.invariant.sound.tree (rw (← c.self.view_is) at c.requires.live) (rw (← c.self.view_is) at c.requires.below) (sym c.in-Some.is ∙ c.up_of.ensures)) in
-    let inner : IsRightIn c.renew.new.near.items (seen c.work_below.new.nodes c.self.inside.root) c.args.key = c.renew.ensures.right c.self.inside.root (seen c.work_below.new.nodes c.self.inside.root) stands there tt in
+    let up = is_parent c.self.inside.nodes c.self.inside.root c.args.key c.in-Some.up c.self.invariant.sound.tree (rw (← c.self.view_is) at c.requires.live) (rw (← c.self.view_is) at c.requires.below) (sym c.in-Some.is ∙ c.up_of.ensures) in
+    let stands = touched_stands c.self.inside.nodes c.work_below.new.nodes c.self.inside.root c.args.key c.in-Some.up c.self.inside.ids c.self.inside.near.items c.self.invariant.sound (rw (← c.self.view_is) at c.requires.live) (rw (← c.self.view_is) at c.requires.below) c.work_below.ensures c.self.invariant.near up in
+    let there = still_there c.self.inside.nodes c.work_below.new.nodes c.self.inside.root c.args.key c.in-Some.up c.self.inside.ids c.self.inside.near.items c.self.invariant.sound (rw (← c.self.view_is) at c.requires.live) (rw (← c.self.view_is) at c.requires.below) c.work_below.ensures c.self.invariant.near up in
+    let within : IsRightIn c.renew.new.near.items (seen c.work_below.new.nodes c.self.inside.root) c.args.key = c.renew.ensures.right c.self.inside.root (seen c.work_below.new.nodes c.self.inside.root) stands there tt in
     let outer : KeepsOutside c.work_below.new.nodes (seen c.work_below.new.nodes c.self.inside.root) c.self.inside.near.items c.renew.new.near.items c.args.key = c.renew.ensures.others c.self.inside.root (seen c.work_below.new.nodes c.self.inside.root) stands there in
+    let left : IsLeft c.unlink.new.nodes c.self.inside.root c.in-Some.up (without same_key c.args.key (seen c.work_below.new.nodes c.self.inside.root)) c.renew.new.near.items c.whole_of-old.result =
+    touched_left c.self.inside.nodes c.work_below.new.nodes c.self.inside.root c.args.key c.in-Some.up c.self.inside.ids c.self.inside.near.items c.self.invariant.sound (rw (← c.self.view_is) at c.requires.live) (rw (← c.self.view_is) at c.requires.below) c.work_below.ensures c.self.invariant.near up
+    c.unlink.new.nodes c.renew.new.near.items c.unlink.ensures within outer c.renew.ensures.same_length
+    c.whole_of-old.result (c.whole_of-old.ensures ∙ whole_is c.self.inside.nodes c.self.inside.root (seen c.self.inside.nodes c.self.inside.root) (seen_stands c.self.inside.nodes c.self.inside.root c.self.invariant.sound.tree) c.args.key (rw (← c.self.view_is) at c.requires.live) c.deref.result.now (ap (λ r. near_at r c.args.key) c.deref.ensures.value ∙ c.self.invariant.near.right c.args.key (rw (← c.self.view_is) at c.requires.live))) in
     let t : IsSound c.graft.new.nodes c.self.inside.root c.self.inside.ids × (seen c.graft.new.nodes c.self.inside.root ≡ moved c.args.key c.args.parent c.args.before (seen c.self.inside.nodes c.self.inside.root)) × (marks c.graft.new.nodes ≡ marks c.self.inside.nodes) =
     relink_sound c.self.inside.nodes c.work_below.new.nodes c.unlink.new.nodes c.set_place.new.nodes c.graft.new.nodes c.self.inside.root c.args.key c.args.parent c.args.before c.left_of-prev.result c.ends_of-ends.result c.self.inside.ids c.self.invariant.sound
     (rw (← c.self.view_is) at c.requires.live) (rw (← c.self.view_is) at c.requires.below) (rw (← c.self.view_is) at c.requires.parent) (rw (← c.self.view_is) at c.requires.outside) (rw (← c.self.view_is) at c.requires.place) c.requires.other
     c.work_below.ensures c.unlink.ensures c.ends_of-ends.ensures c.left_of-prev.ensures c.set_place.ensures c.graft.ensures in
-    let right : IsRight c.lose.new.near.items (without same_key c.args.key (seen c.work_below.new.nodes c.self.inside.root)) = c.lose.ensures.right c.self.inside.root (without same_key c.args.key (seen c.work_below.new.nodes c.self.inside.root)) (stay_stands c.self.inside.nodes c.work_below.new.nodes c.self.inside.root c.args.key c.in-Some.up c.self.inside.ids c.self.inside.near.items c.self.invariant.sound (rw (← c.self.view_is) at c.requires.live) (rw (← c.self.view_is) at c.requires.below) c.work_below.ensures c.self.invariant.near (is_parent c.self.inside.nodes c.self.inside.root c.args.key c.in-Some.up c.self.invariant.sound.tree (rw (← c.self.view_is) at c.requires.live) (rw (← c.self.view_is) at c.requires.below) (sym c.in-Some.is ∙ c.up_of.ensures))
-    c.unlink.new.nodes c.renew.new.near.items c.unlink.ensures inner outer c.renew.ensures.same_length) (stay_parent c.self.inside.nodes c.work_below.new.nodes c.self.inside.root c.args.key c.in-Some.up c.self.inside.ids c.self.inside.near.items c.self.invariant.sound (rw (← c.self.view_is) at c.requires.live) (rw (← c.self.view_is) at c.requires.below) c.work_below.ensures c.self.invariant.near (is_parent c.self.inside.nodes c.self.inside.root c.args.key c.in-Some.up c.self.invariant.sound.tree (rw (← c.self.view_is) at c.requires.live) (rw (← c.self.view_is) at c.requires.below) (sym c.in-Some.is ∙ c.up_of.ensures))
-    c.unlink.new.nodes c.renew.new.near.items c.unlink.ensures inner outer c.renew.ensures.same_length) (touched_loses c.self.inside.nodes c.work_below.new.nodes c.self.inside.root c.args.key c.in-Some.up c.self.inside.ids c.self.inside.near.items c.self.invariant.sound (rw (← c.self.view_is) at c.requires.live) (rw (← c.self.view_is) at c.requires.below) c.work_below.ensures c.self.invariant.near (is_parent c.self.inside.nodes c.self.inside.root c.args.key c.in-Some.up c.self.invariant.sound.tree (rw (← c.self.view_is) at c.requires.live) (rw (← c.self.view_is) at c.requires.below) (sym c.in-Some.is ∙ c.up_of.ensures))
-    c.unlink.new.nodes c.renew.new.near.items c.unlink.ensures inner outer c.renew.ensures.same_length c.whole_of-old.result (c.whole_of-old.ensures ∙ whole_is c.self.inside.nodes c.self.inside.root (seen c.self.inside.nodes c.self.inside.root) (seen_stands c.self.inside.nodes c.self.inside.root c.self.invariant.sound.tree) c.args.key (rw (← c.self.view_is) at c.requires.live) c.deref.result.now (ap (λ r. near_at r c.args.key) c.deref.ensures.value ∙ c.self.invariant.near.right c.args.key (rw (← c.self.view_is) at c.requires.live)))) in
-    let others : KeepsOthers c.unlink.new.nodes (without same_key c.args.key (seen c.work_below.new.nodes c.self.inside.root)) c.renew.new.near.items c.lose.new.near.items (Some c.in-Some.up) = c.lose.ensures.others c.self.inside.root (without same_key c.args.key (seen c.work_below.new.nodes c.self.inside.root)) (stay_stands c.self.inside.nodes c.work_below.new.nodes c.self.inside.root c.args.key c.in-Some.up c.self.inside.ids c.self.inside.near.items c.self.invariant.sound (rw (← c.self.view_is) at c.requires.live) (rw (← c.self.view_is) at c.requires.below) c.work_below.ensures c.self.invariant.near (is_parent c.self.inside.nodes c.self.inside.root c.args.key c.in-Some.up c.self.invariant.sound.tree (rw (← c.self.view_is) at c.requires.live) (rw (← c.self.view_is) at c.requires.below) (sym c.in-Some.is ∙ c.up_of.ensures))
-    c.unlink.new.nodes c.renew.new.near.items c.unlink.ensures inner outer c.renew.ensures.same_length) (stay_parent c.self.inside.nodes c.work_below.new.nodes c.self.inside.root c.args.key c.in-Some.up c.self.inside.ids c.self.inside.near.items c.self.invariant.sound (rw (← c.self.view_is) at c.requires.live) (rw (← c.self.view_is) at c.requires.below) c.work_below.ensures c.self.invariant.near (is_parent c.self.inside.nodes c.self.inside.root c.args.key c.in-Some.up c.self.invariant.sound.tree (rw (← c.self.view_is) at c.requires.live) (rw (← c.self.view_is) at c.requires.below) (sym c.in-Some.is ∙ c.up_of.ensures))
-    c.unlink.new.nodes c.renew.new.near.items c.unlink.ensures inner outer c.renew.ensures.same_length) in
+    let right = c.lose.ensures.right c.self.inside.root (without same_key c.args.key (seen c.work_below.new.nodes c.self.inside.root)) left.stands left.there left.loses in
+    let others = c.lose.ensures.others c.self.inside.root (without same_key c.args.key (seen c.work_below.new.nodes c.self.inside.root)) left.stands left.there in
+    let land : IsLanded c.graft.new.nodes c.self.inside.root c.args.parent c.lose.new.near.items c.whole_of-new.result =
+    landed c.self.inside.nodes c.work_below.new.nodes c.self.inside.root c.args.key c.in-Some.up c.self.inside.ids c.self.inside.near.items c.self.invariant.sound (rw (← c.self.view_is) at c.requires.live) (rw (← c.self.view_is) at c.requires.below) c.work_below.ensures c.self.invariant.near up
+    c.unlink.new.nodes c.renew.new.near.items c.unlink.ensures within outer c.renew.ensures.same_length
+    c.args.parent c.args.before (rw (← c.self.view_is) at c.requires.parent) (rw (← c.self.view_is) at c.requires.outside) (rw (← c.self.view_is) at c.requires.place) c.requires.other c.graft.new.nodes c.lose.new.near.items left.there right others c.lose.ensures.same_length t.0 t.1 t.2
+    c.whole_of-new.result (c.whole_of-new.ensures ∙ whole_is c.work_below.new.nodes c.self.inside.root (seen c.work_below.new.nodes c.self.inside.root) stands c.args.key there c.deref-2.result.now (ap (λ r. near_at r c.args.key) c.deref-2.ensures.value ∙ within c.args.key (above_self c.work_below.new.nodes c.self.inside.root (seen c.work_below.new.nodes c.self.inside.root) stands c.args.key there))) in
     record {
       sound = t.0;
-      near = landed_near c.self.inside.nodes c.work_below.new.nodes c.self.inside.root c.args.key c.in-Some.up c.self.inside.ids c.self.inside.near.items c.self.invariant.sound (rw (← c.self.view_is) at c.requires.live) (rw (← c.self.view_is) at c.requires.below) c.work_below.ensures c.self.invariant.near (is_parent c.self.inside.nodes c.self.inside.root c.args.key c.in-Some.up c.self.invariant.sound.tree (rw (← c.self.view_is) at c.requires.live) (rw (← c.self.view_is) at c.requires.below) (sym c.in-Some.is ∙ c.up_of.ensures))
-          c.unlink.new.nodes c.renew.new.near.items c.unlink.ensures inner outer c.renew.ensures.same_length
-          c.args.parent c.args.before (rw (← c.self.view_is) at c.requires.parent) (rw (← c.self.view_is) at c.requires.outside) (rw (← c.self.view_is) at c.requires.place) c.requires.other c.graft.new.nodes c.lose.new.near.items right others c.lose.ensures.same_length t.0 t.1 t.2 c.gain.new.near.items c.gain.ensures.same_length
-          (c.gain.ensures.right c.self.inside.root (seen c.graft.new.nodes c.self.inside.root) (seen_stands c.graft.new.nodes c.self.inside.root t.0.tree) (landed_parent c.self.inside.nodes c.work_below.new.nodes c.self.inside.root c.args.key c.in-Some.up c.self.inside.ids c.self.inside.near.items c.self.invariant.sound (rw (← c.self.view_is) at c.requires.live) (rw (← c.self.view_is) at c.requires.below) c.work_below.ensures c.self.invariant.near (is_parent c.self.inside.nodes c.self.inside.root c.args.key c.in-Some.up c.self.invariant.sound.tree (rw (← c.self.view_is) at c.requires.live) (rw (← c.self.view_is) at c.requires.below) (sym c.in-Some.is ∙ c.up_of.ensures))
-          c.unlink.new.nodes c.renew.new.near.items c.unlink.ensures inner outer c.renew.ensures.same_length
-          c.args.parent c.args.before (rw (← c.self.view_is) at c.requires.parent) (rw (← c.self.view_is) at c.requires.outside) (rw (← c.self.view_is) at c.requires.place) c.requires.other c.graft.new.nodes c.lose.new.near.items right others c.lose.ensures.same_length t.0 t.1 t.2) (landed_gains c.self.inside.nodes c.work_below.new.nodes c.self.inside.root c.args.key c.in-Some.up c.self.inside.ids c.self.inside.near.items c.self.invariant.sound (rw (← c.self.view_is) at c.requires.live) (rw (← c.self.view_is) at c.requires.below) c.work_below.ensures c.self.invariant.near (is_parent c.self.inside.nodes c.self.inside.root c.args.key c.in-Some.up c.self.invariant.sound.tree (rw (← c.self.view_is) at c.requires.live) (rw (← c.self.view_is) at c.requires.below) (sym c.in-Some.is ∙ c.up_of.ensures))
-          c.unlink.new.nodes c.renew.new.near.items c.unlink.ensures inner outer c.renew.ensures.same_length
-          c.args.parent c.args.before (rw (← c.self.view_is) at c.requires.parent) (rw (← c.self.view_is) at c.requires.outside) (rw (← c.self.view_is) at c.requires.place) c.requires.other c.graft.new.nodes c.lose.new.near.items right others c.lose.ensures.same_length t.0 t.1 t.2 c.whole_of-new.result (c.whole_of-new.ensures ∙ whole_is c.work_below.new.nodes c.self.inside.root (seen c.work_below.new.nodes c.self.inside.root) stands c.args.key there c.deref-2.result.now (ap (λ r. near_at r c.args.key) c.deref-2.ensures.value ∙ inner c.args.key (above_self c.work_below.new.nodes c.self.inside.root (seen c.work_below.new.nodes c.self.inside.root) stands c.args.key there)))));
+      near = land.near c.gain.new.near.items c.gain.ensures.same_length (c.gain.ensures.right c.self.inside.root (seen c.graft.new.nodes c.self.inside.root) (seen_stands c.graft.new.nodes c.self.inside.root t.0.tree) land.there land.gains);
     }
 
 pub returns : goal.returns
