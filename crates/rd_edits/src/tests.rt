@@ -114,6 +114,28 @@ fn boxes_more(rt: HostRuntime) -> Result<(), Fail> {
     Ok(())
 }
 
+fn placement(alloc: Global, id: &str, rect: Rect) -> Result<Edit, IdFault> {
+    Ok(Edit::SetRect {
+        id: Id::new(alloc, id)?,
+        rect,
+    })
+}
+
+fn restyling(alloc: Global, id: &str, width: u16) -> Result<Edit, IdFault> {
+    Ok(Edit::SetStyle {
+        id: Id::new(alloc, id)?,
+        change: outlined(width),
+    })
+}
+
+fn shifting(alloc: Global, id: &str, dx: i32) -> Result<Edit, IdFault> {
+    Ok(Edit::Shift {
+        id: Id::new(alloc, id)?,
+        dx,
+        dy: 0,
+    })
+}
+
 /// Puts these boxes last below these parents.
 fn insert_each<B: Ledger>(
     rt: &impl Abort,
@@ -220,21 +242,11 @@ fn boxes_changed(rt: HostRuntime) -> Result<(), Fail> {
         ("C", wide, 1001, 999_994, 9),
         ("C", near, 1000, 999_993, 0),
     ] {
-        let edit = Edit::SetRect {
-            id: Id::new(alloc, id)?,
-            rect,
-        };
+        let edit = placement(alloc, id, rect)?;
         assert_eq!(rt; number(&mut tree, &edit), want, "{id} {width}");
-        let edit = Edit::SetStyle {
-            id: Id::new(alloc, id)?,
-            change: outlined(width),
-        };
+        let edit = restyling(alloc, id, width)?;
         assert_eq!(rt; number(&mut tree, &edit), want, "{id} {width}");
-        let edit = Edit::Shift {
-            id: Id::new(alloc, id)?,
-            dx,
-            dy: 0,
-        };
+        let edit = shifting(alloc, id, dx)?;
         assert_eq!(rt; number(&mut tree, &edit), want, "{id} {width}");
     }
     Ok(())
