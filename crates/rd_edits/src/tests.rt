@@ -114,6 +114,43 @@ fn boxes_more(rt: HostRuntime) -> Result<(), Fail> {
     Ok(())
 }
 
+fn placement(alloc: Global, id: &str, rect: Rect) -> Result<Edit, IdFault> {
+    Ok(Edit::SetRect {
+        id: Id::new(alloc, id)?,
+        rect,
+    })
+}
+
+fn restyling(alloc: Global, id: &str, width: u16) -> Result<Edit, IdFault> {
+    Ok(Edit::SetStyle {
+        id: Id::new(alloc, id)?,
+        change: outlined(width),
+    })
+}
+
+fn shifting(alloc: Global, id: &str, dx: i32) -> Result<Edit, IdFault> {
+    Ok(Edit::Shift {
+        id: Id::new(alloc, id)?,
+        dx,
+        dy: 0,
+    })
+}
+
+/// The numbers of the refusals of a rectangle, a width and a shift.
+fn change_all<B: Ledger>(
+    alloc: Global,
+    tree: &mut Tree<B>,
+    id: &str,
+    rect: Rect,
+    width: u16,
+    dx: i32,
+) -> Result<(u8, u8, u8), IdFault> {
+    let placed = number(tree, &placement(alloc, id, rect)?);
+    let styled = number(tree, &restyling(alloc, id, width)?);
+    let shifted = number(tree, &shifting(alloc, id, dx)?);
+    Ok((placed, styled, shifted))
+}
+
 /// Puts these boxes last below these parents.
 fn insert_each<B: Ledger>(
     rt: &impl Abort,
@@ -220,22 +257,8 @@ fn boxes_changed(rt: HostRuntime) -> Result<(), Fail> {
         ("C", wide, 1001, 999_994, 9),
         ("C", near, 1000, 999_993, 0),
     ] {
-        let edit = Edit::SetRect {
-            id: Id::new(alloc, id)?,
-            rect,
-        };
-        assert_eq!(rt; number(&mut tree, &edit), want, "{id} {width}");
-        let edit = Edit::SetStyle {
-            id: Id::new(alloc, id)?,
-            change: outlined(width),
-        };
-        assert_eq!(rt; number(&mut tree, &edit), want, "{id} {width}");
-        let edit = Edit::Shift {
-            id: Id::new(alloc, id)?,
-            dx,
-            dy: 0,
-        };
-        assert_eq!(rt; number(&mut tree, &edit), want, "{id} {width}");
+        let numbers = change_all(alloc, &mut tree, id, rect, width, dx)?;
+        assert_eq!(rt; numbers, (want, want, want), "{id} {width}");
     }
     Ok(())
 }
