@@ -113,8 +113,7 @@ fn planted<B: Ledger>(
     alloc: Global,
     side: i32,
     rows: &[Row],
-) -> Result<Tree<B>, Fail>
-{
+) -> Result<Tree<B>, Fail> {
     assert!(rt; 1 <= side && side <= 4096);
     let canvas = Size { w: side, h: side };
     let (first, rest) = rows.split_first().expect(rt, "a root");
