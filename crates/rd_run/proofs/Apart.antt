@@ -11,44 +11,18 @@ use Rattle.rd_tree.proofs.Standing.{cases, either, join-empty, has-join, out_of_
 use Rattle.rd_tree.proofs.Under.{no_under, apart_under, apart_join}
 use Rattle.rd_tree.proofs.Cutting.{in_children}
 use Rattle.rd_tree.proofs.Placing.{Joined, joined}
-use Rattle.rd_tree.proofs.Without.{apart_without, stays_out}
+use Rattle.rd_tree.proofs.Without.{flipped, apart_without, stays_out}
+use Rattle.rd_tree.proofs.Restoring.{apart_children}
+use Rattle.rd_tree.proofs.NearPlaced.{Divided, divided}
 use Rattle.rd_tree.proofs.Each.{apart_each}
-
--- the children of a box are apart where all are
-children-apart : (p : BoxKey) (f : Boxes) → IsApart same_key f → IsApart same_key (children same_key p f)
-children-apart p empty a = tt
-children-apart p (tree k d below rest) a =
-    elim (same_key p k) as (λ v. IsApart same_key (cond v below (children same_key p below ▷ children same_key p rest))) [
-      | true ↦ a.3
-      | false ↦ apart_join same_key same_key-sound same_key-refl (children same_key p below) (children same_key p rest) (children-apart p below a.3) (children-apart p rest a.4)
-          (λ j h. out_of_children same_key same_key-sound same_key-refl j p rest (a.2 j (in_children same_key same_key-sound same_key-refl j p below h)))
-    ]
-
--- Some siblings stand before a place among them, and the others after it.
-record Split (before : Option BoxKey) (c : Boxes) : Type 0 where
-  xs : Boxes
-  ys : Boxes
-  is : c ≡ xs ▷ ys
-  amid_is : (g : Boxes) → amid same_key before g c ≡ xs ▷ (g ▷ ys)
-
-split : (before : Option BoxKey) (c : Boxes) → Split before c
-split None c = record { xs = c; ys = empty; is = sym (join-empty c); amid_is = λ g. rw (join-empty g) refl }
-split (Some j) empty = record { xs = empty; ys = empty; is = refl; amid_is = λ g. sym (join-empty g) }
-split (Some j) (tree m e below rest) =
-    elim (cases (same_key j m)) [
-      | inl h ↦ record { xs = empty; ys = tree m e below rest; is = refl; amid_is = λ g. rw h refl }
-      | inr h ↦
-          let s : Split (Some j) rest = split (Some j) rest in
-          record { xs = tree m e below s.xs; ys = s.ys; is = rw (← s.is) refl; amid_is = λ g. rw (h, s.amid_is g) refl }
-    ]
 
 -- Boxes that are nowhere in the forest are put among the children of p.
 put_apart : (p : BoxKey) (before : Option BoxKey) (b f : Boxes) → IsApart same_key f → IsApart same_key b → AreApart same_key f b → IsApart same_key (under same_key p (amid same_key before b (children same_key p f)) f)
 put_apart p before b f a ab away =
     let c : Boxes = children same_key p f in
-    let s : Split before c = split before c in
+    let s : Divided same_key same_key-sound same_key-refl before c = divided same_key same_key-sound same_key-refl before c in
     let below : AreApart same_key c b = λ j h. away j (in_children same_key same_key-sound same_key-refl j p f h) in
-    let w : Joined same_key same_key-sound same_key-refl b c (s.xs ▷ (b ▷ s.ys)) = joined same_key same_key-sound same_key-refl b c s.xs s.ys (children-apart p f a) ab below s.is in
+    let w : Joined same_key same_key-sound same_key-refl b c (s.xs ▷ (b ▷ s.ys)) = joined same_key same_key-sound same_key-refl b c s.xs s.ys (apart_children same_key same_key-sound same_key-refl p f a) ab below s.is in
     elim (cases (has same_key p f)) [
       | inl e ↦ rw (s.amid_is b) (apart_under same_key same_key-sound same_key-refl p (s.xs ▷ (b ▷ s.ys)) f a w.apart e (λ j u v. w.no_more j u (away j v)))
       | inr e ↦ rw (no_under same_key same_key-sound same_key-refl p (amid same_key before b c) f e) a
@@ -57,10 +31,7 @@ put_apart p before b f a ab away =
 -- a new child under a key that no box has leaves all apart
 pub child_apart : (k : BoxKey) (d : Item) (p : BoxKey) (before : Option BoxKey) (f : Boxes) → IsApart same_key f → has same_key k f ≡ false → IsApart same_key (with_child p before k d f)
 child_apart k d p before f a n =
-    put_apart p before (tree k d empty empty) f a (refl, refl, (λ j h. refl), tt, tt) (λ j h. rw (sides j (differs_back same_key same_key-sound same_key-refl f k j n h)) refl)
-  where
-    sides : (j : BoxKey) → same_key k j ≡ false → same_key j k ≡ false
-    sides j e = elim (cases (same_key j k)) [ inl u ↦ absurd (let v : same_key k j ≡ true = rw (same_key-sound j k u) (same_key-refl k) in cc) | inr u ↦ u ]
+    put_apart p before (tree k d empty empty) f a (refl, refl, (λ j h. refl), tt, tt) (λ j h. rw (flipped same_key same_key-sound same_key-refl k j (differs_back same_key same_key-sound same_key-refl f k j n h)) refl)
 
 -- ---- moved
 

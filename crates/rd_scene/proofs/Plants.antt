@@ -49,13 +49,6 @@ has_parent (b ∷ before) (Some p) h place = (p, refl, by (depth_of p (b ∷ bef
 abbrev pub SameNames : Boxes → List SceneBox → Type 0
 SameNames f before = (q : List ℕ) → is_named q f ≡ is_some (depth_of q before)
 
-pub names_first : (f : Boxes) (k : BoxKey) (b : SceneBox) → f ≡ tree k (item_of b) empty empty → SameNames f (b ∷ [])
-names_first f k b e q = rw e (by (bytes_eq b.id q))
-  where
-    by : (c : Bool) → is_some (cond c (Some k) None) ≡ is_some (cond c (Some (unwrap_or (option_and_then (λ p. depth_of p []) b.parent) 0 + 1)) None)
-    by true = refl
-    by false = refl
-
 pub names_more : (f g : Boxes) (before : List SceneBox) (b : SceneBox) (p k : BoxKey) → SameNames f before → has same_key p f ≡ true
     → g ≡ with_child p None k (item_of b) f → SameNames g (b ∷ before)
 names_more f g before b p k names there e q =
@@ -72,13 +65,6 @@ names_more f g before b p k names there e q =
         or_false : (a : Bool) → (a || false) ≡ a
         or_false true = refl
         or_false false = refl
-
-pub new_name : (f : Boxes) (before rest : List SceneBox) (b : SceneBox) → SameNames f before → Stands before rest b → named b.id f ≡ None
-new_name f before rest b names s = by (named b.id f) (names b.id ∙ ap is_some s.free)
-  where
-    by : (o : Option BoxKey) → is_some o ≡ false → o ≡ None
-    by None h = refl
-    by (Some k) h = cc
 
 pub known_parent : (f : Boxes) (first : SceneBox) (bs rest : List SceneBox) (b : SceneBox) → SameNames f (so_far first bs) → Stands (so_far first bs) rest b → IsSome (parent_in f b)
 known_parent f first bs rest b names s =

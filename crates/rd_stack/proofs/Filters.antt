@@ -1,7 +1,7 @@
 -- Filters of lists.
 use Rattle.std.proofs.Common.{◌≡◌, refl, ap, ◌∙◌, sym, Bool, true, false, ◌&&◌, cond, List, [], ◌∷◌, ◌++◌, map, ℕ, ◌<◌, ◌+◌, length, take, get_or}
 use Rattle.std.specs.Prelude.{filter}
-use Rattle.std.proofs.lemmas.List.{take_more, map-append}
+use Rattle.std.proofs.lemmas.List.{take_more, map-append, append-nil}
 use Rattle.std.proofs.lemmas.List.Elements.{filter-append}
 
 -- two filters are one
@@ -22,8 +22,4 @@ module _ {A B C : Type 0} (see : A → B) (look : C → B) (p : B → Bool) wher
   pub filter_past : (xs : List A) (i : ℕ) (x : A) (before : List C) → i < length xs → x ≡ get_or xs i x → p (see x) ≡ false
       → map look before ≡ filter p (map see (take i xs)) → map look before ≡ filter p (map see (take (i + 1) xs))
   filter_past xs i x before h e t a =
-      a ∙ rw (take_more xs i x h, ← e, map-append see (take i xs) (x ∷ []), filter-append p (map see (take i xs)) (see x ∷ []), t) (sym (append_nil _))
-    where
-      append_nil : (ys : List B) → ys ++ [] ≡ ys
-      append_nil [] = refl
-      append_nil (y ∷ ys) = ap (λ zs. y ∷ zs) (append_nil ys)
+      a ∙ rw (take_more xs i x h, ← e, map-append see (take i xs) (x ∷ []), filter-append p (map see (take i xs)) (see x ∷ []), t) (sym (append-nil _))

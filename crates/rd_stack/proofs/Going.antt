@@ -47,9 +47,6 @@ onward root f k v here a h e =
         let mk : BoxKey → Rectangle → Style → BoxData = λ x y z. record { key = x; rect = y; style = z } in
         ap (λ x. mk x v.rect v.style) p ∙ (ap (λ y. mk k y v.style) q ∙ ap (mk k d.rect) r)
 
-pub smaller_child : (f : Boxes) (k : BoxKey) (here : BoxData) (c n : Option BoxKey) → Onward f k here c n → size (from_some same_key c f) < size (from same_key k f)
-smaller_child f k here c n w = rw (w.is, w.child) (omega arith)
-
 pub smaller_next : (f : Boxes) (k : BoxKey) (here : BoxData) (c n : Option BoxKey) → Onward f k here c n → size (from_some same_key n f) < size (from same_key k f)
 smaller_next f k here c n w = rw (w.is, w.next) (omega arith)
 
@@ -61,13 +58,6 @@ module _ (canvas : Rectangle) where
   painted_more f above k here c n before after one whole w b o e =
       let all : painted canvas above (from same_key k f) ≡ one ++ painted canvas above (from_some same_key n f) = rw (w.is, o, w.data_is, w.child, w.next) refl in
       rw (e, ← b, all) (append_assoc before one (painted canvas above (from_some same_key n f)))
-
-  pub none_painted : (above : List BoxData) (f : Boxes) (before whole : List Painted) → before ++ painted canvas above f ≡ whole → f ≡ empty → before ≡ whole
-  none_painted above f before whole b e = sym (append_nil before) ∙ (ap (λ g. before ++ painted canvas above g) (sym e) ∙ b)
-    where
-      append_nil : (xs : List Painted) → xs ++ [] ≡ xs
-      append_nil [] = refl
-      append_nil (x ∷ xs) = ap (λ zs. x ∷ zs) (append_nil xs)
 
   -- what the loop over siblings keeps
   pub go_on : (f : Boxes) (above : List BoxData) (o : Option BoxKey) (k : BoxKey) (here : BoxData) (c n : Option BoxKey) (m : ℕ) (before after one whole : List Painted) → Onward f k here c n → o ≡ Some k

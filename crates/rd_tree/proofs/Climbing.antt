@@ -10,18 +10,11 @@ use Rattle.rd_tree.specs.Forest.{Forest, empty, tree, ◌▷◌, size, has, chil
 use Rattle.rd_tree.specs.Links.{Node, Stands, up_of}
 use Rattle.rd_tree.specs.Document.{BoxKey, Item, Boxes}
 use Rattle.rd_tree.specs.Linked.{linked, IsTree, seen}
-use Rattle.rd_tree.proofs.Standing.{cases, never, refute, from_left, from_right, has-join, out_of_children, differs, apart_back}
+use Rattle.rd_tree.proofs.Standing.{flip, cases, never, refute, from_left, from_right, has-join, out_of_children, differs, apart_back}
 use Rattle.rd_tree.proofs.Children.{stands_children}
 use Rattle.rd_tree.proofs.Under.{which}
 use Rattle.rd_tree.proofs.Cutting.{place}
 use Rattle.rd_tree.proofs.Grow.{seen_is, size_seen}
-
-module _ {K : Type 0} (same : K → K → Bool) (sound : (a b : K) → same a b ≡ true → a ≡ b) (reflexive : (a : K) → same a a ≡ true) where
-  flip : (i j : K) → same i j ≡ same j i
-  flip i j = elim (cases (same i j)) [
-    | inl e ↦ subst (λ x. same i x ≡ same x i) (sound i j e) refl
-    | inr e ↦ elim (cases (same j i)) [ inl f ↦ absurd (never (same i j) (subst (λ x. same x j ≡ true) (sound j i f) (reflexive j)) e) | inr f ↦ e ∙ sym f ]
-  ]
 
 module _ {K D : Type 0} (same : K → K → Bool) (sound : (a b : K) → same a b ≡ true → a ≡ b) (reflexive : (a : K) → same a a ≡ true) where
   -- a box that is one of the first ones

@@ -1,5 +1,5 @@
 -- Items that change where they stand.
-use Rattle.std.proofs.Common.{◌≡◌, refl, ap, ◌∙◌, sym, subst, ◌+◌, ◌≤◌, Bool, true, false, ◌||◌, cond, arith, inl, inr}
+use Rattle.std.proofs.Common.{◌≡◌, refl, ap, ◌∙◌, sym, subst, Bool, true, false, ◌||◌, cond, arith, inl, inr}
 use Rattle.std.specs.Prelude.{Option, Some, None, String, option_map, is_some}
 use Rattle.std.specs.HashMap.{HashMap, get_by_text}
 use Rattle.rd_keys.specs.Keys.{same_key}
@@ -15,7 +15,7 @@ use Rattle.rd_tree.specs.Linked.{linked, Relinks, IsTree, IsRead, seen, seen_fro
 use Rattle.rd_tree.proofs.Standing.{cases, frame, agree_at, from_left, from_right}
 use Rattle.rd_tree.proofs.Children.{stands_children}
 use Rattle.rd_tree.proofs.Grow.{seen_is, same_occupied}
-use Rattle.rd_tree.proofs.Under.{size-join}
+use Rattle.rd_tree.proofs.Under.{size-children}
 use Rattle.rd_tree.proofs.Works.{seen_read}
 
 module _ {K D : Type 0} (p : K → Bool) (g : D → D) where
@@ -147,14 +147,6 @@ pub all_items : {K D : Type 0} (P : D → Type 0) (f : Forest K D) → ((d : D) 
 all_items P empty h = tt
 all_items P (tree k d below rest) h = (h d, all_items P below h, all_items P rest h)
 
-at_most : (b : Bool) (below rest low later : Boxes) → size low ≤ size below → size later ≤ size rest → size (cond b below (low ▷ later)) ≤ 1 + (size below + size rest)
-at_most true below rest low later u v = omega arith
-at_most false below rest low later u v = omega (arith, size-join low later)
-
-size-children : (k : BoxKey) (f : Boxes) → size (children same_key k f) ≤ size f
-size-children k empty = omega arith
-size-children k (tree j d below rest) = at_most (same_key k j) below rest (children same_key k below) (children same_key k rest) (size-children k below) (size-children k rest)
-
 -- What is below a box, as the links tell it from its first child on.
 pub record Under (a : Arena inner.Node) (root k : BoxKey) (first : Option BoxKey) : Type 0 where
   pub read : IsRead a first
@@ -167,6 +159,6 @@ under_box a root k t m =
     let c : Boxes = children same_key k t.boxes in
     let s : (y : Node BoxKey Item) × (linked a k ≡ Some y) × Stands (linked a) (Some k) None c y.first y.last None × IsApart same_key c × (has same_key k c ≡ false) =
     stands_children same_key same_key-sound same_key-refl (linked a) None None t.boxes (Some root) (Some root) None k t.is.apart t.is.stands (subst (λ f. has same_key k f ≡ true) e m) in
-    let r : IsRead a s.0.first = record { boxes = c; up = Some k; prev = None; last = s.0.last; stands = s.2; apart = s.3; small = omega (arith, size-children k t.boxes, t.is.counted, live_occupied a, t.most) } in
+    let r : IsRead a s.0.first = record { boxes = c; up = Some k; prev = None; last = s.0.last; stands = s.2; apart = s.3; small = omega (arith, size-children same_key k t.boxes, t.is.counted, live_occupied a, t.most) } in
     let told : seen_from a s.0.first ≡ c = seen_read a s.0.first r in
     subst (λ o. Under a root k o) (sym (ap (λ o. (onward_of o).0) s.1)) (record { read = r; told = told ∙ ap (children same_key k) (sym e); out = ap (has same_key k) told ∙ s.4 })

@@ -1,10 +1,9 @@
 -- Items that change in one branch only.
-use Rattle.std.proofs.Common.{◌≡◌, refl, ap, ◌∙◌, sym, Bool, true, false, ◌||◌, cond, inl, inr}
-use Rattle.rd_tree.specs.Forest.{Forest, empty, tree, has, from, children, without, without_siblings, branch, each_if, at_subtree, in_subtree, IsApart}
+use Rattle.std.proofs.Common.{◌≡◌, refl, ap, ◌∙◌, Bool, true, false, ◌||◌, cond, inl, inr}
+use Rattle.rd_tree.specs.Forest.{Forest, empty, tree, has, from, children, without, without_siblings, branch, each_if, in_subtree, IsApart}
 use Rattle.rd_tree.proofs.Standing.{cases, refute, never, from_left, from_right}
 use Rattle.rd_tree.proofs.Without.{stays_out}
-use Rattle.rd_tree.proofs.Restoring.{branch_there}
-use Rattle.rd_tree.proofs.Each.{has-each, children-each, join-each, each_same}
+use Rattle.rd_tree.proofs.Each.{has-each, children-each, join-each}
 use Rattle.rd_tree.proofs.Cutting.{Among}
 
 module _ {K D : Type 0} (t : K → Bool) (h : D → D) (same : K → K → Bool) where
@@ -69,15 +68,3 @@ module _ {K D : Type 0} (same : K → K → Bool) where
   without-within sound reflexive t h k f a q = without-each t h same k f ∙ each_none t h same reflexive (without same k f) (λ j u.
       let o : (same j k ≡ false) × (has same j (children same k f) ≡ false) = stays_out same sound reflexive j k f a u in
       refute (t j) (λ e. never (in_subtree same j k f) (q j e) (rw (o.0, o.1) refl)))
-
-  -- All of a branch changes.
-  pub branch-at_subtree : ((a b : K) → same a b ≡ true → a ≡ b) → ((a : K) → same a a ≡ true) → (h : D → D) (k : K) (f : Forest K D) → IsApart same f → has same k f ≡ true →
-      branch same k (at_subtree same k h f) ≡ each_if (λ _. true) h (branch same k f)
-  branch-at_subtree sound reflexive h k f a m =
-      let t : (d : D) × (branch same k f ≡ tree k d (children same k f) empty) = branch_there same sound reflexive k f a m in
-      branch-each (λ j. in_subtree same j k f) h same k f
-      ∙ each_same same reflexive (λ j. in_subtree same j k f) (λ _. true) h (branch same k f) (λ j u. at (same j k) (has same j (children same k f)) (ap (has same j) (sym t.1) ∙ u)) where
-        at : (b c : Bool) → (b || (c || false)) ≡ true → (b || c) ≡ true
-        at true c e = refl
-        at false true e = refl
-        at false false e = e

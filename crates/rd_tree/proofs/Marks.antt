@@ -1,7 +1,7 @@
 -- The slots of an arena without what they hold.
-use Rattle.std.proofs.Common.{◌≡◌, refl, ap, ◌∙◌, sym, subst, ℕ, suc, ◌+◌, ◌<◌, Bool, true, false, cond, arith, List, [], ◌∷◌, ◌++◌, length, map, count_by, ◌⊎◌, inl, inr}
+use Rattle.std.proofs.Common.{◌≡◌, refl, ap, ◌∙◌, sym, subst, ℕ, ◌+◌, ◌<◌, Bool, true, false, cond, arith, List, [], ◌∷◌, length, map, count_by, ◌⊎◌, inl, inr}
 use Rattle.std.specs.Prelude.{Some, None, slice_index_or, nat_lt, option_map}
-use Rattle.std.proofs.lemmas.List.{map-set}
+use Rattle.std.proofs.lemmas.List.{map-set, map-append, length-map}
 use Rattle.std.proofs.lemmas.List.Sums.{sum_by-cons}
 use Rattle.std.proofs.Math.Seq.{map-set_same}
 use Rattle.std.proofs.Math.ListN.{get_or-map}
@@ -22,14 +22,6 @@ count-map p f (x ∷ xs) =
     let b : count_by (λ x. p (f x)) (x ∷ xs) ≡ cond (p (f x)) 1 0 + count_by (λ x. p (f x)) xs = sum_by-cons (λ y. cond (p (f y)) 1 0) x xs in
     a ∙ (ap (λ n. cond (p (f x)) 1 0 + n) r ∙ sym b)
 
-map_append : {A B : Type 0} (f : A → B) (xs ys : List A) → map f (xs ++ ys) ≡ map f xs ++ map f ys
-map_append f [] ys = refl
-map_append f (x ∷ xs) ys = ap (λ z. f x ∷ z) (map_append f xs ys)
-
-map_length : {A B : Type 0} (f : A → B) (xs : List A) → length (map f xs) ≡ length xs
-map_length f [] = refl
-map_length f (x ∷ xs) = ap (λ n. suc n) (map_length f xs)
-
 -- as many are taken
 pub taken-marks : (a : Arena inner.Node) → count_by (λ y. y.taken) (marks a) ≡ occupied a
 taken-marks a = count-map (λ y. y.taken) mark_of a.slots
@@ -49,11 +41,11 @@ marks-enters old new k x e =
     ap marks e.result ∙ at (nat_lt k.slot (length old.slots)) refl where
       at : (b : Bool) → nat_lt k.slot (length old.slots) ≡ b → map mark_of (with_slot old.slots k.slot (record { generation = k.generation; holds = Some x; retired = false })) ≡ with_taken (marks old) k
       at true t =
-          let len : nat_lt k.slot (length (marks old)) ≡ true = ap (nat_lt k.slot) (map_length mark_of old.slots) ∙ t in
+          let len : nat_lt k.slot (length (marks old)) ≡ true = ap (nat_lt k.slot) (length-map old.slots mark_of) ∙ t in
           rw (t, len) (map-set mark_of old.slots k.slot (record { generation = k.generation; holds = Some x; retired = false }))
       at false t =
-          let len : nat_lt k.slot (length (marks old)) ≡ false = ap (nat_lt k.slot) (map_length mark_of old.slots) ∙ t in
-          rw (t, len) (map_append mark_of old.slots ((record { generation = k.generation; holds = Some x; retired = false }) ∷ []))
+          let len : nat_lt k.slot (length (marks old)) ≡ false = ap (nat_lt k.slot) (length-map old.slots mark_of) ∙ t in
+          rw (t, len) (map-append mark_of old.slots ((record { generation = k.generation; holds = Some x; retired = false }) ∷ []))
 
 -- A node that is changed in place.
 pub relinks_written : (a : Arena inner.Node) (k : BoxKey) (x y : inner.Node) (e : Node BoxKey Item → Node BoxKey Item) → value a k.slot k.generation ≡ Some y → plain x ≡ e (plain y) → Relinks a (with_value a k.slot x) (edit same_key k e (linked a))
@@ -68,19 +60,6 @@ relinks_written a k x y e v is = record {
   kept j true s = ap Some is ∙ ap (option_map e) (sym (ap (option_map plain) (ap (λ i. value a i.slot i.generation) (sym (same_key-sound k j s)) ∙ v)))
   kept j false s = refl
 
--- Nothing is changed where there is no node.
-pub relinks_nothing : (a : Arena inner.Node) (k : BoxKey) (e : Node BoxKey Item → Node BoxKey Item) → None ≡ value a k.slot k.generation → Relinks a a (edit same_key k e (linked a))
-relinks_nothing a k e v = record {
-  links = λ j. kept j (same_key k j) refl;
-  same_slots = refl;
-  same_live = refl;
-  limit = refl;
-  first = refl;
-} where
-  kept : (j : BoxKey) (b : Bool) → same_key k j ≡ b → linked a j ≡ cond b (option_map e (linked a j)) (linked a j)
-  kept j true s = let n : linked a j ≡ None = ap (option_map plain) (ap (λ i. value a i.slot i.generation) (sym (same_key-sound k j s)) ∙ sym v) in n ∙ sym (ap (option_map e) n)
-  kept j false s = refl
-
 -- A key that enters is that of a free slot, or the first of the next one.
 pub is_next : (old new : Arena inner.Node) (k : BoxKey) (x : inner.Node) (t : Document) → t.slots ≡ marks old → old.first ≡ 0 → Enters old new k.slot k.generation x → IsNext t k
 is_next old new k x t same zero_first e = elim e.place [
@@ -91,7 +70,7 @@ is_next old new k x t same zero_first e = elim e.place [
   | inr v ↦ inr (v.0 ∙ sym len, v.1 ∙ zero_first)
 ] where
   len : length t.slots ≡ length old.slots
-  len = ap length same ∙ map_length mark_of old.slots
+  len = ap length same ∙ length-map old.slots mark_of
 
 -- A key that enters was never given.
 pub not_used : (old new : Arena inner.Node) (k : BoxKey) (x : inner.Node) (t : Document) → t.slots ≡ marks old → Enters old new k.slot k.generation x → IsUsed t k → ⊥
@@ -100,7 +79,7 @@ not_used old new k x t same e used = at e.place where
   here = ap (λ l. slice_index_or l k.slot (record { generation = 0; taken = false })) same ∙ get_or-map mark_of old.slots k.slot unmade
 
   len : length t.slots ≡ length old.slots
-  len = ap length same ∙ map_length mark_of old.slots
+  len = ap length same ∙ length-map old.slots mark_of
 
   at : ((k.slot < length old.slots) × (slot_at old k.slot ≡ record { generation = k.generation; holds = None; retired = false })) ⊎ ((k.slot ≡ length old.slots) × (k.generation ≡ old.first)) → ⊥
   at (inr v) = omega (arith, used.0, len, v.0)

@@ -9,7 +9,7 @@ use Rattle.rd_tree.proofs.Standing.{never, refute, from_left, from_right, join-e
 use Rattle.rd_tree.proofs.Cutting.{Among, among-in, apart_right, in_children}
 use Rattle.rd_tree.proofs.Without.{flipped, stays}
 use Rattle.rd_tree.proofs.Restoring.{Restored, restored, branch_there, apart_children}
-use Rattle.rd_tree.proofs.NearPut.{more_near, near-put, near-put_new, has-put, below-put_new, subtree-put, subtree-put_new, not_above_old}
+use Rattle.rd_tree.proofs.NearPut.{more_near, near-put, near-put_new, below-put_new, subtree-put_new}
 
 module _ (p k : BoxKey) (f : Boxes) (w : Among k (children same_key p f)) (a : IsApart same_key f) (m : has same_key p f ≡ true) where
   abbrev g : Boxes
@@ -34,16 +34,6 @@ module _ (p k : BoxKey) (f : Boxes) (w : Among k (children same_key p f)) (a : I
       ap (near_of j) back.is
       ∙ (near-put_new k w.item w.below w.before w.after p g back.apart back.there back.siblings back.off j (subst (λ b. has same_key j b ≡ true) back.branch_is u)
       ∙ ap (near_of j) (sym back.branch_is))
-
-  -- What stays is below the same boxes.
-  pub subtree-cut : (q j : BoxKey) → has same_key j g ≡ true → has same_key q (branch same_key k f) ≡ false → in_subtree same_key q j f ≡ in_subtree same_key q j g
-  subtree-cut q j u o =
-      ap (in_subtree same_key q j) back.is
-      ∙ subtree-put k w.item w.below w.before w.after p g back.apart back.there back.siblings back.off j q u (subst (λ b. has same_key q b ≡ false) back.branch_is o)
-
-  -- So the parent is below the same boxes.
-  pub subtree-cut_parent : (j : BoxKey) → has same_key j g ≡ true → in_subtree same_key p j f ≡ in_subtree same_key p j g
-  subtree-cut_parent j u = subtree-cut p j u (ap (has same_key p) back.branch_is ∙ back.off p back.there)
 
   -- The branch is below its parent and the boxes above that.
   pub subtree-cut_new : (q j : BoxKey) → has same_key j g ≡ true → has same_key q (branch same_key k f) ≡ true → in_subtree same_key q j f ≡ in_subtree same_key p j g
@@ -74,20 +64,3 @@ module _ (p k : BoxKey) (f : Boxes) (w : Among k (children same_key p f)) (a : I
         let up : has same_key k (children same_key j f) ≡ false = ap (λ z. has same_key k (children same_key j z)) back.is
         ∙ (below-put_new k w.item w.below w.before w.after p g back.apart back.there back.siblings back.off j k jo ∙ low) in
         rw (flipped same_key same_key-sound same_key-refl j k n, up) refl
-
-  -- A box above k is, without the branch, the parent of k or above it.
-  pub above_parent : (j : BoxKey) → has same_key j f ≡ true → same_key j k ≡ false → in_subtree same_key k j f ≡ true → in_subtree same_key p j g ≡ true
-  above_parent j u n i = sym (subtree-cut_above j (above_stays j u n i)) ∙ i
-
-  -- A box of the branch is not above what stays.
-  pub not_above_stay : (q j : BoxKey) → has same_key j (branch same_key k f) ≡ true → has same_key q g ≡ true → in_subtree same_key q j f ≡ false
-  not_above_stay q j u i =
-      ap (in_subtree same_key q j) back.is
-      ∙ not_above_old k w.item w.below w.before w.after p g back.apart back.there back.siblings back.off j q (subst (λ b. has same_key j b ≡ true) back.branch_is u) i
-
-  -- A box stays, or is one of the branch.
-  pub has-cut : (j : BoxKey) → has same_key j f ≡ (has same_key j g || has same_key j (branch same_key k f))
-  has-cut j =
-      ap (has same_key j) back.is
-      ∙ (has-put k w.item w.below w.before w.after p g back.apart back.there back.siblings back.off j
-      ∙ ap (λ b. has same_key j g || has same_key j b) (sym back.branch_is))

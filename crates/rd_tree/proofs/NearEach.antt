@@ -1,22 +1,19 @@
 -- What is told of each box once items change in one branch.
 use Rattle.std.proofs.Common.{◌≡◌, ap, ◌∙◌, sym, subst, ℕ, ◌+◌, Bool, true, false, cond}
-use Rattle.rd_geom.specs.Plane.{Rectangle, hull_of}
+use Rattle.rd_geom.specs.Plane.{hull_of}
 use Rattle.rd_keys.specs.Keys.{same_key}
 use Rattle.rd_keys.proofs.Keys.{same_key-sound, same_key-refl}
 use Rattle.rd_tree.specs.declared.near.Near.{Near}
-use Rattle.rd_tree.specs.Forest.{empty, tree, has, children, in_subtree, without, branch, each_if, at_box, IsApart}
+use Rattle.rd_tree.specs.Forest.{has, children, in_subtree, without, branch, each_if, IsApart}
 use Rattle.rd_tree.specs.Document.{BoxKey, Item, Boxes}
-use Rattle.rd_tree.specs.Near.{touched_in, extent, hull_in, near_first, near_of}
-use Rattle.rd_tree.proofs.Standing.{either, differs}
+use Rattle.rd_tree.specs.Near.{touched_in, hull_in, near_of}
+use Rattle.rd_tree.proofs.Standing.{either}
 use Rattle.rd_tree.proofs.Without.{stays}
 use Rattle.rd_tree.proofs.Each.{has-each, apart_each, children-each}
-use Rattle.rd_tree.proofs.Restoring.{branch_there}
 use Rattle.rd_tree.proofs.Cutting.{Among}
-use Rattle.rd_tree.proofs.EachBranch.{branch-each, each_none, among_each, IsWithin, without-within}
-use Rattle.rd_tree.proofs.NearBranch.{near-first}
+use Rattle.rd_tree.proofs.EachBranch.{each_none, among_each, IsWithin, without-within}
 use Rattle.rd_tree.proofs.NearPut.{more_near}
 use Rattle.rd_tree.proofs.NearCut.{near-cut, subtree-cut_above, above_stays}
-use Rattle.rd_tree.proofs.NearWithin.{not_own, near-branch, near-children}
 
 -- what is told of a box above a branch: how many children it has, and without the branch r is told of it
 abbrev pub joined_near : ℕ → Near → Boxes → Near
@@ -76,37 +73,6 @@ module _ (p k : BoxKey) (f g : Boxes) (a : IsApart same_key f) (m : has same_key
       cut_replaced j s ∙ (ap (λ b. cond b (more_near (same_key p j) (branch same_key k g) (near_of j less)) (near_of j less)) off
       ∙ (ap (λ b. cond b (more_near (same_key p j) (branch same_key k f) (near_of j less)) (near_of j less)) (sym off) ∙ sym (near-cut p k f w a m j s)))
 
--- a box of the branch
-pub near-in_branch : (t : BoxKey → Bool) (h : Item → Item) (k : BoxKey) (f : Boxes) → IsApart same_key f → (j : BoxKey) → has same_key j (branch same_key k f) ≡ true → near_of j (each_if t h f) ≡ near_of j (branch same_key k (each_if t h f))
-near-in_branch t h k f a j u = near-branch j k (each_if t h f) (apart_each t h same_key f a) (ap (has same_key j) (branch-each t h same_key k f) ∙ (has-each t h same_key j (branch same_key k f) ∙ u))
-
 -- What is below a box stays where the items below it stay.
 pub children_kept : (t : BoxKey → Bool) (h : Item → Item) (k : BoxKey) (f : Boxes) → ((j : BoxKey) → has same_key j (children same_key k f) ≡ true → t j ≡ false) → children same_key k (each_if t h f) ≡ children same_key k f
 children_kept t h k f o = children-each t h same_key k f ∙ each_none t h same_key same_key-refl (children same_key k f) o
-
-pub near-kept : (t : BoxKey → Bool) (h : Item → Item) (k : BoxKey) (f : Boxes) → IsApart same_key f → ((j : BoxKey) → has same_key j (children same_key k f) ≡ true → t j ≡ false) →
-    (j : BoxKey) → has same_key j (children same_key k f) ≡ true → near_of j (each_if t h f) ≡ near_of j f
-near-kept t h k f a o j u =
-    let e : children same_key k (each_if t h f) ≡ children same_key k f = children_kept t h k f o in
-    near-children j k (each_if t h f) (apart_each t h same_key f a) (ap (has same_key j) e ∙ u) ∙ (ap (near_of j) e ∙ sym (near-children j k f a u))
-
--- Where one box alone changes, all that is told of those below it stays.
-pub near-below_box : (h : Item → Item) (k : BoxKey) (f : Boxes) → IsApart same_key f → (j : BoxKey) → has same_key j (children same_key k f) ≡ true → near_of j (at_box same_key k h f) ≡ near_of j f
-near-below_box h k f a j u = near-kept (λ i. same_key i k) h k f a
-    (λ i v. differs same_key same_key-sound same_key-refl (children same_key k f) i k v (not_own same_key same_key-sound same_key-refl k f a)) j u
-
-pub branch-at_box : (h : Item → Item) (k : BoxKey) (f : Boxes) → IsApart same_key f → has same_key k f ≡ true → (d : Item) × (branch same_key k f ≡ tree k d (children same_key k f) empty) × (branch same_key k (at_box same_key k h f) ≡ tree k (h d) (children same_key k f) empty)
-branch-at_box h k f a m =
-    let t : (d : Item) × (branch same_key k f ≡ tree k d (children same_key k f) empty) = branch_there same_key same_key-sound same_key-refl k f a m in
-    let kept : each_if (λ i. same_key i k) h (children same_key k f) ≡ children same_key k f = each_none (λ i. same_key i k) h same_key same_key-refl (children same_key k f)
-    (λ i v. differs same_key same_key-sound same_key-refl (children same_key k f) i k v (not_own same_key same_key-sound same_key-refl k f a)) in
-    (t.0, t.1, branch-each (λ i. same_key i k) h same_key k f ∙ (ap (each_if (λ i. same_key i k) h) t.1 ∙ (ap (λ b. tree k (cond b (h t.0) t.0) (each_if (λ i. same_key i k) h (children same_key k f)) empty) (same_key-refl k) ∙ ap (λ z. tree k (h t.0) z empty) kept)))
-
--- What is told of that box itself: its own rectangle alone is another.
-pub near-at_box : (h : Item → Item) (k : BoxKey) (f : Boxes) → IsApart same_key f → has same_key k f ≡ true →
-    (d : Item) × (branch same_key k f ≡ tree k d (children same_key k f) empty) × (near_of k (at_box same_key k h f) ≡ record (near_of k f) { hull = hull_of (extent (h d)) (hull_in (children same_key k f)) })
-near-at_box h k f a m =
-    let t : (d : Item) × (branch same_key k f ≡ tree k d (children same_key k f) empty) × (branch same_key k (at_box same_key k h f) ≡ tree k (h d) (children same_key k f) empty) = branch-at_box h k f a m in
-    (t.0, t.1, near-first k (at_box same_key k h f) ∙ (ap near_first t.2 ∙ ap (λ n. hulled n (hull_of (extent (h t.0)) (hull_in (children same_key k f)))) (sym (near-first k f ∙ ap near_first t.1)))) where
-      hulled : Near → Rectangle → Near
-      hulled n r = record n { hull = r }

@@ -1,6 +1,6 @@
 -- Hulls over boxes.
-use Rattle.std.proofs.Common.{◌≡◌, refl, ap, ◌∙◌, sym, true}
-use Rattle.rd_geom.specs.Plane.{Rectangle, no_pixels, has_none, hull_of}
+use Rattle.std.proofs.Common.{◌≡◌, refl, ap, ◌∙◌, sym}
+use Rattle.rd_geom.specs.Plane.{Rectangle, no_pixels, hull_of}
 use Rattle.rd_geom.proofs.Hulls.{hull_comm, hull_assoc, hull_none, normal_hull}
 use Rattle.rd_tree.specs.Forest.{empty, tree, ◌▷◌}
 use Rattle.rd_tree.specs.Document.{BoxKey, Item, Boxes}
@@ -12,13 +12,6 @@ hull-unit a b = hull_none (hull_of a b) ∙ normal_hull a b
 pub hull_in-unit : (f : Boxes) → hull_of (hull_in f) no_pixels ≡ hull_in f
 hull_in-unit empty = refl
 hull_in-unit (tree k d below rest) = hull-unit (hull_of (extent d) (hull_in below)) (hull_in rest)
-
-unit_none : (r : Rectangle) → hull_of r no_pixels ≡ r → has_none r ≡ true → r ≡ no_pixels
-unit_none r h e = sym h ∙ rw e refl
-
--- it is no pixel at all, or has pixels
-pub hull_in-none : (f : Boxes) → has_none (hull_in f) ≡ true → hull_in f ≡ no_pixels
-hull_in-none f e = unit_none (hull_in f) (hull_in-unit f) e
 
 pub hull-join : (f g : Boxes) → hull_in (f ▷ g) ≡ hull_of (hull_in f) (hull_in g)
 hull-join empty g = sym (hull_comm no_pixels (hull_in g) ∙ hull_in-unit g)

@@ -1,20 +1,18 @@
 -- What is told of each box once a new box is a child of another, or a branch is moved.
-use Rattle.std.proofs.Common.{◌≡◌, refl, ap, ◌∙◌, sym, subst, Bool, true, false, ◌||◌, cond}
+use Rattle.std.proofs.Common.{◌≡◌, refl, ap, ◌∙◌, sym, subst, Bool, true, false, ◌||◌, cond, inl, inr}
 use Rattle.std.specs.Prelude.{Option, Some, None}
 use Rattle.rd_geom.specs.Plane.{no_pixels, hull_of}
 use Rattle.rd_keys.specs.Keys.{same_key}
 use Rattle.rd_keys.proofs.Keys.{same_key-sound, same_key-refl}
-use Rattle.rd_tree.specs.Forest.{Forest, empty, tree, ◌▷◌, has, children, in_subtree, under, amid, ahead, without, branch, IsPlaceIn, AreApart, IsApart}
+use Rattle.rd_tree.specs.Forest.{Forest, empty, tree, ◌▷◌, has, children, in_subtree, under, amid, without, branch, IsPlaceIn, AreApart, IsApart}
 use Rattle.rd_tree.specs.Document.{BoxKey, Item, Boxes, with_child}
 use Rattle.rd_tree.specs.Edits.{put_elsewhere}
 use Rattle.rd_tree.specs.Near.{extent, near_of}
-use Rattle.rd_tree.proofs.Standing.{either, join-empty, differs, from_left}
-use Rattle.rd_tree.proofs.Cutting.{Among}
-use Rattle.rd_tree.proofs.Placing.{among_of, ahead-among}
+use Rattle.rd_tree.proofs.Standing.{cases, either, join-empty, differs, from_left}
 use Rattle.rd_tree.proofs.Without.{apart_without, stays}
 use Rattle.rd_tree.proofs.Staying.{place_stays}
-use Rattle.rd_tree.proofs.Restoring.{branch_there, branch_off, apart_children}
-use Rattle.rd_tree.proofs.NearPut.{more_near, near-put, near-put_new, has-put, subtree-put, subtree-put_new, not_above_old}
+use Rattle.rd_tree.proofs.Restoring.{branch_there, branch_off}
+use Rattle.rd_tree.proofs.NearPut.{more_near, near-put, near-put_new, has-put, subtree-put, not_above_old}
 
 module _ {K D : Type 0} (same : K → K → Bool) (sound : (a b : K) → same a b ≡ true → a ≡ b) (reflexive : (a : K) → same a a ≡ true) where
   -- siblings at both sides of a place
@@ -24,16 +22,16 @@ module _ {K D : Type 0} (same : K → K → Bool) (sound : (a b : K) → same a 
     pub is : c ≡ xs ▷ ys
     pub amid_is : (g : Forest K D) → amid same before g c ≡ xs ▷ (g ▷ ys)
 
-  pub divided : (before : Option K) (c : Forest K D) → IsApart same c → IsPlaceIn same before c → Divided before c
-  divided None c a h = record { xs = c; ys = empty; is = sym (join-empty c); amid_is = λ g. ap (λ z. c ▷ z) (sym (join-empty g)) }
-  divided (Some b) c a h =
-      let w : Among b c = among_of same sound reflexive b c h in
-      record {
-        xs = w.before;
-        ys = tree b w.item w.below w.after;
-        is = w.is;
-        amid_is = λ g. ap (ahead same b g) w.is ∙ ahead-among same sound reflexive b w.item g w.before w.below w.after (subst (λ f. IsApart same f) w.is a);
-      }
+  pub divided : (before : Option K) (c : Forest K D) → Divided before c
+  divided None c = record { xs = c; ys = empty; is = sym (join-empty c); amid_is = λ g. ap (λ z. c ▷ z) (sym (join-empty g)) }
+  divided (Some b) empty = record { xs = empty; ys = empty; is = refl; amid_is = λ g. sym (join-empty g) }
+  divided (Some b) (tree m e below rest) =
+      elim (cases (same b m)) [
+        | inl h ↦ record { xs = empty; ys = tree m e below rest; is = refl; amid_is = λ g. rw h refl }
+        | inr h ↦
+            let s : Divided (Some b) rest = divided (Some b) rest in
+            record { xs = tree m e below s.xs; ys = s.ys; is = ap (tree m e below) s.is; amid_is = λ g. rw h (ap (tree m e below) (s.amid_is g)) }
+      ]
 
 module _ (p : BoxKey) (before : Option BoxKey) (k : BoxKey) (d : Item) (below g : Boxes) (a : IsApart same_key g) (m : has same_key p g ≡ true) (place : IsPlaceIn same_key before (children same_key p g)) (w : AreApart same_key g (tree k d below empty)) where
   abbrev one : Boxes
@@ -43,7 +41,7 @@ module _ (p : BoxKey) (before : Option BoxKey) (k : BoxKey) (d : Item) (below g 
   placed = under same_key p (amid same_key before one (children same_key p g)) g
 
   v : Divided same_key same_key-sound same_key-refl before (children same_key p g)
-  v = divided same_key same_key-sound same_key-refl before (children same_key p g) (apart_children same_key same_key-sound same_key-refl p g a) place
+  v = divided same_key same_key-sound same_key-refl before (children same_key p g)
 
   placed_is : placed ≡ under same_key p (v.xs ▷ tree k d below v.ys) g
   placed_is = ap (λ z. under same_key p z g) (v.amid_is one)
@@ -56,9 +54,6 @@ module _ (p : BoxKey) (before : Option BoxKey) (k : BoxKey) (d : Item) (below g 
 
   pub subtree-placed : (q j : BoxKey) → has same_key j g ≡ true → has same_key q one ≡ false → in_subtree same_key q j placed ≡ in_subtree same_key q j g
   subtree-placed q j u o = ap (in_subtree same_key q j) placed_is ∙ subtree-put k d below v.xs v.ys p g a m v.is w j q u o
-
-  pub subtree-placed_new : (q j : BoxKey) → has same_key j g ≡ true → has same_key q one ≡ true → in_subtree same_key q j placed ≡ in_subtree same_key p j g
-  subtree-placed_new q j u i = ap (in_subtree same_key q j) placed_is ∙ subtree-put_new k d below v.xs v.ys p g a m v.is w j q u i
 
   pub has-placed : (j : BoxKey) → has same_key j placed ≡ (has same_key j g || has same_key j one)
   has-placed j = ap (has same_key j) placed_is ∙ has-put k d below v.xs v.ys p g a m v.is w j
@@ -79,9 +74,6 @@ module _ (p : BoxKey) (before : Option BoxKey) (k : BoxKey) (d : Item) (g : Boxe
 
   pub subtree-with_child : (q j : BoxKey) → has same_key j g ≡ true → same_key q k ≡ false → in_subtree same_key q j (with_child p before k d g) ≡ in_subtree same_key q j g
   subtree-with_child q j u o = subtree-placed p before k d empty g a m place strange q j u (rw o refl)
-
-  pub subtree-child : (j : BoxKey) → has same_key j g ≡ true → in_subtree same_key k j (with_child p before k d g) ≡ in_subtree same_key p j g
-  subtree-child j u = subtree-placed_new p before k d empty g a m place strange k j u (from_left (same_key k k) false (same_key-refl k))
 
   pub has-with_child : (j : BoxKey) → has same_key j (with_child p before k d g) ≡ (has same_key j g || same_key j k)
   has-with_child j = has-placed p before k d empty g a m place strange j ∙ ap (λ b. has same_key j g || b) (no_more (same_key j k)) where
@@ -130,11 +122,6 @@ module _ (k q : BoxKey) (before : Option BoxKey) (f : Boxes) (a : IsApart same_k
   subtree-elsewhere i j u o =
       subst (λ b. in_subtree same_key i j (under same_key q (amid same_key before b (children same_key q g)) g) ≡ in_subtree same_key i j g) (sym t.1)
       (subtree-placed q before k t.0 (children same_key k f) g ga gq gplace off i j u (subst (λ b. has same_key i b ≡ false) t.1 o))
-
-  pub subtree-elsewhere_branch : (i j : BoxKey) → has same_key j g ≡ true → has same_key i (branch same_key k f) ≡ true → in_subtree same_key i j (put_elsewhere k q before f) ≡ in_subtree same_key q j g
-  subtree-elsewhere_branch i j u o =
-      subst (λ b. in_subtree same_key i j (under same_key q (amid same_key before b (children same_key q g)) g) ≡ in_subtree same_key q j g) (sym t.1)
-      (subtree-placed_new q before k t.0 (children same_key k f) g ga gq gplace off i j u (subst (λ b. has same_key i b ≡ true) t.1 o))
 
   pub has-elsewhere : (j : BoxKey) → has same_key j (put_elsewhere k q before f) ≡ (has same_key j g || has same_key j (branch same_key k f))
   has-elsewhere j =

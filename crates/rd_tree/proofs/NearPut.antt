@@ -102,10 +102,6 @@ module _ (k : BoxKey) (d : Item) (below xs ys : Boxes) (p : BoxKey) where
           itself true = refl
           itself false = refl
 
-    -- So p is below the same boxes.
-    pub subtree-put_parent : has same_key j g ≡ true → in_subtree same_key p j (under same_key p new g) ≡ in_subtree same_key p j g
-    subtree-put_parent u = subtree-put p u (w p m)
-
     -- A new box is above those below it alone.
     pub subtree-put_within : (q : BoxKey) → has same_key j one ≡ true → in_subtree same_key q j (under same_key p new g) ≡ in_subtree same_key q j one
     subtree-put_within q u = ap (λ b. same_key q j || b) (below-put_new q u)

@@ -1,5 +1,5 @@
 -- Boxes below a box, and what is told of them.
-use Rattle.std.proofs.Common.{◌≡◌, refl, ap, ◌∙◌, sym, subst, ◌≤◌, Bool, true, false, ◌||◌, cond, List, arith, inl, inr}
+use Rattle.std.proofs.Common.{◌≡◌, refl, ap, ◌∙◌, sym, subst, Bool, true, false, ◌||◌, cond, List, arith, inl, inr}
 use Rattle.std.specs.Prelude.{Option, Some, None}
 use Rattle.rd_geom.specs.Plane.{hull_of}
 use Rattle.rd_keys.specs.Keys.{same_key}
@@ -7,7 +7,7 @@ use Rattle.rd_keys.specs.Arena.{Arena}
 use Rattle.rd_keys.proofs.Keys.{same_key-sound, same_key-refl}
 use Rattle.rd_tree.specs.declared.node.Node as inner
 use Rattle.rd_tree.specs.declared.near.Near.{Near}
-use Rattle.rd_tree.specs.Forest.{Forest, empty, tree, size, has, from, children, IsApart}
+use Rattle.rd_tree.specs.Forest.{Forest, empty, tree, has, from, children, IsApart}
 use Rattle.rd_tree.specs.Links.{Node, Stands, onward_of}
 use Rattle.rd_tree.specs.Document.{BoxKey, Item, Boxes, AllFit}
 use Rattle.rd_tree.specs.Linked.{linked, IsRead, seen_from}
@@ -15,7 +15,7 @@ use Rattle.rd_tree.specs.Near.{near_first, near_of, near_at, is_above, extent, h
 use Rattle.rd_tree.specs.Rows.{IsStanding, IsFitAt, HasRows, extent_under, hulls_by, hull_anew_of}
 use Rattle.rd_tree.proofs.Standing.{cases, never, from_left, from_right, has-join, join-empty, out_of_children, no_children, differs, apart_back, read-stands}
 use Rattle.rd_tree.proofs.Children.{stands_children}
-use Rattle.rd_tree.proofs.Under.{which, size-join}
+use Rattle.rd_tree.proofs.Under.{size-children, which}
 use Rattle.rd_tree.proofs.Cutting.{in_children}
 use Rattle.rd_tree.proofs.Looking.{Begins, begins}
 
@@ -64,14 +64,6 @@ module _ {K D : Type 0} (same : K → K → Bool) (sound : (a b : K) → same a 
             ]
       ]
 
-  pub size-children : (p : K) (f : Forest K D) → size (children same p f) ≤ size f
-  size-children p empty = omega arith
-  size-children p (tree k d below rest) =
-      elim (cases (same p k)) [
-        | inl e ↦ rw e (omega arith)
-        | inr e ↦ rw (e, size-join (children same p below) (children same p rest)) (omega (arith, size-children p below, size-children p rest))
-      ]
-
   -- The boxes below a box do not hold a box that has it below.
   pub not_round : (j k : K) (f : Forest K D) → IsApart same f → IsApart same (children same k f) → has same k (children same k f) ≡ false → has same j (children same k f) ≡ true → has same k (children same j f) ≡ false
   not_round j k f h hk n m =
@@ -115,13 +107,13 @@ module _ (a : Arena inner.Node) (root : BoxKey) (f : Boxes) (is : IsStanding a r
   fit_at h = fit_stands (linked a) None None f (Some root) (Some root) None k h is.stands m
 
   low_read : IsRead a node_of.0.first
-  low_read = record { boxes = children same_key k f; up = Some k; prev = None; last = node_of.0.last; stands = node_of.2; apart = node_of.3; small = omega (arith, size-children same_key same_key-sound same_key-refl k f, is.small) }
+  low_read = record { boxes = children same_key k f; up = Some k; prev = None; last = node_of.0.last; stands = node_of.2; apart = node_of.3; small = omega (arith, size-children same_key k f, is.small) }
 
   pub below_read : IsRead a (onward_of (linked a k)).0
   below_read = subst (λ o. IsRead a o) first_is low_read
 
   pub below_seen : seen_from a (onward_of (linked a k)).0 ≡ children same_key k f
-  below_seen = ap (seen_from a) (sym first_is) ∙ read-stands a.limit (linked a) (Some k) None (children same_key k f) node_of.0.first node_of.0.last node_of.2 (omega (arith, size-children same_key same_key-sound same_key-refl k f, is.small))
+  below_seen = ap (seen_from a) (sym first_is) ∙ read-stands a.limit (linked a) (Some k) None (children same_key k f) node_of.0.first node_of.0.last node_of.2 (omega (arith, size-children same_key k f, is.small))
 
   pub below_rows : (rows : List Near) → HasRows rows f → HasRows rows (seen_from a (onward_of (linked a k)).0)
   below_rows rows h j u = h j (in_children same_key same_key-sound same_key-refl j k f (sym (ap (has same_key j) below_seen) ∙ u))

@@ -3,12 +3,12 @@ use Rattle.std.proofs.Common.{◌≡◌, refl, ap, ◌∙◌, sym, subst, ◌+�
 use Rattle.std.specs.Prelude.{Option, Some, None}
 use Rattle.rd_tree.specs.Forest.{Forest, empty, tree, size, ◌▷◌, has, children, without, branch, IsApart}
 use Rattle.rd_tree.specs.Links.{Node, node, Stands}
-use Rattle.rd_tree.proofs.Standing.{cases, never, either, from_left, from_right, join-empty, has-join, out_of_children, no_children, differs, apart_back}
+use Rattle.rd_tree.proofs.Standing.{flip, cases, never, either, from_left, from_right, join-empty, has-join, out_of_children, no_children, differs, apart_back}
 use Rattle.rd_tree.proofs.Under.{which}
 use Rattle.rd_tree.proofs.Cutting.{no_without}
 
 pub flipped : {K : Type 0} (same : K → K → Bool) (sound : (a b : K) → same a b ≡ true → a ≡ b) (reflexive : (a : K) → same a a ≡ true) (a b : K) → same a b ≡ false → same b a ≡ false
-flipped same sound reflexive a b h = elim (cases (same b a)) [ inl e ↦ absurd (never (same a b) (subst (λ x. same x b ≡ true) (sound b a e) (reflexive b)) h) | inr e ↦ e ]
+flipped same sound reflexive a b h = flip same sound reflexive b a ∙ h
 
 module _ {K D : Type 0} (same : K → K → Bool) (sound : (a b : K) → same a b ≡ true → a ≡ b) (reflexive : (a : K) → same a a ≡ true) where
   -- what is not in the forest is not in less of it

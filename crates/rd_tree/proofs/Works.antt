@@ -17,7 +17,11 @@ use Rattle.rd_tree.specs.Document.{BoxKey, Item, Boxes}
 use Rattle.rd_tree.specs.Linked.{linked, Relinks, IsRead, seen_from}
 use Rattle.rd_tree.specs.Works.{done, Allows, shifted}
 use Rattle.rd_tree.specs.WorksAt.{AllowsAt, FitsAt, ShiftFitsAt}
+use Rattle.rd_tree.proofs.Standing as standing
 use Rattle.rd_tree.proofs.Standing.{cases, never, from_right, frame, agree_edit, agree_at, read-stands, differs_back, apart_back}
+
+pub flip : (i j : BoxKey) → same_key i j ≡ same_key j i
+flip i j = standing.flip same_key same_key-sound same_key-refl i j
 
 pub seen_read : (a : Arena inner.Node) (o : Option BoxKey) (r : IsRead a o) → seen_from a o ≡ r.boxes
 seen_read a o r = read-stands a.limit (linked a) r.up r.prev r.boxes o r.last r.stands r.small
@@ -200,12 +204,6 @@ module _ (a0 a a1 : Arena inner.Node) (first : Option BoxKey) (work : Work) (k :
         },
         omega (arith, m, n),
       ) where
-        flip : (i j : BoxKey) → same_key i j ≡ same_key j i
-        flip i j = elim (cases (same_key i j)) [
-          | inl e ↦ subst (λ x. same_key i x ≡ same_key x i) (same_key-sound i j e) refl
-          | inr e ↦ elim (cases (same_key j i)) [ inl f ↦ absurd (never (same_key i j) (subst (λ x. same_key x j ≡ true) (same_key-sound j i f) (same_key-refl j)) e) | inr f ↦ e ∙ sym f ]
-        ]
-
         joined : {A : Type 0} (new old : A) (g : A → A) → g old ≡ new → (f kj jk low rest : Bool) → kj ≡ jk → ((jk || (low || rest)) ≡ true → f ≡ true) → (kj ≡ true → low ≡ false) → (kj ≡ true → rest ≡ false) → (low ≡ true → rest ≡ false) →
             cond low (g (cond kj (g (cond (f && not (jk || (low || rest))) new old)) (cond (f && not (jk || (low || rest))) new old))) (cond kj (g (cond (f && not (jk || (low || rest))) new old)) (cond (f && not (jk || (low || rest))) new old)) ≡ cond (f && not rest) new old
         joined new old g e f true true low rest s i p q r = rw (p refl, q refl, i refl) e
@@ -241,12 +239,6 @@ edited_read a a1 k g o r1 r n =
       small = omega (arith, r.small, r1.limit);
     } in
     (new, seen_read a1 o new ∙ sym told)
-
-pub flip : (i j : BoxKey) → same_key i j ≡ same_key j i
-flip i j = elim (cases (same_key i j)) [
-  | inl e ↦ subst (λ x. same_key i x ≡ same_key x i) (same_key-sound i j e) refl
-  | inr e ↦ elim (cases (same_key j i)) [ inl f ↦ absurd (never (same_key i j) (subst (λ x. same_key x j ≡ true) (same_key-sound j i f) (same_key-refl j)) e) | inr f ↦ e ∙ sym f ]
-]
 
 -- Work on a box and then on all below it.
 pub worked_below : (a a1 a2 : Arena inner.Node) (k : BoxKey) (g : Item → Item) (f : Boxes) → has same_key k f ≡ false → Relinks a a1 (edit same_key k (with_item g) (linked a)) → Relinks a1 a2 (on_each (λ j. has same_key j f) g (linked a1)) →
