@@ -38,6 +38,16 @@ def chain(i):
     return "root" if i == 1 else f"b{i - 1}"
 
 
+def insertions(count):
+    return [
+        {"do": "insert", "id": f"b{i}", "parent": "root", "rect": [i % 90, i % 80, 10, 10]} for i in range(1, count)
+    ]
+
+
+def each(count, command):
+    return [{"id": f"b{i}", **command} for i in range(1, count)]
+
+
 PAINT = [{"do": "paint"}, {"do": "dump"}]
 INPUTS = [
     ("32 MiB of spaces", lambda: b" " * (1 << 25)),
@@ -49,6 +59,14 @@ INPUTS = [
     ("1,000 boxes of a page, painted and dumped", lambda: script(boxes(1_000, page), PAINT)),
     ("5,000 boxes of a page, painted and dumped", lambda: script(boxes(5_000, page), PAINT)),
     ("a chain of 256 boxes, painted and dumped", lambda: script(boxes(256, chain), PAINT)),
+    ("10,000 insertions below the root", lambda: script(boxes(1, flat), insertions(10_001))),
+    ("19,999 insertions below the root", lambda: script(boxes(1, flat), insertions(20_000))),
+    ("10,000 boxes, each moved to the end", lambda: script(boxes(10_001, flat), each(10_001, {"do": "move", "parent": "root"}))),
+    ("19,999 boxes, each moved to the end", lambda: script(boxes(20_000, flat), each(20_000, {"do": "move", "parent": "root"}))),
+    ("10,000 boxes, each removed", lambda: script(boxes(10_001, flat), each(10_001, {"do": "remove"}))),
+    ("19,999 boxes, each removed", lambda: script(boxes(20_000, flat), each(20_000, {"do": "remove"}))),
+    ("19,999 boxes, each shifted", lambda: script(boxes(20_000, flat), each(20_000, {"do": "shift", "dx": 1, "dy": 1}))),
+    ("19,999 boxes, each given another background", lambda: script(boxes(20_000, flat), each(20_000, {"do": "style", "style": {"background": "#ff0000"}}))),
 ]
 
 
