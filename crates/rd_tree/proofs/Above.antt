@@ -17,7 +17,7 @@ use Rattle.rd_tree.proofs.Standing.{cases, never, from_left, no_children, refute
 use Rattle.rd_tree.proofs.Children.{stands_children}
 use Rattle.rd_tree.proofs.Climbing.{First, Child, climb, depth_size}
 
-at_generation : (y : Slot inner.Node) (g : ℕ) → is_some (option_map plain (cond (y.generation == g) y.holds None)) ≡ true → y.generation ≡ g
+pub at_generation : (y : Slot inner.Node) (g : ℕ) → is_some (option_map plain (cond (y.generation == g) y.holds None)) ≡ true → y.generation ≡ g
 at_generation y g h = elim (cases (y.generation == g)) [ inl e ↦ grind arith | inr e ↦ absurd (never false (ap (λ b. is_some (option_map plain (cond b y.holds None))) (sym e) ∙ h) refl) ]
 
 -- A slot has one live key.
