@@ -6,12 +6,11 @@ ghost use Rattle.std.specs.Io.KnownBytes.{Keeps};
 ghost use Rattle.rd_io.specs.Causes.{Rose};
 ghost use Rattle.rd_run.specs.Endings as ends;
 ghost use Rattle.rd_run.specs.Words.{words_form};
-ghost use Rattle.rd_run.specs.declared.status.Status.{Status};
 ghost use Rattle.rd_scene.specs.Scripts as scripts;
 
 use rd_geom::Steps;
 use rd_io::{ReadSource, Sink, Source, WriteSink, write_all};
-use rd_run::run;
+use rd_run::{Status, run};
 use std::alloc::{AllocError, Global};
 use std::env;
 use std::env::Args;
@@ -71,8 +70,9 @@ fn without_memory<E: Sink>(err: &mut E) -> u8
     ensures status { result ≡ ends.number Status.NoMemory }
     ensures line { ends.Tells (E.written err.old) (E.written err.new) (Rose (E.faults err.old) (E.faults err.new)) Status.NoMemory }
 {
-    let _told = write_all(err, b"out of memory\n");
-    6
+    let status = Status::NoMemory;
+    let _told = write_all(err, status.line().as_bytes());
+    status.number()
 }
 
 fn main(rt: HostRuntime) -> ExitCode {

@@ -26,7 +26,7 @@ pub enum Status {
 
 impl Status {
     /// The exit status.
-    pub(crate) fn number(self) -> u8
+    pub fn number(self) -> u8
         ensures { result ≡ ends.number self }
     {
         match self {
@@ -42,7 +42,7 @@ impl Status {
     }
 
     /// The line on standard error, with its newline; nothing where all went well.
-    pub(crate) fn line(self) -> &'static str
+    pub fn line(self) -> &'static str
         ensures { result.now ≡ ends.line_of self }
     {
         match self {
