@@ -2,6 +2,7 @@
 use Rattle.std.proofs.Common.{◌≡◌, ℕ, ◌+◌, ◌≤◌, ◌<◌, List, [], ◌∷◌, ◌++◌, length, get_or, take, refl, sym, ◌∙◌, ap, arith, length-append, append_assoc, append-nil}
 use Rattle.std.proofs.lemmas.List.{take_more}
 use Rattle.rd_item.specs.declared.leaf.Leaf as item
+use Rattle.rd_list.specs.Wrappers.{Wrapper}
 use Rattle.rd_list.specs.Entries.{Entries, nil, leaf, group, ◌▷◌, flat}
 use Rattle.rd_list.specs.Listed.{listed}
 use Rattle.rd_list.specs.declared.plain.PlainEntry.{PlainEntry}
@@ -11,33 +12,33 @@ use Rattle.rd_tree.specs.Document.{Boxes}
 use Rattle.rd_run.specs.Lines.{KeptItem, item_line, group_line, lines, width}
 use Rattle.rd_run.specs.Display.{stamped}
 
-pub width-stamped : (n : ℕ) (xs : Entries item.Leaf) → width (stamped n xs) ≡ width xs
+pub width-stamped : (n : ℕ) (xs : Entries Wrapper item.Leaf) → width (stamped n xs) ≡ width xs
 width-stamped n nil = refl
 width-stamped n (leaf l rest) = ap (λ m. m + 1) (width-stamped n rest)
-width-stamped n (group k o inner rest) = ap (λ m. m + 1) (width-stamped n rest)
+width-stamped n (group g inner rest) = ap (λ m. m + 1) (width-stamped n rest)
 
 pub width-listed : (es : List PlainEntry) → width (listed es) ≡ length es
 width-listed [] = refl
 width-listed (Leaf l ∷ es) = omega (arith, width-listed es)
 width-listed (Group k o inner ∷ es) = omega (arith, width-listed es)
 
-pub length-stamped : (n : ℕ) (xs : Entries item.Leaf) → length (flat (stamped n xs)) ≡ length (flat xs)
+pub length-stamped : (n : ℕ) (xs : Entries Wrapper item.Leaf) → length (flat (stamped n xs)) ≡ length (flat xs)
 length-stamped n nil = refl
 length-stamped n (leaf l rest) = omega (arith, length-stamped n rest)
-length-stamped n (group k o inner rest) =
+length-stamped n (group g inner rest) =
     length-append (flat (stamped n inner)) _ ∙ omega (arith, length-stamped n inner, length-stamped n rest, length-append (flat inner) (flat rest))
 
-stamped-join : (n : ℕ) (xs ys : Entries item.Leaf) → stamped n (xs ▷ ys) ≡ stamped n xs ▷ stamped n ys
+stamped-join : (n : ℕ) (xs ys : Entries Wrapper item.Leaf) → stamped n (xs ▷ ys) ≡ stamped n xs ▷ stamped n ys
 stamped-join n nil ys = refl
 stamped-join n (leaf l xs) ys = ap (leaf (record { of = l; made = n })) (stamped-join n xs ys)
-stamped-join n (group k o inner xs) ys = ap (group k o (stamped n inner)) (stamped-join n xs ys)
+stamped-join n (group g inner xs) ys = ap (group g (stamped n inner)) (stamped-join n xs ys)
 
-lines-join : (t : Boxes) (d : ℕ) (xs ys : Entries KeptItem) → lines t d (xs ▷ ys) ≡ lines t d xs ++ lines t d ys
+lines-join : (t : Boxes) (d : ℕ) (xs ys : Entries Wrapper KeptItem) → lines t d (xs ▷ ys) ≡ lines t d xs ++ lines t d ys
 lines-join t d nil ys = refl
 lines-join t d (leaf i xs) ys =
     ap (λ z. item_line t d i ++ z) (lines-join t d xs ys) ∙ sym (append_assoc (item_line t d i) (lines t d xs) (lines t d ys))
-lines-join t d (group k o inner xs) ys =
-    let front : List ℕ = group_line t d k o (width inner) ++ lines t (d + 1) inner in
+lines-join t d (group g inner xs) ys =
+    let front : List ℕ = group_line t d g.key g.opacity (width inner) ++ lines t (d + 1) inner in
     ap (λ z. front ++ z) (lines-join t d xs ys) ∙ sym (append_assoc front (lines t d xs) (lines t d ys))
 
 -- one more entry's lines

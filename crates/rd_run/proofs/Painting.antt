@@ -2,6 +2,7 @@
 use Rattle.std.proofs.Common.{◌≡◌, ℕ, suc, ◌+◌, ◌*◌, Bool, true, false, not, cond, List, [], ◌∷◌, ◌++◌, length, count_by, Some, refl, sym, ◌∙◌, ap, subst, unsigned_abs, arith, add-one}
 use Rattle.std.specs.List.{AllByRecursion, All, fold}
 use Rattle.rd_item.specs.declared.leaf.Leaf.{Leaf}
+use Rattle.rd_list.specs.Wrappers.{Wrapper}
 use Rattle.rd_list.specs.Entries.{Entries, nil, leaf, group, flat}
 use Rattle.rd_list.specs.Lists.{StandsFor, meets_any}
 use Rattle.rd_geom.specs.Canvas.{canvas_of}
@@ -28,10 +29,10 @@ on_canvas canvas (l ∷ ls) h = (seen (h 0 l (omega arith)), on_canvas canvas ls
 pub all_meet : (t : Document) → IsSound t → AllByRecursion (λ l. meets_any (canvas_of t.canvas ∷ []) l ≡ true) (flat (fresh_list t))
 all_meet t h = on_canvas (canvas_of t.canvas) (flat (fresh_list t)) (shows_on_canvas t h.apart)
 
-pub leaves-stamped : (n : ℕ) (xs : Entries Leaf) → leaves (stamped n xs) ≡ xs
+pub leaves-stamped : (n : ℕ) (xs : Entries Wrapper Leaf) → leaves (stamped n xs) ≡ xs
 leaves-stamped n nil = refl
 leaves-stamped n (leaf l rest) = ap (leaf l) (leaves-stamped n rest)
-leaves-stamped n (group k o inner rest) = ap (λ i. group k o i (leaves (stamped n rest))) (leaves-stamped n inner) ∙ ap (group k o inner) (leaves-stamped n rest)
+leaves-stamped n (group g inner rest) = ap (λ i. group g i (leaves (stamped n rest))) (leaves-stamped n inner) ∙ ap (group g inner) (leaves-stamped n rest)
 
 all_append : {A : Type 0} (P : A → Type 0) (xs ys : List A) → AllByRecursion P xs → AllByRecursion P ys → AllByRecursion P (xs ++ ys)
 all_append P [] ys a b = b
@@ -46,11 +47,11 @@ all_back P [] ys a = a
 all_back P (x ∷ xs) ys a = all_back P xs ys a.1
 
 -- where every leaf meets the area, every item was made in this paint
-pub made_now : (s : State) (n : ℕ) (xs : Entries Leaf) → n ≡ s.paints + 1 → AllByRecursion (λ l. meets_any (invalid_area s) l ≡ true) (flat xs)
+pub made_now : (s : State) (n : ℕ) (xs : Entries Wrapper Leaf) → n ≡ s.paints + 1 → AllByRecursion (λ l. meets_any (invalid_area s) l ≡ true) (flat xs)
     → AllByRecursion (λ i. i.made ≡ made_after s i.of) (flat (stamped n xs))
 made_now s n nil e h = tt
 made_now s n (leaf l rest) e h = (rw (h.0) e, made_now s n rest e h.1)
-made_now s n (group k o inner rest) e h =
+made_now s n (group g inner rest) e h =
     all_append (λ i. i.made ≡ made_after s i.of) (flat (stamped n inner)) (flat (stamped n rest))
     (made_now s n inner e (all_front (λ l. meets_any (invalid_area s) l ≡ true) (flat inner) (flat rest) h))
     (made_now s n rest e (all_back (λ l. meets_any (invalid_area s) l ≡ true) (flat inner) (flat rest) h))

@@ -3,6 +3,7 @@ use Rattle.std.specs.Prelude.{◌≡◌, ℕ, List}
 use Rattle.rd_geom.specs.Canvas.{IsCanvas}
 use Rattle.rd_keys.specs.Keys.{same_key}
 use Rattle.rd_item.specs.declared.leaf.Leaf.{Leaf}
+use Rattle.rd_list.specs.Wrappers.{Wrapper}
 use Rattle.rd_list.specs.Entries.{Entries, nil, leaf, group}
 use Rattle.rd_tree.specs.Document.{Document}
 use Rattle.rd_tree.specs.Forest.{IsApart}
@@ -11,10 +12,10 @@ use Rattle.rd_run.specs.Machine.{State}
 use Rattle.rd_run.specs.declared.display.Display.{Display}
 
 -- a list of which one paint made every item
-abbrev pub stamped : ℕ → Entries Leaf → Entries KeptItem
+abbrev pub stamped : ℕ → Entries Wrapper Leaf → Entries Wrapper KeptItem
 stamped n nil = nil
 stamped n (leaf l rest) = leaf (record { of = l; made = n }) (stamped n rest)
-stamped n (group k opacity inner rest) = group k opacity (stamped n inner) (stamped n rest)
+stamped n (group g inner rest) = group g (stamped n inner) (stamped n rest)
 
 -- each key at one place, on a canvas within the limits
 pub record IsSound (t : Document) : Type 0 where

@@ -7,6 +7,7 @@ use Rattle.rd_keys.specs.Keys.{BoxKey}
 use Rattle.rd_keys.specs.declared.entry.Part.{Part}
 use Rattle.rd_keys.specs.declared.entry.Part.TheVariants.{Back, Border, Content, Outline}
 use Rattle.rd_item.specs.declared.leaf.Leaf.{Leaf}
+use Rattle.rd_list.specs.Wrappers.{Wrapper}
 use Rattle.rd_list.specs.Entries.{Entries, nil, leaf, group, flat}
 use Rattle.rd_tree.specs.Document.{Boxes}
 use Rattle.rd_run.specs.Names.{id_of}
@@ -62,10 +63,10 @@ paint_line number built kept area =
     line (codes "paint" ∷ decimal number ∷ codes "built" ∷ decimal built ∷ codes "kept" ∷ decimal kept ∷ codes "area" ∷ decimal area ∷ [])
 
 -- how many leaves and groups stand directly in a list
-abbrev pub width : {L : Type 0} → Entries L → ℕ
+abbrev pub width : {G L : Type 0} → Entries G L → ℕ
 width nil = 0
 width (leaf i rest) = width rest + 1
-width (group k opacity inner rest) = width rest + 1
+width (group g inner rest) = width rest + 1
 
 module _ (boxes : Boxes) where
   abbrev pub item_line : ℕ → KeptItem → List ℕ
@@ -78,11 +79,11 @@ module _ (boxes : Boxes) where
       line (codes "group" ∷ decimal depth ∷ id_of k boxes ∷ decimal opacity ∷ decimal entries ∷ [])
 
   -- a line for each entry in order, those of a group after the group's own
-  abbrev pub lines : ℕ → Entries KeptItem → List ℕ
+  abbrev pub lines : ℕ → Entries Wrapper KeptItem → List ℕ
   lines depth nil = []
   lines depth (leaf i rest) = item_line depth i ++ lines depth rest
-  lines depth (group k opacity inner rest) =
-      group_line depth k opacity (width inner) ++ lines (depth + 1) inner ++ lines depth rest
+  lines depth (group g inner rest) =
+      group_line depth g.key g.opacity (width inner) ++ lines (depth + 1) inner ++ lines depth rest
 
-  abbrev pub dump_lines : Entries KeptItem → List ℕ
+  abbrev pub dump_lines : Entries Wrapper KeptItem → List ℕ
   dump_lines kept = line (codes "dump" ∷ decimal (length (flat kept)) ∷ []) ++ lines 0 kept

@@ -3,6 +3,7 @@ use Rattle.std.specs.Prelude.{◌≡◌, ℕ, zero, suc, ◌+◌, ◌*◌, ℤ, 
 use Rattle.std.specs.List.{list_any, AllByRecursion}
 use Rattle.rd_geom.specs.Plane.{Rectangle, holds_pixel}
 use Rattle.rd_item.specs.declared.leaf.Leaf.{Leaf}
+use Rattle.rd_list.specs.Wrappers.{Wrapper}
 use Rattle.rd_list.specs.Entries.{Entries, nil, leaf, group, flat}
 use Rattle.rd_list.specs.Lists.{StandsFor, same_leaf, meets_any}
 use Rattle.rd_tree.specs.Document.{Document}
@@ -26,17 +27,17 @@ pub record State : Type 0 where
   pub last : Option Document
   pub pending : Bool
   pub paints : ℕ
-  pub kept : Entries KeptItem
+  pub kept : Entries Wrapper KeptItem
 
 -- before the first command
 abbrev pub start : Document → State
 start t = record { tree = t; last = None; pending = true; paints = 0; kept = nil }
 
 -- a kept list without the numbers of the paints
-abbrev pub leaves : Entries KeptItem → Entries Leaf
+abbrev pub leaves : Entries Wrapper KeptItem → Entries Wrapper Leaf
 leaves nil = nil
 leaves (leaf i rest) = leaf i.of (leaves rest)
-leaves (group k opacity inner rest) = group k opacity (leaves inner) (leaves rest)
+leaves (group g inner rest) = group g (leaves inner) (leaves rest)
 
 -- The invalid area, as rectangles: for now every paint paints the whole canvas.
 abbrev pub invalid_area : State → List Rectangle

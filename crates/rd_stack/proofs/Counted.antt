@@ -12,8 +12,9 @@ use Rattle.rd_item.specs.declared.leaf.Shape.{Shape}
 use Rattle.rd_tree.specs.Forest.{empty, tree, has, IsApart}
 use Rattle.rd_tree.specs.Document.{Boxes}
 use Rattle.rd_tree.proofs.Standing.{cases}
-use Rattle.rd_list.specs.Entries.{Entries, nil, leaf, group, ◌▷◌, flat, singly, has_leaf, is_empty}
-use Rattle.rd_list.specs.Lists.{same_leaf, same_part, groups, no_group_is_empty}
+use Rattle.rd_list.specs.Wrappers.{Wrapper}
+use Rattle.rd_list.specs.Entries.{Entries, nil, leaf, group, ◌▷◌, flat, singly, has_leaf, is_empty, no_group_is_empty}
+use Rattle.rd_list.specs.Lists.{same_leaf, same_part, groups}
 use Rattle.rd_list.proofs.Joins.{flat-join}
 use Rattle.rd_stack.specs.Spots.{BoxData, Spot}
 use Rattle.rd_stack.specs.Clips.{clip_of}
@@ -94,19 +95,19 @@ all-once j f a = let s = all-key j f a in let t = at_most (has same_key j f) in 
 
 -- Leaves.
 module _ (p : Leaf → Bool) where
-  abbrev pub leaves_that : Entries Leaf → ℕ
+  abbrev pub leaves_that : Entries Wrapper Leaf → ℕ
   leaves_that xs = total (λ l. one (p l)) (flat xs)
 
-  pub that-join : (xs ys : Entries Leaf) → leaves_that (xs ▷ ys) ≡ leaves_that xs + leaves_that ys
+  pub that-join : (xs ys : Entries Wrapper Leaf) → leaves_that (xs ▷ ys) ≡ leaves_that xs + leaves_that ys
   that-join xs ys = ap (total (λ l. one (p l))) (flat-join xs ys) ∙ total-append (λ l. one (p l)) (flat xs) (flat ys)
 
   pub that-group : (x : Painted) → leaves_that (grouped x) ≤ 0 + leaves_that x.order
   that-group x = choose (is_translucent x.at && has_leaf (flat x.order))
     where
-      inner : leaves_that (group x.at.here.key x.at.here.style.opacity x.order nil) ≡ leaves_that x.order
+      inner : leaves_that (group (record { key = x.at.here.key; opacity = x.at.here.style.opacity }) x.order nil) ≡ leaves_that x.order
       inner = total-append (λ l. one (p l)) (flat x.order) [] ∙ omega arith
 
-      choose : (b : Bool) → leaves_that (cond b (group x.at.here.key x.at.here.style.opacity x.order nil) x.order) ≤ 0 + leaves_that x.order
+      choose : (b : Bool) → leaves_that (cond b (group (record { key = x.at.here.key; opacity = x.at.here.style.opacity }) x.order nil) x.order) ≤ 0 + leaves_that x.order
       choose true = omega (arith, inner)
       choose false = omega arith
 
@@ -160,22 +161,22 @@ module _ (canvas : Rectangle) (a : Leaf) where
       omega (arith, root_fit canvas (leaves_that (same_leaf a)) (λ b. 0) (λ b. one (same_key a.owner b.key)) w f apart, all-once a.owner f apart)
 
 -- Groups.
-groups-join : (xs ys : Entries Leaf) → groups (xs ▷ ys) ≡ groups xs ++ groups ys
+groups-join : (xs ys : Entries Wrapper Leaf) → groups (xs ▷ ys) ≡ groups xs ++ groups ys
 groups-join nil ys = refl
 groups-join (leaf l xs) ys = groups-join xs ys
-groups-join (group k o inner xs) ys = ap (λ zs. k ∷ zs) (ap (λ zs. groups inner ++ zs) (groups-join xs ys) ∙ sym (append_assoc (groups inner) (groups xs) (groups ys)))
+groups-join (group g inner xs) ys = ap (λ zs. g.key ∷ zs) (ap (λ zs. groups inner ++ zs) (groups-join xs ys) ∙ sym (append_assoc (groups inner) (groups xs) (groups ys)))
 
 module _ (canvas : Rectangle) (j : BoxKey) where
-  abbrev pub groups_of : Entries Leaf → ℕ
+  abbrev pub groups_of : Entries Wrapper Leaf → ℕ
   groups_of xs = total (λ k. one (same_key j k)) (groups xs)
 
-  groups_of-join : (xs ys : Entries Leaf) → groups_of (xs ▷ ys) ≡ groups_of xs + groups_of ys
+  groups_of-join : (xs ys : Entries Wrapper Leaf) → groups_of (xs ▷ ys) ≡ groups_of xs + groups_of ys
   groups_of-join xs ys = ap (total (λ k. one (same_key j k))) (groups-join xs ys) ∙ total-append (λ k. one (same_key j k)) (groups xs) (groups ys)
 
   groups_of-group : (x : Painted) → groups_of (grouped x) ≤ one (same_key j x.at.here.key) + groups_of x.order
   groups_of-group x = choose (is_translucent x.at && has_leaf (flat x.order))
     where
-      choose : (b : Bool) → groups_of (cond b (group x.at.here.key x.at.here.style.opacity x.order nil) x.order) ≤ one (same_key j x.at.here.key) + groups_of x.order
+      choose : (b : Bool) → groups_of (cond b (group (record { key = x.at.here.key; opacity = x.at.here.style.opacity }) x.order nil) x.order) ≤ one (same_key j x.at.here.key) + groups_of x.order
       choose true = let s = total-append (λ k. one (same_key j k)) (groups x.order) [] in omega (arith, s)
       choose false = omega arith
 
@@ -195,25 +196,25 @@ module _ (canvas : Rectangle) (j : BoxKey) where
       omega (arith, root_fit canvas groups_of own own w f apart, all-once j f apart)
 
 -- Empty groups.
-abbrev pub empty_groups : Entries Leaf → ℕ
+abbrev pub empty_groups : Entries Wrapper Leaf → ℕ
 empty_groups nil = 0
 empty_groups (leaf l rest) = empty_groups rest
-empty_groups (group k o inner rest) = one (is_empty inner) + empty_groups inner + empty_groups rest
+empty_groups (group g inner rest) = one (is_empty inner) + empty_groups inner + empty_groups rest
 
-empty-join : (xs ys : Entries Leaf) → empty_groups (xs ▷ ys) ≡ empty_groups xs + empty_groups ys
+empty-join : (xs ys : Entries Wrapper Leaf) → empty_groups (xs ▷ ys) ≡ empty_groups xs + empty_groups ys
 empty-join nil ys = omega arith
 empty-join (leaf l xs) ys = empty-join xs ys
-empty-join (group k o inner xs) ys = omega (arith, empty-join xs ys)
+empty-join (group g inner xs) ys = omega (arith, empty-join xs ys)
 
-leafy : (xs : Entries Leaf) → has_leaf (flat xs) ≡ true → is_empty xs ≡ false
+leafy : (xs : Entries Wrapper Leaf) → has_leaf (flat xs) ≡ true → is_empty xs ≡ false
 leafy nil h = cc
 leafy (leaf l xs) h = refl
-leafy (group k o inner xs) h = refl
+leafy (group g inner xs) h = refl
 
 empty-group : (x : Painted) → empty_groups (grouped x) ≤ 0 + empty_groups x.order
 empty-group x = choose (is_translucent x.at) (has_leaf (flat x.order)) refl
   where
-    choose : (b h : Bool) → has_leaf (flat x.order) ≡ h → empty_groups (cond (b && h) (group x.at.here.key x.at.here.style.opacity x.order nil) x.order) ≤ 0 + empty_groups x.order
+    choose : (b h : Bool) → has_leaf (flat x.order) ≡ h → empty_groups (cond (b && h) (group (record { key = x.at.here.key; opacity = x.at.here.style.opacity }) x.order nil) x.order) ≤ 0 + empty_groups x.order
     choose false h e = omega arith
     choose true false e = omega arith
     choose true true e = let n : one (is_empty x.order) ≡ 0 = ap one (leafy x.order e) in omega (arith, n)
@@ -233,10 +234,10 @@ module _ (canvas : Rectangle) where
       let w : Weighs canvas empty_groups (λ b. 0) (λ b. 0) = record { none = refl; join = empty-join; group = empty-group; parts = empty_parts } in
       omega (arith, root_fit canvas empty_groups (λ b. 0) (λ b. 0) w f apart, all-none f)
 
-pub filled : (xs : Entries Leaf) → empty_groups xs ≤ 0 → no_group_is_empty xs ≡ true
+pub filled : (xs : Entries Wrapper Leaf) → empty_groups xs ≤ 0 → no_group_is_empty xs ≡ true
 filled nil h = refl
 filled (leaf l xs) h = filled xs h
-filled (group k o inner xs) h =
+filled (group g inner xs) h =
     let e : one (is_empty inner) ≡ 0 = omega (arith, h) in
     let n : is_empty inner ≡ false = by (is_empty inner) e in
     rw (n, filled inner (omega (arith, h)), filled xs (omega (arith, h))) refl

@@ -1,28 +1,17 @@
 -- The laws of painting.
-use Rattle.std.proofs.Common.{refl, ◌≡◌, true, []}
+use Rattle.std.proofs.Common.{refl, []}
 use Rattle.std.proofs.lemmas.List.Sorted.{IsPermutation-refl}
 use Rattle.rd_geom.specs.Canvas.{canvas_of}
 use Rattle.rd_keys.specs.Keys.{same_key}
 use Rattle.rd_keys.proofs.Keys.{same_key-refl}
-use Rattle.rd_keys.specs.declared.entry.Part.{Part}
-use Rattle.rd_keys.specs.declared.entry.Part.TheVariants.{Back, Border, Content, Outline}
-use Rattle.rd_item.specs.declared.leaf.Leaf.{Leaf}
-use Rattle.rd_list.specs.Entries.{flat}
-use Rattle.rd_list.specs.Lists.{same_leaf, same_part, routes, groups}
+use Rattle.rd_list.specs.Entries.{flat, routes}
+use Rattle.rd_list.specs.Lists.{same_leaf, groups}
 use Rattle.rd_stack.specs.Fresh.{fresh_list}
 use Rattle.rd_stack.proofs.Counted.{pairs_apart, leaf_once, group_once, none_empty, filled}
 use Rattle.rd_stack.proofs.Counted.{none_fails}
+use Rattle.rd_stack.proofs.Orders.{same_leaf-refl}
 use Rattle.rd_stack.proofs.OnCanvas.{lies_in, on_canvas, none_off}
 use Rattle.rd_stack.specs.Laws.{StandsForItself, ShowsOnCanvas}
-
-same_part-refl : (p : Part) → same_part p p ≡ true
-same_part-refl Back = refl
-same_part-refl Border = refl
-same_part-refl Content = refl
-same_part-refl Outline = refl
-
-same_leaf-refl : (l : Leaf) → same_leaf l l ≡ true
-same_leaf-refl l = rw (same_key-refl l.owner, same_part-refl l.part) refl
 
 pub stands_for_itself : StandsForItself
 stands_for_itself = λ t apart. record {

@@ -11,6 +11,7 @@ use Rattle.rd_style.specs.Boxes.{class, real, stacks, in_flow_class}
 use Rattle.rd_keys.specs.Keys.{same_key}
 use Rattle.rd_tree.specs.Forest.{empty, tree, has, IsApart}
 use Rattle.rd_tree.specs.Document.{Boxes}
+use Rattle.rd_list.specs.Wrappers.{Wrapper}
 use Rattle.rd_list.specs.Entries.{Entries}
 use Rattle.rd_stack.specs.Spots.{BoxData, Spot, is_class, is_local, is_context, is_plain, is_no_context, is_none, between}
 use Rattle.rd_stack.specs.Fresh.{box, painted, root_order}
@@ -118,7 +119,7 @@ unreal s h = by (stacks s false) refl h
     by true e h = let k : true ≡ false = rw e at h in cc
     by false e h = rw e refl
 
-module _ (canvas : Rectangle) (weight : Entries Leaf → ℕ) (extra own : BoxData → ℕ) (w : Weighs canvas weight extra own) where
+module _ (canvas : Rectangle) (weight : Entries Wrapper Leaf → ℕ) (extra own : BoxData → ℕ) (w : Weighs canvas weight extra own) where
   -- what is taken of one box and of those below it
   head_take : (c : Class) (r context unblocked : Bool) (parts order extra_b own_b : ℕ) (below : Bool → Bool → ℕ)
       → (is_class Layer c ≡ false → r ≡ false) → extra_b + parts ≤ own_b → extra_b + order ≤ own_b + below r true → below false false ≡ 0

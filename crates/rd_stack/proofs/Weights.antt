@@ -7,6 +7,7 @@ use Rattle.rd_style.specs.declared.kinds.Class.{Class}
 use Rattle.rd_style.specs.declared.kinds.Class.TheVariants.{Layer, Float, Atom, Block, Inline}
 use Rattle.rd_keys.specs.declared.entry.Part.TheVariants.{Back, Border, Content, Outline}
 use Rattle.rd_item.specs.declared.leaf.Leaf.{Leaf}
+use Rattle.rd_list.specs.Wrappers.{Wrapper}
 use Rattle.rd_list.specs.Entries.{Entries, nil, ◌▷◌, each}
 use Rattle.rd_stack.specs.Spots.{BoxData, Spot, is_root, is_context, class_of, is_class, is, is_local, is_layer, is_in_line, flows}
 use Rattle.rd_stack.specs.Painting.{Painted, local_boxes, layers_of, line_of, of_class, is_negative, is_positive, is_zero, by_level, when, grouped, is_blocky, paint, back_border, inline_part, flow, steps, level_of, number}
@@ -15,27 +16,27 @@ use Rattle.rd_stack.proofs.Sums.{total, total-filter, total-le, total-plus, tota
 
 -- A weight of lists: it adds up, a group weighs no more than its list and something extra for its box,
 -- and what a box paints of itself, with that extra, weighs no more than the box.
-pub record Weighs (canvas : Rectangle) (weight : Entries Leaf → ℕ) (extra own : BoxData → ℕ) : Type 0 where
+pub record Weighs (canvas : Rectangle) (weight : Entries Wrapper Leaf → ℕ) (extra own : BoxData → ℕ) : Type 0 where
   pub none : weight nil ≡ 0
-  pub join : (xs ys : Entries Leaf) → weight (xs ▷ ys) ≡ weight xs + weight ys
+  pub join : (xs ys : Entries Wrapper Leaf) → weight (xs ▷ ys) ≡ weight xs + weight ys
   pub group : (x : Painted) → weight (grouped x) ≤ extra x.at.here + weight x.order
   pub parts : (x : Spot) → extra x.here + (weight (paint canvas Back x) + weight (paint canvas Border x) + weight (paint canvas Content x) + weight (paint canvas Outline x)) ≤ own x.here
 
-module _ (canvas : Rectangle) (weight : Entries Leaf → ℕ) (extra own : BoxData → ℕ) (w : Weighs canvas weight extra own) where
-  pub weight-each : {A : Type 0} (f : A → Entries Leaf) (xs : List A) → weight (each f xs) ≡ total (λ x. weight (f x)) xs
+module _ (canvas : Rectangle) (weight : Entries Wrapper Leaf → ℕ) (extra own : BoxData → ℕ) (w : Weighs canvas weight extra own) where
+  pub weight-each : {A : Type 0} (f : A → Entries Wrapper Leaf) (xs : List A) → weight (each f xs) ≡ total (λ x. weight (f x)) xs
   weight-each f [] = w.none
   weight-each f (x ∷ xs) = w.join (f x) (each f xs) ∙ ap (λ n. weight (f x) + n) (weight-each f xs)
 
-  pub weight-when : (b : Bool) (xs : Entries Leaf) → weight (when b xs) ≡ cond b (weight xs) 0
+  pub weight-when : (b : Bool) (xs : Entries Wrapper Leaf) → weight (when b xs) ≡ cond b (weight xs) 0
   weight-when true xs = refl
   weight-when false xs = w.none
 
-  weight-if : (b : Bool) (xs ys : Entries Leaf) → weight (cond b xs ys) ≡ cond b (weight xs) (weight ys)
+  weight-if : (b : Bool) (xs ys : Entries Wrapper Leaf) → weight (cond b xs ys) ≡ cond b (weight xs) (weight ys)
   weight-if true xs ys = refl
   weight-if false xs ys = refl
 
   -- of the boxes of a kind
-  weight-kind : (f : Painted → Entries Leaf) (p q : Painted → Bool) (xs : List Painted) → weight (each f (filter q (filter p xs))) ≡ total (λ x. cond (p x && q x) (weight (f x)) 0) xs
+  weight-kind : (f : Painted → Entries Wrapper Leaf) (p q : Painted → Bool) (xs : List Painted) → weight (each f (filter q (filter p xs))) ≡ total (λ x. cond (p x && q x) (weight (f x)) 0) xs
   weight-kind f p q xs = weight-each f (filter q (filter p xs)) ∙ ap (total (λ x. weight (f x))) (filter_both p q xs) ∙ total-filter (λ x. weight (f x)) (λ x. p x && q x) xs
 
   abbrev pub parts_of : Spot → ℕ
@@ -152,7 +153,7 @@ module _ (canvas : Rectangle) (weight : Entries Leaf → ℕ) (extra own : BoxDa
   root_block : (e : Spot) → is_root e ≡ true → is_blocky e ≡ true
   root_block e h = rw h refl
 
-  up : {a b : Entries Leaf} {m n : ℕ} → weight a ≤ m → weight b ≤ n → weight (a ▷ b) ≤ m + n
+  up : {a b : Entries Wrapper Leaf} {m n : ℕ} → weight a ≤ m → weight b ≤ n → weight (a ▷ b) ≤ m + n
   up {a = a} {b = b} {m = m} {n = n} h k = rw (w.join a b) (omega (arith, h, k))
 
   le : {m n : ℕ} → m ≡ n → m ≤ n

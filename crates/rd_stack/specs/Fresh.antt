@@ -4,6 +4,7 @@ use Rattle.rd_geom.specs.Plane.{Rectangle}
 use Rattle.rd_geom.specs.Canvas.{canvas_of}
 use Rattle.rd_keys.specs.Keys.{BoxKey}
 use Rattle.rd_item.specs.declared.leaf.Leaf.{Leaf}
+use Rattle.rd_list.specs.Wrappers.{Wrapper}
 use Rattle.rd_list.specs.Entries.{Entries, nil}
 use Rattle.rd_tree.specs.Forest.{empty, tree}
 use Rattle.rd_tree.specs.declared.node.Item.{Item}
@@ -43,16 +44,16 @@ module _ (canvas : Rectangle) where
   painted above (tree k d children next) = with_below above (box k d) (painted (box k d ∷ above) children) ++ painted above next
 
   -- CSS 2.2 Appendix E.2: all that e paints, from bottom to top: the ten steps over its descendants
-  abbrev pub painting_order : Place → Entries Leaf
+  abbrev pub painting_order : Place → Entries Wrapper Leaf
   painting_order e = steps canvas e.at (painted (e.at.here ∷ e.at.above) e.below)
 
   -- CSS 2.2 Appendix E.2: the painting order of the first box, which is the root
-  abbrev pub root_order : Boxes → Entries Leaf
+  abbrev pub root_order : Boxes → Entries Wrapper Leaf
   root_order empty = nil
   root_order (tree k d children next) =
       let root : Place = record { at = record { above = []; here = box k d }; below = children } in
       grouped (record { at = root.at; order = painting_order root })
 
 -- CSS 2.2 Appendix E: what a tree of boxes paints, from bottom to top
-abbrev pub fresh_list : Document → Entries Leaf
+abbrev pub fresh_list : Document → Entries Wrapper Leaf
 fresh_list t = root_order (canvas_of t.canvas) t.boxes

@@ -7,6 +7,7 @@ use Rattle.rd_style.specs.Boxes.{level, blocky}
 use Rattle.rd_keys.specs.declared.entry.Part.{Part}
 use Rattle.rd_keys.specs.declared.entry.Part.TheVariants.{Back, Border, Content, Outline}
 use Rattle.rd_item.specs.declared.leaf.Leaf.{Leaf}
+use Rattle.rd_list.specs.Wrappers.{Wrapper}
 use Rattle.rd_list.specs.Entries.{Entries, nil, group, ◌▷◌, each, singly, flat, has_leaf}
 use Rattle.rd_stack.specs.Spots.{Spot, is_root, is_context, is, is_local, is_layer, is_in_line}
 use Rattle.rd_stack.specs.Parts.{leaf_of}
@@ -14,7 +15,7 @@ use Rattle.rd_stack.specs.Parts.{leaf_of}
 -- This project's own form: a box with all that it paints, from bottom to top.
 pub record Painted : Type 0 where
   pub at : Spot
-  pub order : Entries Leaf
+  pub order : Entries Wrapper Leaf
 
 -- CSS 2.2 Appendix E.2: of the boxes below e, its local boxes, its layers, and the line of c
 abbrev pub local_boxes : Spot → List Painted → List Painted
@@ -68,7 +69,7 @@ by_level [] = []
 by_level (x ∷ xs) = put x (by_level xs)
 
 -- This project's own form: a list where a condition holds, and else nothing.
-abbrev pub when : Bool → Entries Leaf → Entries Leaf
+abbrev pub when : Bool → Entries Wrapper Leaf → Entries Wrapper Leaf
 when b xs = if b then xs else nil
 
 -- CSS Color 3 section 3.2: a stacking context of opacity below one, which is 255
@@ -76,10 +77,10 @@ abbrev pub is_translucent : Spot → Bool
 is_translucent x = is_context x && nat_lt x.here.style.opacity 255
 
 -- CSS Color 3 section 3.2: a translucent stacking context is composed as one group
-abbrev pub grouped : Painted → Entries Leaf
+abbrev pub grouped : Painted → Entries Wrapper Leaf
 grouped x =
     if is_translucent x.at && has_leaf (flat x.order)
-    then group x.at.here.key x.at.here.style.opacity x.order nil else x.order
+    then group (record { key = x.at.here.key; opacity = x.at.here.style.opacity }) x.order nil else x.order
 
 -- CSS 2.2 section 9.7: whether a box is laid out as a block
 abbrev pub is_blocky : Spot → Bool
@@ -87,23 +88,23 @@ is_blocky e = blocky e.here.style (is_root e)
 
 module _ (canvas : Rectangle) where
   -- This project's own form: the leaf of a part, where there is one.
-  abbrev pub paint : Part → Spot → Entries Leaf
+  abbrev pub paint : Part → Spot → Entries Wrapper Leaf
   paint part x = singly (leaf_of canvas x part)
 
   -- CSS 2.2 Appendix E.2: the background, and the border on top of it
-  abbrev pub back_border : Spot → Entries Leaf
+  abbrev pub back_border : Spot → Entries Wrapper Leaf
   back_border x = paint Back x ▷ paint Border x
 
   -- CSS 2.2 Appendix E.2: an inline box of a line is painted in it, and an atomic inline with all that it paints
-  abbrev pub inline_part : Painted → Entries Leaf
+  abbrev pub inline_part : Painted → Entries Wrapper Leaf
   inline_part x = if is Atom x.at then x.order else back_border x.at ▷ paint Content x.at
 
   -- the content of c, and its line on top
-  abbrev pub flow : Spot → List Painted → Spot → Entries Leaf
+  abbrev pub flow : Spot → List Painted → Spot → Entries Wrapper Leaf
   flow e below c = paint Content c ▷ each inline_part (line_of e below c)
 
   -- CSS 2.2 Appendix E.2: what e paints, from bottom to top, where below is what each box below it paints.
-  unfoldable pub steps : Spot → List Painted → Entries Leaf
+  unfoldable pub steps : Spot → List Painted → Entries Wrapper Leaf
   steps e below =
       let root = is_root e in
       let block = is_blocky e in

@@ -1,0 +1,142 @@
+-- What holds of every leaf that a box paints.
+use Rattle.std.proofs.Common.{◌≡◌, refl, Bool, true, false, not, ◌&&◌, ◌||◌, cond, List, [], ◌∷◌, ◌++◌}
+use Rattle.std.specs.Prelude.{filter, Option, Some, None}
+use Rattle.rd_geom.specs.Plane.{Rectangle}
+use Rattle.rd_style.specs.declared.kinds.Class.TheVariants.{Float, Atom, Block, Inline}
+use Rattle.rd_keys.specs.declared.entry.Part.{Part}
+use Rattle.rd_keys.specs.declared.entry.Part.TheVariants.{Back, Border, Content, Outline}
+use Rattle.rd_item.specs.declared.leaf.Leaf.{Leaf}
+use Rattle.rd_list.specs.Wrappers.{Wrapper}
+use Rattle.rd_list.specs.Entries.{Entries, nil, leaf, group, ◌▷◌, each, singly, flat, has_leaf, only, grouped_if_any}
+use Rattle.rd_tree.specs.Forest.{empty, tree}
+use Rattle.rd_tree.specs.Document.{Boxes}
+use Rattle.rd_stack.specs.Spots.{BoxData, Spot, is, is_root, is_context, is_local, is_layer, is_in_line}
+use Rattle.rd_stack.specs.Parts.{leaf_of}
+use Rattle.rd_stack.specs.Painting.{Painted, by_level, put, is_lower, grouped, is_translucent, when, paint, back_border, inline_part, flow, steps, layers_of, line_of, is_negative, is_positive, is_zero, is_blocky}
+use Rattle.rd_stack.specs.Fresh.{box, painted, root_order}
+
+module _ (Q : Leaf → Type 0) where
+  abbrev pub EachLeaf : Entries Wrapper Leaf → Type 0
+  EachLeaf nil = Unit {0}
+  EachLeaf (leaf l rest) = Q l × EachLeaf rest
+  EachLeaf (group g inner rest) = EachLeaf inner × EachLeaf rest
+
+  abbrev pub OfLeaf : Option Leaf → Type 0
+  OfLeaf None = Unit {0}
+  OfLeaf (Some l) = Q l
+
+  leaf_join : (xs ys : Entries Wrapper Leaf) → EachLeaf xs → EachLeaf ys → EachLeaf (xs ▷ ys)
+  leaf_join nil ys h k = k
+  leaf_join (leaf l xs) ys h k = (h.0, leaf_join xs ys h.1 k)
+  leaf_join (group g inner xs) ys h k = (h.0, leaf_join xs ys h.1 k)
+
+  leaf_single : (o : Option Leaf) → OfLeaf o → EachLeaf (singly o)
+  leaf_single None h = tt
+  leaf_single (Some l) h = (h, tt)
+
+  leaf_when : (b : Bool) (xs : Entries Wrapper Leaf) → EachLeaf xs → EachLeaf (when b xs)
+  leaf_when true xs h = h
+  leaf_when false xs h = tt
+
+  leaf_grouped : (x : Painted) → EachLeaf x.order → EachLeaf (grouped x)
+  leaf_grouped x h = by (is_translucent x.at && has_leaf (flat x.order))
+    where
+      by : (b : Bool) → EachLeaf (cond b (group (record { key = x.at.here.key; opacity = x.at.here.style.opacity }) x.order nil) x.order)
+      by true = (h, tt)
+      by false = h
+
+  -- a fact about each painted box
+  abbrev AllOf : (Painted → Type 0) → List Painted → Type 0
+  AllOf P [] = Unit {0}
+  AllOf P (x ∷ xs) = P x × AllOf P xs
+
+  all_filter : (P : Painted → Type 0) (p : Painted → Bool) (xs : List Painted) → AllOf P xs → AllOf P (filter p xs)
+  all_filter P p [] h = tt
+  all_filter P p (x ∷ xs) h = elim (p x) as (λ b. AllOf P (cond b (x ∷ filter p xs) (filter p xs))) [ true ↦ (h.0, all_filter P p xs h.1) | false ↦ all_filter P p xs h.1 ]
+
+  all_put : (P : Painted → Type 0) (x : Painted) (ys : List Painted) → P x → AllOf P ys → AllOf P (put x ys)
+  all_put P x [] h k = (h, tt)
+  all_put P x (y ∷ ys) h k = elim (is_lower y x) as (λ b. AllOf P (cond b (y ∷ put x ys) (x ∷ y ∷ ys))) [ true ↦ (k.0, all_put P x ys h k.1) | false ↦ (h, k) ]
+
+  all_by_level : (P : Painted → Type 0) (xs : List Painted) → AllOf P xs → AllOf P (by_level xs)
+  all_by_level P [] h = tt
+  all_by_level P (x ∷ xs) h = all_put P x (by_level xs) h.0 (all_by_level P xs h.1)
+
+  all_append : (P : Painted → Type 0) (xs ys : List Painted) → AllOf P xs → AllOf P ys → AllOf P (xs ++ ys)
+  all_append P [] ys h k = k
+  all_append P (x ∷ xs) ys h k = (h.0, all_append P xs ys h.1 k)
+
+  leaf_each : (P : Painted → Type 0) (f : Painted → Entries Wrapper Leaf) → ((x : Painted) → P x → EachLeaf (f x)) → (xs : List Painted) → AllOf P xs → EachLeaf (each f xs)
+  leaf_each P f e [] h = tt
+  leaf_each P f e (x ∷ xs) h = leaf_join (f x) (each f xs) (e x h.0) (leaf_each P f e xs h.1)
+
+  module _ (canvas : Rectangle) where
+    abbrev pub OfParts : Spot → Type 0
+    OfParts x = (part : Part) → OfLeaf (leaf_of canvas x part)
+
+    abbrev IsGood : Painted → Type 0
+    IsGood x = OfParts x.at × EachLeaf x.order
+
+    part : (p : Part) (x : Spot) → OfParts x → EachLeaf (paint canvas p x)
+    part p x h = leaf_single (leaf_of canvas x p) (h p)
+
+    back : (x : Spot) → OfParts x → EachLeaf (back_border canvas x)
+    back x h = leaf_join (paint canvas Back x) (paint canvas Border x) (part Back x h) (part Border x h)
+
+    inline : (x : Painted) → IsGood x → EachLeaf (inline_part canvas x)
+    inline x h = elim (is Atom x.at) as (λ b. EachLeaf (cond b x.order (back_border canvas x.at ▷ paint canvas Content x.at))) [
+      | true ↦ h.1
+      | false ↦ leaf_join (back_border canvas x.at) (paint canvas Content x.at) (back x.at h.0) (part Content x.at h.0)
+    ]
+
+    flowing : (e : Spot) (below : List Painted) (c : Spot) → AllOf IsGood below → OfParts c → EachLeaf (flow canvas e below c)
+    flowing e below c h k =
+        leaf_join (paint canvas Content c) (each (inline_part canvas) (line_of e below c)) (part Content c k)
+        (leaf_each IsGood (inline_part canvas) inline (line_of e below c) (all_filter IsGood (λ x. is_in_line e c x.at) below h))
+
+    kind : (f : Painted → Entries Wrapper Leaf) (p q : Painted → Bool) → ((x : Painted) → IsGood x → EachLeaf (f x)) → (below : List Painted) → AllOf IsGood below → EachLeaf (each f (filter q (filter p below)))
+    kind f p q e below h = leaf_each IsGood f e _ (all_filter IsGood q _ (all_filter IsGood p below h))
+
+    layer : (e : Spot) (q : Painted → Bool) (below : List Painted) → AllOf IsGood below → EachLeaf (each grouped (by_level (filter q (layers_of e below))))
+    layer e q below h = leaf_each IsGood grouped (λ x g. leaf_grouped x g.1) _ (all_by_level IsGood _ (all_filter IsGood q _ (all_filter IsGood (λ x. is_layer e x.at) below h)))
+
+    pub in_steps : (e : Spot) (below : List Painted) → OfParts e → AllOf IsGood below → EachLeaf (steps canvas e below)
+    unfolding steps
+    in_steps e below k h =
+        leaf_join _ _ (leaf_when (is_root e) _ (part Back e k))
+        (leaf_join _ _ (leaf_when (is_blocky e) _ (leaf_join _ _ (leaf_when (not (is_root e)) _ (part Back e k)) (part Border e k)))
+        (leaf_join _ _ (leaf_when (is_context e) _ (layer e is_negative below h))
+        (leaf_join _ _ (kind (λ x. back_border canvas x.at) (λ x. is_local e x.at) (λ x. is Block x.at) (λ x g. back x.at g.0) below h)
+        (leaf_join _ _ (kind (λ x. x.order) (λ x. is_local e x.at) (λ x. is Float x.at) (λ x g. g.1) below h)
+        (leaf_join _ _ (leaf_when (not (is_blocky e)) _ (leaf_join _ _ (back e k) (flowing e below e h k)))
+        (leaf_join _ _ (leaf_when (is_blocky e) _ (flowing e below e h k))
+        (leaf_join _ _ (kind (λ x. flow canvas e below x.at) (λ x. is_local e x.at) (λ x. is Block x.at) (λ x g. flowing e below x.at h g.0) below h)
+        (leaf_join _ _ (leaf_when (is_context e) _ (kind grouped (λ x. is_layer e x.at) is_zero (λ x g. leaf_grouped x g.1) below h))
+        (leaf_join _ _ (leaf_when (is_context e) _ (layer e is_positive below h))
+        (leaf_join _ _ (part Outline e k)
+        (kind (λ x. paint canvas Outline x.at) (λ x. is_local e x.at) (λ x. is Block x.at || is Inline x.at) (λ x g. part Outline x.at g.0) below h)))))))))))
+
+    -- The parts of each box of a forest.
+    abbrev pub EachBox : List BoxData → Boxes → Type 0
+    EachBox above empty = Unit {0}
+    EachBox above (tree k d below rest) = OfParts (record { above = above; here = box k d }) × EachBox (box k d ∷ above) below × EachBox above rest
+
+    in_painted : (above : List BoxData) (f : Boxes) → EachBox above f → AllOf IsGood (painted canvas above f)
+    in_painted above empty h = tt
+    in_painted above (tree k d below rest) h =
+        let e : Spot = record { above = above; here = box k d } in
+        let inside = in_painted (box k d ∷ above) below h.1 in
+        ((h.0, in_steps e (painted canvas (box k d ∷ above) below) h.0 inside), all_append IsGood (painted canvas (box k d ∷ above) below) (painted canvas above rest) inside (in_painted above rest h.2))
+
+    -- What holds of the parts of each box holds of every leaf that the root paints.
+    pub in_order : (f : Boxes) → EachBox [] f → EachLeaf (root_order canvas f)
+    in_order empty h = tt
+    in_order (tree k d below rest) h =
+        let e : Spot = record { above = []; here = box k d } in
+        leaf_grouped (record { at = e; order = steps canvas e (painted canvas (box k d ∷ []) below) }) (in_steps e (painted canvas (box k d ∷ []) below) h.0 (in_painted (box k d ∷ []) below h.1))
+
+-- tests that agree on each leaf of a list leave the same of it
+pub only_where : (p q : Leaf → Bool) (xs : Entries Wrapper Leaf) → EachLeaf (λ l. p l ≡ q l) xs → only p xs ≡ only q xs
+only_where p q nil h = refl
+only_where p q (leaf l xs) h = λ i. cond (h.0 i) (leaf l (only_where p q xs h.1 i)) (only_where p q xs h.1 i)
+only_where p q (group g inner xs) h = λ i. grouped_if_any g (only_where p q inner h.0 i) (only_where p q xs h.1 i)
