@@ -2,14 +2,14 @@ use Rattle.std.proofs.Common.{◌≡◌, ℕ, zero, suc, ℤ, pos, negsuc, ◌-�
 use Rattle.std.specs.Prelude.{int_lt, if◌then◌else◌}
 use Rattle.std.specs.Int.{int_max, int_min}
 use Rattle.std.proofs.lemmas.Int.{ints, clamps}
-use Rattle.rd_geom.specs.Plane.{Rectangle, right, bottom, holds_pixel, is_among, has_none, between, common, no_pixels, hull_of, around, IsWithin}
+use Rattle.rd_geom.specs.Plane.{Rectangle, right, bottom, holds_pixel, is_among, has_none, between, meet, no_pixels, hull_of, around, IsWithin}
 use Rattle.rd_geom.specs.Canvas.{IsCanvas, canvas_of}
 use Rattle.rd_geom.specs.Areas.{in_span, in_spans, spans_at}
 use Rattle.rd_geom.specs.declared.rect.Size.{Size}
 use Rattle.rd_geom.specs.declared.span.Span.{Span}
 use Rattle.rd_geom.proofs.Pixels.{common_pixels, both_true, right_of}
 use Rattle.rd_area.specs.Rows.{IsRising, Joins, SharesColumn, row_meets}
-use Rattle.rd_area.specs.Sound.{IsOn, IsSound}
+use Rattle.rd_area.specs.Internal.Normal.{IsOn, IsNormalized}
 use Rattle.rd_area.specs.Sharing.{SharesPixel}
 use Rattle.rd_area.proofs.Merging.{meets_shares, shares_meets}
 
@@ -39,7 +39,7 @@ between_on l t r b size c left top right bottom =
       | false ↦ record { left = omega (arith, ints); top = omega (arith, ints); right = omega (arith, ints); bottom = omega (arith, ints) }
     ]
 
-pub common_on_left : (a b : Rectangle) (size : Size) → IsCanvas size → IsOn a size → IsOn (common a b) size
+pub common_on_left : (a b : Rectangle) (size : Size) → IsCanvas size → IsOn a size → IsOn (meet a b) size
 common_on_left a b size c o =
     between_on (int_max a.x b.x) (int_max a.y b.y) (int_min (right a) (right b)) (int_min (bottom a) (bottom b)) size c
     (omega (arith, ints, clamps)) (omega (arith, ints, clamps)) (omega (arith, ints, clamps)) (omega (arith, ints, clamps))
@@ -47,7 +47,7 @@ common_on_left a b size c o =
 pub canvas_on : (size : Size) → IsOn (canvas_of size) size
 canvas_on size = record { left = omega (arith, ints); top = omega (arith, ints); right = omega (arith, ints); bottom = omega (arith, ints) }
 
-pub common_on_right : (a b : Rectangle) (size : Size) → IsCanvas size → IsOn b size → IsOn (common a b) size
+pub common_on_right : (a b : Rectangle) (size : Size) → IsCanvas size → IsOn b size → IsOn (meet a b) size
 common_on_right a b size c o =
     between_on (int_max a.x b.x) (int_max a.y b.y) (int_min (right a) (right b)) (int_min (bottom a) (bottom b)) size c
     (omega (arith, ints, clamps)) (omega (arith, ints, clamps)) (omega (arith, ints, clamps)) (omega (arith, ints, clamps))
@@ -135,7 +135,7 @@ either true b h f g = f h
 either false b h f g = g h
 
 pub grown_sound : (s used used' : Rectangle) (from to : ℕ) (span : Span) (old new : List (List Span)) (size : Size) → IsGrown s from to span old new → IsOn s size
-    → IsSound size used old → used' ≡ hull_of used s → IsWithin used used' → IsWithin s used' → IsSound size used' new
+    → IsNormalized size used old → used' ≡ hull_of used s → IsWithin used used' → IsWithin s used' → IsNormalized size used' new
 grown_sound s used used' from to span old new size g o i e first second = record {
   canvas = i.canvas;
   height = ap (λ n. pos n) g.count ∙ i.height;
@@ -148,42 +148,42 @@ grown_sound s used used' from to span old new size g o i e first second = record
 
 -- a row that has a column of the span has a pixel of the area in the rectangle
 pub found_shares : (size : Size) (used r : Rectangle) (rows : List (List Span)) (from to : ℕ) (span : Span) (n : ℕ)
-    → IsBlock (common used r) from to span → from ≤ n → n < to → IsTrue (row_meets (get_or rows n []) span)
+    → IsBlock (meet used r) from to span → from ≤ n → n < to → IsTrue (row_meets (get_or rows n []) span)
     → SharesPixel (record { size = size; rows = rows }) r
 found_shares size used r rows from to span n k f t h =
     let m : SharesColumn (get_or rows n []) span = meets_shares (get_or rows n []) span h in
-    let c : IsTrue (holds_pixel (common used r) m.x (pos n)) = subst (λ b. IsTrue b) (sym (in_block (common used r) from to span m.x n k f t)) m.second in
+    let c : IsTrue (holds_pixel (meet used r) m.x (pos n)) = subst (λ b. IsTrue b) (sym (in_block (meet used r) from to span m.x n k f t)) m.second in
     let both : IsTrue (holds_pixel used m.x (pos n) && holds_pixel r m.x (pos n)) = subst (λ b. IsTrue b) (common_pixels used r m.x (pos n)) c in
     record { x = m.x; y = pos n; first = m.first; second = right_of (holds_pixel used m.x (pos n)) (holds_pixel r m.x (pos n)) both }
 
-shares_in : (size : Size) (used r : Rectangle) (rows : List (List Span)) → IsSound size used rows → (x y : ℤ) → IsTrue (in_spans (spans_at rows y) x) → IsTrue (holds_pixel r x y)
-    → IsTrue (holds_pixel (common used r) x y)
+shares_in : (size : Size) (used r : Rectangle) (rows : List (List Span)) → IsNormalized size used rows → (x y : ℤ) → IsTrue (in_spans (spans_at rows y) x) → IsTrue (holds_pixel r x y)
+    → IsTrue (holds_pixel (meet used r) x y)
 shares_in size used r rows i x (pos n) h k =
     subst (λ b. IsTrue b) (sym (common_pixels used r x (pos n))) (both_true (holds_pixel used x (pos n)) (holds_pixel r x (pos n)) (i.within x n h) k)
 shares_in size used r rows i x (negsuc n) h k = absurd (grind arith)
 
 -- and where no row of the block has one, the area has no pixel in the rectangle
-not_shared : (size : Size) (used r : Rectangle) (rows : List (List Span)) (from to : ℕ) (span : Span) → IsSound size used rows → IsBlock (common used r) from to span
+not_shared : (size : Size) (used r : Rectangle) (rows : List (List Span)) (from to : ℕ) (span : Span) → IsNormalized size used rows → IsBlock (meet used r) from to span
     → ((n : ℕ) → from ≤ n → n < to → IsFalse (row_meets (get_or rows n []) span)) → (x y : ℤ) → IsTrue (in_spans (spans_at rows y) x) → IsTrue (holds_pixel r x y) → ⊥
 not_shared size used r rows from to span i k none x (negsuc n) h p = absurd (grind arith)
 not_shared size used r rows from to span i k none x (pos n) h p =
-    let c : IsTrue (holds_pixel (common used r) x (pos n)) = shares_in size used r rows i x (pos n) h p in
+    let c : IsTrue (holds_pixel (meet used r) x (pos n)) = shares_in size used r rows i x (pos n) h p in
     ⊎_elim
-    (λ w. let s : IsTrue (in_span span x) = subst (λ b. IsTrue b) (in_block (common used r) from to span x n k w.0 w.1) c in
+    (λ w. let s : IsTrue (in_span span x) = subst (λ b. IsTrue b) (in_block (meet used r) from to span x n k w.0 w.1) c in
     let m : row_meets (get_or rows n []) span ≡ true = shares_meets (get_or rows n []) span x h s in
     clash (row_meets (get_or rows n []) span) m (none n w.0 w.1))
-    (λ o. clash (holds_pixel (common used r) x (pos n)) c (outside_block (common used r) from to span x n k o))
+    (λ o. clash (holds_pixel (meet used r) x (pos n)) c (outside_block (meet used r) from to span x n k o))
     (split from to n)
 
-pub none_shares : (size : Size) (used r : Rectangle) (rows : List (List Span)) (from to : ℕ) (span : Span) → IsSound size used rows → IsBlock (common used r) from to span
+pub none_shares : (size : Size) (used r : Rectangle) (rows : List (List Span)) (from to : ℕ) (span : Span) → IsNormalized size used rows → IsBlock (meet used r) from to span
     → ((n : ℕ) → from ≤ n → n < to → IsFalse (row_meets (get_or rows n []) span)) → SharesPixel (record { size = size; rows = rows }) r → ⊥
 none_shares size used r rows from to span i k none s = not_shared size used r rows from to span i k none s.x s.y s.first s.second
 
 -- nor where the rectangle lies off what is in use
-pub apart_shares : (size : Size) (used r : Rectangle) (rows : List (List Span)) → IsSound size used rows → has_none (common used r) ≡ true → SharesPixel (record { size = size; rows = rows }) r → ⊥
+pub apart_shares : (size : Size) (used r : Rectangle) (rows : List (List Span)) → IsNormalized size used rows → has_none (meet used r) ≡ true → SharesPixel (record { size = size; rows = rows }) r → ⊥
 apart_shares size used r rows i e s =
-    let c : IsTrue (holds_pixel (common used r) s.x s.y) = shares_in size used r rows i s.x s.y s.first s.second in
-    no_pixel_in (common used r) s.x s.y e c
+    let c : IsTrue (holds_pixel (meet used r) s.x s.y) = shares_in size used r rows i s.x s.y s.first s.second in
+    no_pixel_in (meet used r) s.x s.y e c
 
 -- an empty rectangle adds no pixel
 pub none_added : (s : Rectangle) (x y : ℤ) (b : Bool) → has_none s ≡ true → b ≡ (holds_pixel s x y || b)

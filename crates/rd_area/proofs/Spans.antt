@@ -2,8 +2,8 @@ use Rattle.std.proofs.Common.{◌≡◌, ℕ, zero, suc, ℤ, pos, ◌+◌, ◌-
 use Rattle.std.specs.declared.alloc.Global.{Global}
 use Rattle.rd_geom.specs.declared.span.Span.{Span}
 use Rattle.rd_area.specs.Rows.{IsRising, Joins, row_meets}
-use Rattle.rd_area.specs.Sound.{spans_of}
-use Rattle.rd_area.specs.Room.{room_at}
+use Rattle.rd_area.specs.Internal.Normal.{spans_of}
+use Rattle.rd_area.specs.Internal.Room.{room_at}
 
 abbrev pub Row : Type 0
 Row = Vec Span Global

@@ -1,4 +1,3 @@
 pub mod Rows
-pub mod Sound
-pub mod Room
 pub mod Sharing
+pub mod Internal

@@ -1,7 +1,7 @@
 //! A set of pixels of a canvas.
 
 ghost use Rattle.std.specs.Prelude.{◌≡◌, ℕ, ℤ, pos, ◌+ℤ◌, ◌≤ℤ◌, ◌||◌, ◌↔◌, IfOk, OnOk, OnErr, IsTrue, IsFalse, Bool, false};
-ghost use Rattle.rd_geom.specs.Plane.{common, right, bottom, holds_pixel, has_none};
+ghost use Rattle.rd_geom.specs.Plane.{meet, right, bottom, holds_pixel, has_none};
 ghost use Rattle.rd_geom.specs.Canvas.{IsCanvas, canvas_of};
 ghost use Rattle.rd_geom.specs.Areas.{in_area, in_spans, spans_at, count_of};
 ghost use Rattle.rd_area.specs.Rows.{IsRising};
@@ -24,13 +24,13 @@ pub struct Area {
 
 impl Model for Area {
     ghost use Rattle.rd_geom.specs.Areas.{Region};
-    ghost use Rattle.rd_area.specs.Sound.{spans_of, IsSound};
+    ghost use Rattle.rd_area.specs.Internal.Normal.{spans_of, IsNormalized};
 
     ghost Value = { Region };
 
     ghost view = { λ a. record { size = a.size; rows = spans_of a.rows.items } };
 
-    ghost invariant = { λ a. IsSound a.size a.used (spans_of a.rows.items) };
+    ghost invariant = { λ a. IsNormalized a.size a.used (spans_of a.rows.items) };
 }
 
 /// The columns of a rectangle.
@@ -81,7 +81,7 @@ impl Area {
     /// The pixels of the rectangle that are on the canvas join. Without memory the area stays as it was.
     pub fn add(&mut self, r: Rect) -> Result<(), NoMemory>
         ensures size { OnOk result (self.new.size ≡ self.old.size) }
-        ensures pixels { OnOk result ((x y : ℤ) → in_area self.new x y ≡ (holds_pixel (common r (canvas_of self.old.size)) x y || in_area self.old x y)) }
+        ensures pixels { OnOk result ((x y : ℤ) → in_area self.new x y ≡ (holds_pixel (meet r (canvas_of self.old.size)) x y || in_area self.old x y)) }
         ensures refused { OnErr result (self.new ≡ self.old) }
     {
         let seen = meet(r, self.size.rect());

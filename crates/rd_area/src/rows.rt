@@ -4,8 +4,8 @@ ghost use Rattle.std.specs.Prelude.{◌≡◌, ℕ, ℤ, pos, ◌+◌, ◌<◌, 
 ghost use Rattle.rd_geom.specs.Areas.{columns_in};
 ghost use Rattle.rd_geom.specs.declared.span.Span.{Span};
 ghost use Rattle.rd_area.specs.Rows.{IsRising, Joins, row_meets};
-ghost use Rattle.rd_area.specs.Sound.{spans_of};
-ghost use Rattle.rd_area.specs.Room.{room_at};
+ghost use Rattle.rd_area.specs.Internal.Normal.{spans_of};
+ghost use Rattle.rd_area.specs.Internal.Room.{room_at};
 
 use crate::row;
 use rd_geom::{NoMemory, Span};

@@ -3,7 +3,7 @@
 
 ghost use Rattle.std.specs.Prelude.{◌≡◌, ◌<◌, ◌↔◌, ◌⊎◌, List, IfOk, IfSome, None, drop, map, string_bytes};
 ghost use Rattle.std.specs.Io.KnownBytes.{Keeps};
-ghost use Rattle.rd_io.specs.Causes.{Rose};
+ghost use Rattle.rd_io.specs.Causes.{FaultsRose};
 ghost use Rattle.rd_run.specs.Endings as ends;
 ghost use Rattle.rd_run.specs.Words.{words_form};
 ghost use Rattle.rd_scene.specs.Scripts as scripts;
@@ -51,14 +51,14 @@ fn run_counted<S: Source, O: Sink, E: Sink, A: Ledger, B: Ledger>(
     ensures written { (s : Status) → result ≡ ends.number s → IfSome (S.left source.old) (λ bytes. ends.HasWritten bytes (O.written out.old) (O.written out.new) s) }
     ensures nothing { (s : Status) → result ≡ ends.number s → ends.WritesNothing s → Keeps (O.written out.old) (O.written out.new) }
     ensures cause { (s : Status) → result ≡ ends.number s → IfSome (S.left source.old) (λ bytes.
-        ends.MayEnd (map string_bytes words.now) bytes (Rose (S.faults source.old) (S.faults source.new)) (Rose (O.faults out.old) (O.faults out.new)) s) }
+        ends.MayEnd (map string_bytes words.now) bytes (FaultsRose (S.faults source.old) (S.faults source.new)) (FaultsRose (O.faults out.old) (O.faults out.new)) s) }
     ensures shown { (s : Status) → result ≡ ends.number s →
         ends.ShowsCause (S.left source.old) (S.left source.new) (S.faults source.old) (S.faults source.new) (O.faults out.old) (O.faults out.new) s }
     ensures usage { (result ≡ ends.number Status.Usage) ↔ (words_form (map string_bytes words.now) ≡ None) }
     ensures complete { IfSome (S.left source.old) (λ bytes. (s : scripts.Script) → ends.IsInput (map string_bytes words.now) bytes → ends.IsScriptText bytes s
-        → ¬ (Rose (S.faults source.old) (S.faults source.new)) → ¬ (Rose (O.faults out.old) (O.faults out.new))
+        → ¬ (FaultsRose (S.faults source.old) (S.faults source.new)) → ¬ (FaultsRose (O.faults out.old) (O.faults out.new))
         → (result ≡ ends.number Status.Done) ⊎ (result ≡ ends.number Status.NoMemory)) }
-    ensures line { (s : Status) × (result ≡ ends.number s) × ends.Tells (E.written err.old) (E.written err.new) (Rose (E.faults err.old) (E.faults err.new)) s }
+    ensures line { (s : Status) × (result ≡ ends.number s) × ends.Tells (E.written err.old) (E.written err.new) (FaultsRose (E.faults err.old) (E.faults err.new)) s }
 {
     let mut made = Steps::<A>::new(made);
     let mut looks = Steps::<B>::new(looks);
@@ -68,7 +68,7 @@ fn run_counted<S: Source, O: Sink, E: Sink, A: Ledger, B: Ledger>(
 /// Ends a run that had no memory for its words.
 fn without_memory<E: Sink>(err: &mut E) -> u8
     ensures status { result ≡ ends.number Status.NoMemory }
-    ensures line { ends.Tells (E.written err.old) (E.written err.new) (Rose (E.faults err.old) (E.faults err.new)) Status.NoMemory }
+    ensures line { ends.Tells (E.written err.old) (E.written err.new) (FaultsRose (E.faults err.old) (E.faults err.new)) Status.NoMemory }
 {
     let status = Status::NoMemory;
     let _told = write_all(err, status.line().as_bytes());

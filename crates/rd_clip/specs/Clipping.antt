@@ -1,9 +1,9 @@
 use Rattle.std.specs.Prelude.{Bool, if◌then◌else◌, List, [], ◌∷◌}
-use Rattle.rd_geom.specs.Plane.{Rectangle, common, inset_by}
+use Rattle.rd_geom.specs.Plane.{Rectangle, meet, inset}
 use Rattle.rd_style.specs.declared.styles.Style.{Style}
 use Rattle.rd_style.specs.declared.kinds.Position.{Position}
 use Rattle.rd_style.specs.declared.kinds.Position.TheVariants as position
-use Rattle.rd_style.specs.Boxes.{clips, positioned}
+use Rattle.rd_style.specs.Classes.{clips, positioned}
 
 -- this project's own choice: what clipping asks of a box above another: its style, its border box, and whether it is the root
 pub record Entered : Type 0 where
@@ -13,7 +13,7 @@ pub record Entered : Type 0 where
 
 -- CSS 2.2 section 8.1: the padding box
 abbrev pub padding_box : Style → Rectangle → Rectangle
-padding_box s r = inset_by r s.border_width.top s.border_width.right s.border_width.bottom s.border_width.left
+padding_box s r = inset r s.border_width.top s.border_width.right s.border_width.bottom s.border_width.left
 
 -- CSS 2.2 section 10.1: where a box's containing block is sought among the boxes above it
 pub data Sought : Type 0 where
@@ -39,7 +39,7 @@ containing_chain nearest_positioned (b ∷ above) =
 
 -- CSS 2.2 section 11.1.1: what a box leaves of a rectangle: its padding box, where it clips
 abbrev pub clipped_by : Entered → Rectangle → Rectangle
-clipped_by b r = if clips b.style b.root then common r (padding_box b.style b.rect) else r
+clipped_by b r = if clips b.style b.root then meet r (padding_box b.style b.rect) else r
 
 -- CSS 2.2 section 11.1.1: what the boxes of a chain leave of the canvas
 abbrev pub clipped : Rectangle → List Entered → Rectangle

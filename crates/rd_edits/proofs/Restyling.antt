@@ -8,7 +8,7 @@ use Rattle.rd_style.specs.Limits.{Fits}
 use Rattle.rd_keys.specs.Keys.{same_key}
 use Rattle.rd_tree.specs.Forest.{empty, tree, from, has, top}
 use Rattle.rd_tree.specs.declared.node.Item.{Item}
-use Rattle.rd_tree.specs.Document.{BoxKey, Boxes, AllFit}
+use Rattle.rd_tree.specs.Document.{BoxKey, BoxForest, AllFit}
 use Rattle.rd_tree.specs.Edits.{CanRestyle}
 use Rattle.rd_tree.proofs.Looking.{fit_from}
 
@@ -30,9 +30,9 @@ restyled_fits s c h g = record {
 }
 
 -- Where all boxes are within the limits, one whose named widths are too stays so.
-pub stays_within : (k : BoxKey) (c : StyleChange) (f : Boxes) → AllFit f → Fits (changed plain c) → CanRestyle k c f
+pub stays_within : (k : BoxKey) (c : StyleChange) (f : BoxForest) → AllFit f → Fits (changed plain c) → CanRestyle k c f
 stays_within k c f h g = first (from same_key k f) (fit_from k f h)
   where
-    first : (f : Boxes) → AllFit f → IfSome (top f) (λ d. Fits (changed d.style c))
+    first : (f : BoxForest) → AllFit f → IfSome (top f) (λ d. Fits (changed d.style c))
     first empty h = tt
     first (tree j d below rest) h = restyled_fits d.style c h.1 g

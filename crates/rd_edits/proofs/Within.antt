@@ -12,7 +12,7 @@ use Rattle.rd_style.specs.Limits.{Fits, FitsRect, IsBetween, farthest_left}
 use Rattle.rd_keys.specs.Keys.{same_key}
 use Rattle.rd_tree.specs.Forest.{empty, tree, AllItems, children, item_of}
 use Rattle.rd_tree.specs.declared.node.Item.{Item}
-use Rattle.rd_tree.specs.Document.{BoxKey, Boxes}
+use Rattle.rd_tree.specs.Document.{BoxKey, BoxForest}
 use Rattle.rd_tree.specs.Works.{shifted}
 use Rattle.rd_tree.specs.Edits.{CanShift}
 use Rattle.rd_edits.specs.Limits.{is_between, fits_rect, fits, all_of, fits_shift}
@@ -55,17 +55,17 @@ module _ (p : Item → Bool) (P : Item → Type 0) (each : (d : Item) → Decide
   if_there None = (λ _. tt, λ _. refl)
   if_there (Some d) = each d
 
-  all_decide : (f : Boxes) → Decides (all_of p f) (AllItems P f)
+  all_decide : (f : BoxForest) → Decides (all_of p f) (AllItems P f)
   all_decide empty = (λ _. tt, λ _. refl)
   all_decide (tree k d below rest) = Decides-like _ (λ h. (h.0.0, h.0.1, h.1)) (λ h. ((h.0, h.1), h.2))
       (Decides-and _ _ (Decides-and _ _ (each d) (all_decide below)) (all_decide rest))
 
-shift_decides : (dx dy : ℤ) (k : BoxKey) (f : Boxes) → Decides (fits_shift dx dy k f) (CanShift dx dy k f)
+shift_decides : (dx dy : ℤ) (k : BoxKey) (f : BoxForest) → Decides (fits_shift dx dy k f) (CanShift dx dy k f)
 shift_decides dx dy k f =
     let p : Item → Bool = λ d. fits_rect (shifted dx dy d.rect) in
     let P : Item → Type 0 = λ d. FitsRect (shifted dx dy d.rect) in
     let each : (d : Item) → Decides (p d) (P d) = λ d. rect_decides (shifted dx dy d.rect) in
     Decides-and _ _ (if_there p P each (item_of same_key k f)) (all_decide p P each (children same_key k f))
 
-pub shift_within : (dx dy : ℤ) (k : BoxKey) (f : Boxes) (b : Bool) → (IsTrue b ↔ CanShift dx dy k f) → b ≡ fits_shift dx dy k f
+pub shift_within : (dx dy : ℤ) (k : BoxKey) (f : BoxForest) (b : Bool) → (IsTrue b ↔ CanShift dx dy k f) → b ≡ fits_shift dx dy k f
 shift_within dx dy k f b i = same_answer (CanShift dx dy k f) (fits_shift dx dy k f) b (shift_decides dx dy k f) i

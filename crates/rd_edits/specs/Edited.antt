@@ -1,6 +1,6 @@
 -- The tree after an edit. It is this project's own choice.
 use Rattle.std.specs.Prelude.{◌≡◌, ℕ, false, true, List, Option, Some, option_and_then}
-use Rattle.rd_tree.specs.Document.{Document, BoxKey, Boxes, IsNext, IsUsed, contains, named, with_child, with_taken}
+use Rattle.rd_tree.specs.Document.{Document, BoxKey, BoxForest, IsNext, IsUsed, contains, named, with_child, with_taken}
 use Rattle.rd_keys.specs.Keys.{same_key}
 use Rattle.rd_tree.specs.Forest.{at_subtree}
 use Rattle.rd_tree.specs.Works.{move_by}
@@ -9,11 +9,11 @@ use Rattle.rd_edits.specs.declared.edit.Edit.{Edit}
 use Rattle.rd_edits.specs.declared.edit.Edit.TheVariants.{Insert, Remove, Move, SetStyle, SetRect, Shift}
 
 -- the box to stand before, where one is given
-abbrev pub place_of : Option (List ℕ) → Boxes → Option BoxKey
+abbrev pub place_of : Option (List ℕ) → BoxForest → Option BoxKey
 place_of before f = option_and_then (λ b. named b f) before
 
 -- A box has this id, and these are the boxes after it is changed.
-abbrev pub IsChanged : List ℕ → (BoxKey → Boxes) → Document → Document → Type 0
+abbrev pub IsChanged : List ℕ → (BoxKey → BoxForest) → Document → Document → Type 0
 IsChanged i g old new = (k : BoxKey) × (named i old.boxes ≡ Some k) × (new ≡ record old { boxes = g k })
 
 -- This project's own choice: a new box gets any key that was not used, and stands before the box given or last; a box

@@ -9,7 +9,7 @@ use Rattle.rd_style.specs.Limits.{farthest_left}
 use Rattle.rd_keys.specs.Keys.{same_key}
 use Rattle.rd_tree.specs.Forest.{empty, tree, children, item_of}
 use Rattle.rd_tree.specs.declared.node.Item.{Item}
-use Rattle.rd_tree.specs.Document.{BoxKey, Boxes}
+use Rattle.rd_tree.specs.Document.{BoxKey, BoxForest}
 use Rattle.rd_tree.specs.Works.{shifted}
 
 -- This project's own choice: a number from the one to the other, both included.
@@ -33,10 +33,10 @@ abbrev pub fits_change : StyleChange → Bool
 fits_change c = fits (changed plain c)
 
 -- Does this hold of each item?
-abbrev pub all_of : (Item → Bool) → Boxes → Bool
+abbrev pub all_of : (Item → Bool) → BoxForest → Bool
 all_of p empty = true
 all_of p (tree k d below rest) = p d && all_of p below && all_of p rest
 
 -- This project's own choice: a box and all below it are within the limits once they are moved.
-abbrev pub fits_shift : ℤ → ℤ → BoxKey → Boxes → Bool
+abbrev pub fits_shift : ℤ → ℤ → BoxKey → BoxForest → Bool
 fits_shift dx dy k f = let p : Item → Bool = λ d. fits_rect (shifted dx dy d.rect) in option_map_or p (item_of same_key k f) true && all_of p (children same_key k f)

@@ -3,7 +3,7 @@
 ghost use Rattle.std.specs.Prelude.{◌≡◌, ◌↔◌, ◌+◌, IsTrue, IfSome, OnSome, IfNone, Some, true, false};
 ghost use Rattle.rd_keys.specs.Keys.{same_key};
 ghost use Rattle.rd_style.specs.Limits.{Fits, FitsRect};
-ghost use Rattle.rd_tree.specs.Document.{contains, HasRoom};
+ghost use Rattle.rd_tree.specs.Document.{contains, HasFreeSlot};
 ghost use Rattle.rd_style.specs.Changes as styles;
 ghost use Rattle.rd_tree.specs.Edits.{CanShift};
 ghost use Rattle.rd_tree.specs.Forest.{children, IsPlaceIn};
@@ -80,7 +80,7 @@ pub(crate) fn is_too_deep<B: Ledger>(tree: &Tree<B>, parent: BoxKey, levels: u32
 /// Is there no room for one box more?
 pub(crate) fn is_full<B: Ledger>(tree: &Tree<B>) -> bool
     ensures test { result ≡ refusals.is_full tree.now }
-    ensures room { result ≡ false → HasRoom tree.now }
+    ensures room { result ≡ false → HasFreeSlot tree.now }
 {
     u64::from(tree.boxes()) + u64::from(tree.retired()) >= 20_000
 }

@@ -1,7 +1,7 @@
 use Rattle.std.proofs.Common.{◌≡◌, ℕ, ℤ, pos, ◌+ℤ◌, ◌-ℤ◌, ◌≤ℤ◌, ◌<ℤ◌, Bool, true, false, ◌&&◌, IsTrue, arith, refl, sym, subst, rules}
 use Rattle.std.specs.Int.{int_max, int_min}
 use Rattle.std.proofs.lemmas.Int.{ints, clamps}
-use Rattle.rd_geom.specs.Plane.{Rectangle, right, bottom, holds_pixel, between, common, inset_by, IsWithin, SharesPixel, has_none, meets, around}
+use Rattle.rd_geom.specs.Plane.{Rectangle, right, bottom, holds_pixel, between, meet, inset, IsWithin, SharesPixel, has_none, meets, around}
 
 -- the pixel in column x and row y lies from the first column and row of r on, and before the last
 pub record At (r : Rectangle) (x y : ℤ) : Type 0 where
@@ -45,7 +45,7 @@ between_holds l t r b x y a = grind (arith, ints)
 pub holds_between : (l t r b x y : ℤ) → IsTrue (holds_pixel (between l t r b) x y) → AtBetween l t r b x y
 holds_between l t r b x y h = record { left = grind (arith, ints); right = grind (arith, ints); top = grind (arith, ints); bottom = grind (arith, ints) }
 
-pub common_pixels : (a b : Rectangle) (x y : ℤ) → holds_pixel (common a b) x y ≡ (holds_pixel a x y && holds_pixel b x y)
+pub common_pixels : (a b : Rectangle) (x y : ℤ) → holds_pixel (meet a b) x y ≡ (holds_pixel a x y && holds_pixel b x y)
 common_pixels a b x y =
     same_test _ _
     (λ h. let m : AtBetween (int_max a.x b.x) (int_max a.y b.y) (int_min (right a) (right b)) (int_min (bottom a) (bottom b)) x y = holds_between _ _ _ _ x y h in
@@ -59,7 +59,7 @@ common_pixels a b x y =
     between_holds (int_max a.x b.x) (int_max a.y b.y) (int_min (right a) (right b)) (int_min (bottom a) (bottom b)) x y (record { left = omega (arith, ints, clamps); right = omega (arith, ints, clamps); top = omega (arith, ints, clamps); bottom = omega (arith, ints, clamps) }))
 
 pub inset_pixels : (r : Rectangle) (top end down left : ℕ) (x y : ℤ)
-    → holds_pixel (inset_by r top end down left) x y ≡ (holds_pixel r (x -ℤ pos left) (y -ℤ pos top) && holds_pixel r (x +ℤ pos end) (y +ℤ pos down))
+    → holds_pixel (inset r top end down left) x y ≡ (holds_pixel r (x -ℤ pos left) (y -ℤ pos top) && holds_pixel r (x +ℤ pos end) (y +ℤ pos down))
 inset_pixels r top end down left x y =
     same_test _ _
     (λ h. let m : AtBetween (r.x +ℤ pos left) (r.y +ℤ pos top) (right r -ℤ pos end) (bottom r -ℤ pos down) x y = holds_between _ _ _ _ x y h in
@@ -121,13 +121,13 @@ around_least a b r ea eb wa wb x y h =
 -- two rectangles meet exactly where they share a pixel
 pub meets_shares : (a b : Rectangle) → IsTrue (meets a b) → SharesPixel a b
 meets_shares a b h =
-    let n : has_none (common a b) ≡ false = grind arith in
-    let p : IsTrue (holds_pixel (common a b) (common a b).x (common a b).y) = at_holds (common a b) _ _ (first_at (common a b) (some_of (common a b) n)) in
-    let both : IsTrue (holds_pixel a (common a b).x (common a b).y && holds_pixel b (common a b).x (common a b).y) = subst (λ t. IsTrue t) (common_pixels a b _ _) p in
-    record { x = (common a b).x; y = (common a b).y; first = left_of _ _ both; second = right_of _ _ both }
+    let n : has_none (meet a b) ≡ false = grind arith in
+    let p : IsTrue (holds_pixel (meet a b) (meet a b).x (meet a b).y) = at_holds (meet a b) _ _ (first_at (meet a b) (some_of (meet a b) n)) in
+    let both : IsTrue (holds_pixel a (meet a b).x (meet a b).y && holds_pixel b (meet a b).x (meet a b).y) = subst (λ t. IsTrue t) (common_pixels a b _ _) p in
+    record { x = (meet a b).x; y = (meet a b).y; first = left_of _ _ both; second = right_of _ _ both }
 
 pub shares_meets : (a b : Rectangle) → SharesPixel a b → IsTrue (meets a b)
 shares_meets a b s =
-    let p : IsTrue (holds_pixel (common a b) s.x s.y) = subst (λ t. IsTrue t) (sym (common_pixels a b s.x s.y)) (both_true _ _ s.first s.second) in
-    let n : has_none (common a b) ≡ false = some_not_none _ (some_at _ _ _ (holds_at (common a b) s.x s.y p)) in
+    let p : IsTrue (holds_pixel (meet a b) s.x s.y) = subst (λ t. IsTrue t) (sym (common_pixels a b s.x s.y)) (both_true _ _ s.first s.second) in
+    let n : has_none (meet a b) ≡ false = some_not_none _ (some_at _ _ _ (holds_at (meet a b) s.x s.y p)) in
     rw n search rules

@@ -2,7 +2,7 @@
 
 ghost use Rattle.std.specs.Prelude.{◌≡◌, ℕ, ℤ, pos, ◌+ℤ◌, ◌-ℤ◌, ◌≤ℤ◌, ◌↔◌, IfSome, IfNone, IsTrue, ◌&&◌, int_le, int_lt, Bool};
 ghost use Rattle.rd_geom.specs.Plane as plane;
-ghost use Rattle.rd_geom.specs.Plane.{Rectangle, common, IsWithin, SharesPixel, around, hull_of, has_none, holds_pixel, right, bottom, IsPlaced, between, int_low, inset_by, grown};
+ghost use Rattle.rd_geom.specs.Plane.{Rectangle, meet, IsWithin, SharesPixel, around, hull_of, has_none, holds_pixel, right, bottom, IsPlaced, between, int_low, inset, outset};
 
 use std::marker::Model;
 
@@ -171,7 +171,7 @@ fn bottom_of(r: Rect) -> i32
 
 /// The common pixels of both, or `Rect::EMPTY`.
 pub fn meet(a: Rect, b: Rect) -> Rect
-    ensures value { result ≡ common a b }
+    ensures value { result ≡ meet a b }
     ensures pixels { (x y : ℤ) → holds_pixel result x y ≡ (holds_pixel a x y && holds_pixel b x y) }
 {
     let left = a.x().max(b.x());
@@ -231,7 +231,7 @@ fn is_within(from: i32, to: i32, at: i32) -> bool
 
 /// What the four widths leave of a rectangle, or `Rect::EMPTY` (CSS 2.2 section 8.1).
 pub fn inset(r: Rect, s: Sides) -> Rect
-    ensures value { result ≡ inset_by r s.top s.right s.bottom s.left }
+    ensures value { result ≡ inset r s.top s.right s.bottom s.left }
 
     // A pixel is left where those by the four widths away from it are in the rectangle.
     ensures pixels { (x y : ℤ) → holds_pixel result x y ≡ (holds_pixel r (x -ℤ pos s.left) (y -ℤ pos s.top) && holds_pixel r (x +ℤ pos s.right) (y +ℤ pos s.bottom)) }
@@ -245,8 +245,8 @@ pub fn inset(r: Rect, s: Sides) -> Rect
 
 /// A rectangle with a border of the given width round it, also where the rectangle is empty.
 pub fn outset(r: Rect, by: u16) -> Rect
-    requires { IsPlaced (grown r by) }
-    ensures { result ≡ grown r by }
+    requires { IsPlaced (outset r by) }
+    ensures { result ≡ outset r by }
 {
     let by = by as i32;
     Rect {

@@ -34,13 +34,13 @@ abbrev pub MayPass : Calls → Type 0
 MayPass c = list_any (λ n. n == c.call) c.failing ≡ false
 
 -- There is room for a byte of this piece, where it has one.
-abbrev pub HasRoom : List ℕ → ℕ → Type 0
-HasRoom piece room = min 1 (length piece) ≤ room
+abbrev pub HasRoomFor : List ℕ → ℕ → Type 0
+HasRoomFor piece room = min 1 (length piece) ≤ room
 
 -- Where the call may pass and there is room, as much of the piece is taken as there is room for; else it fails.
 abbrev pub Fills : {E : Type 0} → Type 0 → List ℕ → (before after : ℕ) → Result ℕ E → Type 0
-Fills may_pass piece before after (Ok n) = may_pass × HasRoom piece before × (n ≡ min (length piece) before) × (after + n ≡ before)
-Fills may_pass piece before after (Err e) = (may_pass × HasRoom piece before → ⊥) × (after ≡ before)
+Fills may_pass piece before after (Ok n) = may_pass × HasRoomFor piece before × (n ≡ min (length piece) before) × (after + n ≡ before)
+Fills may_pass piece before after (Err e) = (may_pass × HasRoomFor piece before → ⊥) × (after ≡ before)
 
 -- The number of the next call rises, and stays at the last value of 64 bits; a call that succeeds counts no fault.
 pub record NextCall {T E : Type 0} (old new : Calls) (result : Result T E) : Type 0 where

@@ -3,7 +3,7 @@
 ghost use Rattle.std.specs.Prelude.{ℕ, ◌≡◌, ◌≤◌, ◌<◌, length, take, IfOk, OnErr, None};
 ghost use Rattle.std.specs.Io.{WritesAtMost};
 ghost use Rattle.std.specs.Io.KnownBytes.{Appends, WriteAppends};
-ghost use Rattle.rd_io.specs.Causes.{GainsPart, HasCause, Rose};
+ghost use Rattle.rd_io.specs.Causes.{GainsPart, HasCause, FaultsRose};
 ghost use Rattle.rd_io.specs.Readers.{reader_of, faults_of};
 ghost use Rattle.rd_io.specs.Writers.{writer_of, sink_faults_of};
 
@@ -65,7 +65,7 @@ impl<W: Write> WriteSink<W> {
 
     fn fail(&mut self) -> Failed
         ensures later { sink_faults_of self.old ≤ sink_faults_of self.new }
-        ensures rose { Rose (sink_faults_of self.old) (sink_faults_of self.new) }
+        ensures rose { FaultsRose (sink_faults_of self.old) (sink_faults_of self.new) }
         ensures writer { writer_of self.new ≡ writer_of self.old }
     {
         self.faults = self.faults.saturating_add(1);

@@ -1,7 +1,7 @@
 //! Calls that are to fail by their number.
 
 ghost use Rattle.std.specs.Prelude.{◌≡◌, ◌≤◌, OkIff};
-ghost use Rattle.rd_io.specs.Causes.{HasCause, Rose};
+ghost use Rattle.rd_io.specs.Causes.{HasCause, FaultsRose};
 ghost use Rattle.rd_io.specs.Memory.{Calls as SeenCalls, MayPass, NextCall, first_call};
 
 use crate::source::Failed;
@@ -49,7 +49,7 @@ impl Calls {
 
     /// Counts a fault of a call that had begun.
     pub(crate) fn fail(&mut self) -> Failed
-        ensures rose { Rose self.old.faults self.new.faults }
+        ensures rose { FaultsRose self.old.faults self.new.faults }
         ensures later { self.old.faults ≤ self.new.faults }
         ensures call { self.new.call ≡ self.old.call }
         ensures failing { self.new.failing ≡ self.old.failing }

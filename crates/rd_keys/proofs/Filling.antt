@@ -8,7 +8,7 @@ use Rattle.slab.specs.Slab.{Slab, get, Updates}
 use Rattle.rd_keys.specs.declared.arena.Place as inner
 use Rattle.rd_keys.specs.declared.arena.State.TheVariants.{Free, Held}
 use Rattle.rd_keys.specs.Arena.{live, retired}
-use Rattle.rd_keys.specs.Inside.{unmade_place, place_at, held_place, is_retired, is_held, held_at, seen_slot, seen_slots, IsSound}
+use Rattle.rd_keys.specs.Internal.Fields.{unmade_place, place_at, held_place, is_retired, is_held, held_at, seen_slot, seen_slots, IsLaidOut}
 use Rattle.rd_keys.proofs.Slots.{at_set, never_some}
 
 abbrev pub bit : Bool → ℕ
@@ -56,7 +56,7 @@ module _ {T : Type 0} where
 
   pub filled : (h1 h2 : Slab T) (slots : List inner.Place) (free : List ℕ) (room first limit live retired s p : ℕ) (x : T) → Ready h1 slots free room first limit live retired s →
       Updates h1 h2 p (Some x) → get h1 p ≡ None →
-      IsSound h2 (slice_set slots s (record { generation = (place_at slots s).generation; state = Held p })) free room first limit (live + 1) retired
+      IsLaidOut h2 (slice_set slots s (record { generation = (place_at slots s).generation; state = Held p })) free room first limit (live + 1) retired
   filled h1 h2 slots free room first limit live retired s p x r u none =
       let n : inner.Place = record { generation = (place_at slots s).generation; state = Held p } in
       let new : List inner.Place = slice_set slots s n in

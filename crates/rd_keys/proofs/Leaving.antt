@@ -11,7 +11,7 @@ use Rattle.rd_keys.specs.declared.arena.Place as inner
 use Rattle.rd_keys.specs.declared.arena.State.{State}
 use Rattle.rd_keys.specs.declared.arena.State.TheVariants.{Free, Held, Retired}
 use Rattle.rd_keys.specs.Arena.{Slot, left}
-use Rattle.rd_keys.specs.Inside.{unmade_place, place_at, held_place, is_retired, is_held, placed, seen_slots, IsSound}
+use Rattle.rd_keys.specs.Internal.Fields.{unmade_place, place_at, held_place, is_retired, is_held, placed, seen_slots, IsLaidOut}
 use Rattle.rd_keys.proofs.Slots.{at_set, seen_change}
 use Rattle.rd_keys.proofs.Filling.{bit}
 
@@ -27,7 +27,7 @@ held_busy : (t : State) (p : ℕ) → held_place t ≡ Some p → t ≡ Free →
 held_busy t p e f = cc (sym (ap held_place f) ∙ e)
 
 module _ {T : Type 0} (h1 h2 : Slab T) (slots : List inner.Place) (free : List ℕ) (room first limit live retired s p g : ℕ) (t : State)
-    (x : IsSound h1 slots free room first limit live retired) (here : held_place (place_at slots s).state ≡ Some p) (u : Updates h1 h2 p None) (none : held_place t ≡ None) (later : first ≤ g) where
+    (x : IsLaidOut h1 slots free room first limit live retired) (here : held_place (place_at slots s).state ≡ Some p) (u : Updates h1 h2 p None) (none : held_place t ≡ None) (later : first ≤ g) where
   made : s < length slots
   made = held_made slots s p here
 
@@ -78,7 +78,7 @@ module _ {T : Type 0} (h1 h2 : Slab T) (slots : List inner.Place) (free : List �
   busy : (i : ℕ) → i < length free → slice_index free i ≢ s
   busy i l e = held_busy (place_at slots s).state p here (subst (λ y. (place_at slots y).state ≡ Free) e (x.is_free i l))
 
-  pub retires : t ≡ Retired → IsSound h2 (slice_set slots s (placed g t)) free room first limit (live - 1) (retired + 1)
+  pub retires : t ≡ Retired → IsLaidOut h2 (slice_set slots s (placed g t)) free room first limit (live - 1) (retired + 1)
   retires r =
       let len : length (slice_set slots s (placed g t)) ≡ length slots = length-set slots s (placed g t) in
       let one : bit (is_retired t) ≡ 1 = ap (λ y. bit (is_retired y)) r in
@@ -97,7 +97,7 @@ module _ {T : Type 0} (h1 h2 : Slab T) (slots : List inner.Place) (free : List �
         from_first = generations;
       }
 
-  pub releases : t ≡ Free → IsSound h2 (slice_set slots s (placed g t)) (free ++ s ∷ []) room first limit (live - 1) retired
+  pub releases : t ≡ Free → IsLaidOut h2 (slice_set slots s (placed g t)) (free ++ s ∷ []) room first limit (live - 1) retired
   releases r =
       let len : length (slice_set slots s (placed g t)) ≡ length slots = length-set slots s (placed g t) in
       let zero : bit (is_retired t) ≡ 0 = ap (λ y. bit (is_retired y)) r in

@@ -8,7 +8,7 @@ use Rattle.std.proofs.Math.ListN.{get_or-map}
 use Rattle.slab.specs.Slab.{Slab, get, Updates, with_value}
 use Rattle.rd_keys.specs.declared.arena.Place as inner
 use Rattle.rd_keys.specs.Arena.{Slot, unmade, value_in}
-use Rattle.rd_keys.specs.Inside.{unmade_place, place_at, held_place, is_retired, place_of, held_at, seen_slot, seen_slots, IsSound}
+use Rattle.rd_keys.specs.Internal.Fields.{unmade_place, place_at, held_place, is_retired, place_of, held_at, seen_slot, seen_slots, IsLaidOut}
 
 -- an element that changed, and the others
 pub at_set : {A : Type 0} (xs : List A) (s : ℕ) (x d : A) (t : ℕ) → s < length xs →
@@ -78,7 +78,7 @@ module _ {T : Type 0} where
   with_value-updates h p w i = record { changed = get_or-set_same h.slots p (Some w) None (get_below h p i); others = λ q n. get_or-set_other h.slots p q (Some w) None n }
 
   -- A value that is written is seen in its slot.
-  pub seen_written : (h : Slab T) (slots : List inner.Place) (free : List ℕ) (room first limit live retired s g p : ℕ) → IsSound h slots free room first limit live retired → Some p ≡ place_of slots s g →
+  pub seen_written : (h : Slab T) (slots : List inner.Place) (free : List ℕ) (room first limit live retired s g p : ℕ) → IsLaidOut h slots free room first limit live retired → Some p ≡ place_of slots s g →
       (w : T) → seen_slots (with_value h p w) slots ≡ slice_set (seen_slots h slots) s (record (slice_index_or (seen_slots h slots) s unmade) { holds = Some w })
   seen_written h slots free room first limit live retired s g p x e w =
       let held : held_place (place_at slots s).state ≡ Some p = (place_of-held slots s g p e).1 in
@@ -99,7 +99,7 @@ module _ {T : Type 0} where
     pushed true = refl
     pushed false = refl
 
-  pub sound_written : (h : Slab T) (slots : List inner.Place) (free : List ℕ) (room first limit live retired p : ℕ) (w : T) → IsSound h slots free room first limit live retired → IsSome (get h p) → IsSound (with_value h p w) slots free room first limit live retired
+  pub sound_written : (h : Slab T) (slots : List inner.Place) (free : List ℕ) (room first limit live retired p : ℕ) (w : T) → IsLaidOut h slots free room first limit live retired → IsSome (get h p) → IsLaidOut (with_value h p w) slots free room first limit live retired
   sound_written h slots free room first limit live retired p w x i =
       let u : Updates h (with_value h p w) p (Some w) = with_value-updates h p w i in
       record {

@@ -13,7 +13,7 @@ use Rattle.rd_keys.specs.declared.arena.Place as inner
 use Rattle.rd_keys.specs.declared.arena.State.{State}
 use Rattle.rd_keys.specs.declared.arena.State.TheVariants.{Free, Held, Retired}
 use Rattle.rd_keys.specs.Arena.{Arena, Slot, unmade, slot_at, live, retired, occupied, is_taken, IsUsed, with_slot, Enters}
-use Rattle.rd_keys.specs.Inside.{unmade_place, place_at, held_place, is_retired, is_held, held_at, seen_slot, seen_slots, IsSound, Takes}
+use Rattle.rd_keys.specs.Internal.Fields.{unmade_place, place_at, held_place, is_retired, is_held, held_at, seen_slot, seen_slots, IsLaidOut, Takes}
 use Rattle.rd_keys.proofs.Slots.{never_some, seen_at, seen_change}
 use Rattle.rd_keys.proofs.Filling.{bit, Ready}
 
@@ -32,7 +32,7 @@ at_more slots first t = elim (cases_order t (length slots)) [
 ]
 
 module _ {T : Type 0} where
-  ready_old : (h : Slab T) (slots : List inner.Place) (free : List ℕ) (room0 room first limit live retired s : ℕ) → IsSound h slots (free ++ s ∷ []) room0 first limit live retired → length slots ≤ room → Ready h slots free room first limit live retired s
+  ready_old : (h : Slab T) (slots : List inner.Place) (free : List ℕ) (room0 room first limit live retired s : ℕ) → IsLaidOut h slots (free ++ s ∷ []) room0 first limit live retired → length slots ≤ room → Ready h slots free room first limit live retired s
   ready_old h slots free room0 room first limit live retired s x r =
       let n : length (free ++ s ∷ []) ≡ length free + 1 = length-append free (s ∷ []) in
       let last : slice_index (free ++ s ∷ []) (length free) ≡ s = get_or-append_seam free s [] 0 in
@@ -55,7 +55,7 @@ module _ {T : Type 0} where
         taken_out = λ i l e. x.free_apart i (length free) l (omega (arith, n)) (same i l ∙ (e ∙ sym last));
       }
 
-  ready_new : (h : Slab T) (slots : List inner.Place) (room0 room first limit live retired : ℕ) → IsSound h slots [] room0 first limit live retired → length slots < room → live + retired < limit →
+  ready_new : (h : Slab T) (slots : List inner.Place) (room0 room first limit live retired : ℕ) → IsLaidOut h slots [] room0 first limit live retired → length slots < room → live + retired < limit →
       Ready h (slots ++ new_place first ∷ []) [] room first limit live retired (length slots)
   ready_new h slots room0 room first limit live retired x r less =
       let new : List inner.Place = slots ++ new_place first ∷ [] in
@@ -94,13 +94,13 @@ module _ {T : Type 0} where
         taken_out = λ i l. absurd (omega arith);
       }
 
-  pub ready : (h : Slab T) (slots0 slots : List inner.Place) (free0 free : List ℕ) (room0 room first limit live retired s : ℕ) → IsSound h slots0 free0 room0 first limit live retired → Takes first slots0 free0 slots free s →
+  pub ready : (h : Slab T) (slots0 slots : List inner.Place) (free0 free : List ℕ) (room0 room first limit live retired s : ℕ) → IsLaidOut h slots0 free0 room0 first limit live retired → Takes first slots0 free0 slots free s →
       length slots0 < room → live + retired < limit → Ready h slots free room first limit live retired s
   ready h slots0 slots free0 free room0 room first limit live retired s x (inl t) r less =
-      let x2 : IsSound h slots (free ++ s ∷ []) room0 first limit live retired = subst (λ f. IsSound h slots f room0 first limit live retired) t.0 (subst (λ l. IsSound h l free0 room0 first limit live retired) (sym t.1) x) in
+      let x2 : IsLaidOut h slots (free ++ s ∷ []) room0 first limit live retired = subst (λ f. IsLaidOut h slots f room0 first limit live retired) t.0 (subst (λ l. IsLaidOut h l free0 room0 first limit live retired) (sym t.1) x) in
       ready_old h slots free room0 room first limit live retired s x2 (rw t.1 (omega arith))
   ready h slots0 slots free0 free room0 room first limit live retired s x (inr t) r less =
-      let x2 : IsSound h slots0 [] room0 first limit live retired = subst (λ f. IsSound h slots0 f room0 first limit live retired) t.0 x in
+      let x2 : IsLaidOut h slots0 [] room0 first limit live retired = subst (λ f. IsLaidOut h slots0 f room0 first limit live retired) t.0 x in
       let y : Ready h (slots0 ++ new_place first ∷ []) [] room first limit live retired (length slots0) = ready_new h slots0 room0 room first limit live retired x2 r less in
       subst (λ n. Ready h slots free room first limit live retired n) (sym t.3) (subst (λ l. Ready h l free room first limit live retired (length slots0)) (sym t.2) (subst (λ f. Ready h (slots0 ++ new_place first ∷ []) f room first limit live retired (length slots0)) (sym t.1) y))
 
@@ -157,8 +157,8 @@ module _ {T : Type 0} where
     ]
 
   -- room for more values changes no value
-  roomier : (h0 h1 : Slab T) (slots : List inner.Place) (free : List ℕ) (room first limit live retired : ℕ) → h1 ≡ record h0 { capacity = h1.capacity } → IsSound h0 slots free room first limit live retired → IsSound h1 slots free room first limit live retired
-  roomier h0 h1 slots free room first limit live retired e x = subst (λ h. IsSound h slots free room first limit live retired) (sym e) (record {
+  roomier : (h0 h1 : Slab T) (slots : List inner.Place) (free : List ℕ) (room first limit live retired : ℕ) → h1 ≡ record h0 { capacity = h1.capacity } → IsLaidOut h0 slots free room first limit live retired → IsLaidOut h1 slots free room first limit live retired
+  roomier h0 h1 slots free room first limit live retired e x = subst (λ h. IsLaidOut h slots free room first limit live retired) (sym e) (record {
     small = x.small;
     within = x.within;
     roomy = x.roomy;
@@ -173,7 +173,7 @@ module _ {T : Type 0} where
     from_first = x.from_first;
   })
 
-  pub roomier_free : (h : Slab T) (slots : List inner.Place) (free : List ℕ) (room0 room first limit live retired : ℕ) → room0 ≤ room → IsSound h slots free room0 first limit live retired → IsSound h slots free room first limit live retired
+  pub roomier_free : (h : Slab T) (slots : List inner.Place) (free : List ℕ) (room0 room first limit live retired : ℕ) → room0 ≤ room → IsLaidOut h slots free room0 first limit live retired → IsLaidOut h slots free room first limit live retired
   roomier_free h slots free room0 room first limit live retired r x = record {
     small = x.small;
     within = x.within;
@@ -190,11 +190,11 @@ module _ {T : Type 0} where
   }
 
   -- What an insertion does, step by step.
-  pub taken : (h0 h1 : Slab T) (slots0 slots1 slots2 : List inner.Place) (free0 free1 free2 : List ℕ) (room0 room1 first limit live retired s : ℕ) → IsSound h0 slots0 free0 room0 first limit live retired → live + retired < limit →
+  pub taken : (h0 h1 : Slab T) (slots0 slots1 slots2 : List inner.Place) (free0 free1 free2 : List ℕ) (room0 room1 first limit live retired s : ℕ) → IsLaidOut h0 slots0 free0 room0 first limit live retired → live + retired < limit →
       slots1 ≡ slots0 → free1 ≡ free0 → h1 ≡ record h0 { capacity = h1.capacity } → length slots1 < room1 → Takes first slots1 free1 slots2 free2 s → Ready h1 slots2 free2 room1 first limit live retired s
   taken h0 h1 slots0 slots1 slots2 free0 free1 free2 room0 room1 first limit live retired s x less es ef eh r t =
       ready h1 slots1 slots2 free1 free2 room0 room1 first limit live retired s
-      (subst (λ l. IsSound h1 l free1 room0 first limit live retired) (sym es) (subst (λ f. IsSound h1 slots0 f room0 first limit live retired) (sym ef) (roomier h0 h1 slots0 free0 room0 first limit live retired eh x))) t r less
+      (subst (λ l. IsLaidOut h1 l free1 room0 first limit live retired) (sym es) (subst (λ f. IsLaidOut h1 slots0 f room0 first limit live retired) (sym ef) (roomier h0 h1 slots0 free0 room0 first limit live retired eh x))) t r less
 
   pub inserted : (h0 h1 h2 : Slab T) (slots0 slots1 slots2 : List inner.Place) (free1 free2 : List ℕ) (room1 first limit live retired s p : ℕ) (x : T) → Ready h1 slots2 free2 room1 first limit live retired s →
       slots1 ≡ slots0 → h1 ≡ record h0 { capacity = h1.capacity } → Takes first slots1 free1 slots2 free2 s → Updates h1 h2 p (Some x) → get h1 p ≡ None →
@@ -220,7 +220,7 @@ module _ {T : Type 0} where
       let c : count_by (λ s. is_retired s.state) (y ∷ ys) ≡ bit (is_retired y.state) + count_by (λ s. is_retired s.state) ys = sum_by-cons (λ s. bit (is_retired s.state)) y ys in
       omega (arith, r, e, a, b, c)
 
-  pub occupied_seen : (h : Slab T) (slots : List inner.Place) (free : List ℕ) (room first limit live0 retired0 : ℕ) → IsSound h slots free room first limit live0 retired0 → occupied (record { slots = seen_slots h slots; first = first; limit = limit }) ≡ live0 + retired0
+  pub occupied_seen : (h : Slab T) (slots : List inner.Place) (free : List ℕ) (room first limit live0 retired0 : ℕ) → IsLaidOut h slots free room first limit live0 retired0 → occupied (record { slots = seen_slots h slots; first = first; limit = limit }) ≡ live0 + retired0
   occupied_seen h slots free room first limit live0 retired0 x =
       let a : count_by is_taken (seen_slots h slots) ≡ count_by is_held slots + count_by (λ s. is_retired s.state) slots = taken_seen h slots x.holding in
       omega (arith, a, x.live_is, x.retired_is)

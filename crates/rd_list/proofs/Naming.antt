@@ -12,7 +12,7 @@ use Rattle.rd_item.specs.declared.leaf.Leaf.{Leaf}
 use Rattle.rd_list.specs.Wrappers.{Wrapper}
 use Rattle.rd_list.specs.Entries.{Entries, nil, leaf, group, wrappers, only}
 use Rattle.rd_list.specs.Lists as lists
-use Rattle.rd_list.specs.Lists.{same_part, meet, groups}
+use Rattle.rd_list.specs.Lists.{same_part, leaves_meet, groups}
 use Rattle.rd_list.specs.Levels.{StandsFor}
 use Rattle.rd_list.specs.Laws.{AreNames, IsReady}
 use Rattle.rd_geom.specs.Plane.{Rectangle, has_none, holds_pixel}
@@ -55,15 +55,15 @@ same_test true q f g = sym (f refl)
 same_test false true f g = g refl
 same_test false false f g = refl
 
-turned : (a b : Leaf) → meet a b ≡ true → meet b a ≡ true
+turned : (a b : Leaf) → leaves_meet a b ≡ true → leaves_meet b a ≡ true
 turned a b h = let s = meets_shares a.visible b.visible h in shares_meets b.visible a.visible (record { x = s.x; y = s.y; first = s.second; second = s.first })
 
 -- a rectangle that is not empty has a pixel
 some_pixel : (r : Rectangle) → has_none r ≡ false → (x : ℤ) × (y : ℤ) × IsTrue (holds_pixel r x y)
 some_pixel r h = (r.x, r.y, at_holds r r.x r.y (first_at r (some_of r h)))
 
-pub meet-flip : (a b : Leaf) → meet a b ≡ meet b a
-meet-flip a b = same_test (meet a b) (meet b a) (turned a b) (turned b a)
+pub leaves_meet-flip : (a b : Leaf) → leaves_meet a b ≡ leaves_meet b a
+leaves_meet-flip a b = same_test (leaves_meet a b) (leaves_meet b a) (turned a b) (turned b a)
 
 -- pairs of a list's images are pairs of the list
 module _ {A B : Type 0} (f : A → B) (R : B → B → Type 0) where
@@ -100,15 +100,15 @@ groups-wrappers nil = refl
 groups-wrappers (leaf l xs) = groups-wrappers xs
 groups-wrappers (group g inner xs) = ap (λ zs. g.key ∷ zs) (rw (groups-wrappers inner, groups-wrappers xs) (sym (map-append (λ w. w.key) (wrappers inner) (wrappers xs))))
 
-pub stands_to : (kept fresh : Entries Wrapper Leaf) → lists.StandsFor kept fresh → StandsFor entry_names meet kept fresh
+pub stands_to : (kept fresh : Entries Wrapper Leaf) → lists.StandsFor kept fresh → StandsFor entry_names leaves_meet kept fresh
 stands_to kept fresh s = record { leaves = s.leaves; once = s.once; grouped = pairs_of_images (λ w. w.key) (λ a b. same_key a b ≡ false) (wrappers kept) (rw (groups-wrappers kept) at s.grouped); filled = s.filled; ordered = s.ordered }
 
-pub stands_back : (kept fresh : Entries Wrapper Leaf) → StandsFor entry_names meet kept fresh → lists.StandsFor kept fresh
+pub stands_back : (kept fresh : Entries Wrapper Leaf) → StandsFor entry_names leaves_meet kept fresh → lists.StandsFor kept fresh
 stands_back kept fresh s = record { leaves = s.leaves; once = s.once; grouped = rw (groups-wrappers kept) (images_of_pairs (λ w. w.key) (λ a b. same_key a b ≡ false) (wrappers kept) s.grouped); filled = s.filled; ordered = s.ordered }
 
 pub display_merging : DisplayMerging
 display_merging = λ fresh kept joined new stays in_area once covered ready same merged.
-    let r = kept_merging entry_names (λ m. m.leaf) entry_names_are meet meet-flip fresh kept joined new stays in_area (stands_to fresh fresh once) covered ready same merged in
+    let r = kept_merging entry_names (λ m. m.leaf) entry_names_are leaves_meet leaves_meet-flip fresh kept joined new stays in_area (stands_to fresh fresh once) covered ready same merged in
     (stands_back _ fresh r.0, r.1, r.2)
 
 same_by_each : {A B : Type 0} (f g : A → B) → ((x : A) → f x ≡ g x) → f ≡ g
@@ -124,10 +124,10 @@ display_editing = λ fresh next kept touched more once same ready.
     let none : Leaf → Bool = λ l. not (touched l.owner || more l.owner) in
     let e : both ≡ none = same_by_each both none (λ l. neither (touched l.owner) (more l.owner)) in
     let reach = reach_of entry_names (λ m. m.leaf) kept in
-    let r : IsReady entry_names meet both reach (bare entry_names (λ m. m.leaf) kept.entries) next =
-    edited entry_names entry_names_are meet reach fresh next (bare entry_names (λ m. m.leaf) kept.entries) (λ l. not (touched l.owner)) (λ l. not (more l.owner)) (stands_to fresh fresh once)
+    let r : IsReady entry_names leaves_meet both reach (bare entry_names (λ m. m.leaf) kept.entries) next =
+    edited entry_names entry_names_are leaves_meet reach fresh next (bare entry_names (λ m. m.leaf) kept.entries) (λ l. not (touched l.owner)) (λ l. not (more l.owner)) (stands_to fresh fresh once)
     (subst (λ (p : Leaf → Bool). only p fresh ≡ only p next) (sym e) same) ready.ready in
-    record { nodes_are = ready.nodes_are; in_order = ready.in_order; ready = subst (λ (p : Leaf → Bool). IsReady entry_names meet p reach (bare entry_names (λ m. m.leaf) kept.entries) next) e r }
+    record { nodes_are = ready.nodes_are; in_order = ready.in_order; ready = subst (λ (p : Leaf → Bool). IsReady entry_names leaves_meet p reach (bare entry_names (λ m. m.leaf) kept.entries) next) e r }
 
 pub covering : Covering
 covering = λ fresh stays in_area holds marks some within. record {
@@ -142,4 +142,4 @@ covering = λ fresh stays in_area holds marks some within. record {
 pub display_beginning : DisplayBeginning
 display_beginning = λ new stays once.
     let fresh : Entries Wrapper Leaf = bare_new entry_names (λ m. m.leaf) new in
-    linear_merged entry_names (λ m. m.leaf) entry_names_are stays new (stands_once entry_names entry_names_are meet fresh fresh (stands_to fresh fresh once))
+    linear_merged entry_names (λ m. m.leaf) entry_names_are stays new (stands_once entry_names entry_names_are leaves_meet fresh fresh (stands_to fresh fresh once))

@@ -4,7 +4,7 @@ use Rattle.std.specs.Prelude.{IsTrue, IsPermutation, filter, Contains}
 use Rattle.std.proofs.lemmas.List.Sorted.{IsPermutation-sym}
 use Rattle.rd_list.specs.Entries.{Entries, nil, leaf, group, flat, routes, wrappers, heads, only, grouped_if_any, is_empty, no_group_is_empty}
 use Rattle.rd_graph.specs.Orders.{Before}
-use Rattle.rd_list.specs.Levels.{Names, keys, name, level_at, held, EntriesMeet, StandsFor, these}
+use Rattle.rd_list.specs.Levels.{Names, keys, name, level_at, held, EntriesMeet, StandsFor, pair_in_order}
 use Rattle.rd_list.specs.Joining.{Among, IsSoundAt, IsSound}
 use Rattle.rd_list.specs.Laws.{AreNames, IsReady}
 use Rattle.rd_graph.proofs.Listing.{Has, Once, cases, has_from, contains_from, has_left, has_right, has_either, has_map, map_has, filter_has, once_map, pairs_map, once_left, once_right, once_apart, once_join, before_either, before_once}
@@ -121,9 +121,9 @@ module _ {E G L : Type 0} (n : Names E G L) (names : AreNames n) where
         | inr r ↦ absurd (before_once (keys n xs) a b o h (before_only n p xs b a r))
       ]
 
-  module _ (meet : L → L → Bool) where
+  module _ (leaves_meet : L → L → Bool) where
     module _ (p : L → Bool) (stay fresh : Entries G L) (once : Once (names_in n fresh)) (once_too : Once (names_in n stay))
-        (filled : IsTrue (no_group_is_empty fresh)) (stand : StandsFor n meet stay fresh) where
+        (filled : IsTrue (no_group_is_empty fresh)) (stand : StandsFor n leaves_meet stay fresh) where
       back : IsPermutation (routes [] fresh) (routes [] stay)
       back = IsPermutation-sym (routes [] stay) (routes [] fresh) stand.leaves
 
@@ -152,10 +152,10 @@ module _ {E G L : Type 0} (n : Names E G L) (names : AreNames n) where
       fewer : (l : L) → Contains (flat (only p fresh)) l → Contains (flat fresh) l
       fewer l c = contains_from (flat fresh) l ((filter_has p (flat fresh) l (rw (flat-only p fresh) at (has_from (flat (only p fresh)) l c))).0)
 
-      these_only : (a b : L) (xs : Entries G L) → these n meet a b (flat (only p xs)) ≡ filter p (these n meet a b (flat xs))
+      these_only : (a b : L) (xs : Entries G L) → pair_in_order n leaves_meet a b (flat (only p xs)) ≡ filter p (pair_in_order n leaves_meet a b (flat xs))
       these_only a b xs = rw (flat-only p xs) (filter_swap _ p (flat xs))
 
-      pub narrow_stands : StandsFor n meet (only p stay) (only p fresh)
+      pub narrow_stands : StandsFor n leaves_meet (only p stay) (only p fresh)
       narrow_stands = record {
         leaves = alike_routes [] (only p stay) (only p fresh) (alike_from n names (only p stay) (only p fresh) levels);
         once = pairs_map n.leaf n.same names.sound names.reflexive (flat (only p stay)) (once_leaves n names (only p stay) less_too);
@@ -179,13 +179,13 @@ module _ {E G L : Type 0} (n : Names E G L) (names : AreNames n) where
       fresh_keys : (path : List E) → Once (keys n (level_at n path fresh))
       fresh_keys path = once_keys n (level_at n path fresh) (once_level n path fresh once)
 
-      module _ (reach : List E → E → E → Type 0) (sounds : IsSound n meet reach fresh) where
+      module _ (reach : List E → E → E → Type 0) (sounds : IsSound n leaves_meet reach fresh) where
         narrow_forward : (path : List E) (a b : E) → Among n reach (only p stay) path a b → Before (keys n (only p (level_at n path fresh))) a b
         narrow_forward path a b r =
             before_back p (level_at n path fresh) a b (fresh_keys path) ((sounds path).forward a b r.reaches)
             (key_back path a (has_from (keys n (level_at n path (only p stay))) a r.first)) (key_back path b (has_from (keys n (level_at n path (only p stay))) b r.second))
 
-        narrow_linked : (path : List E) (a b : E) → n.same a b ≡ false → EntriesMeet n meet (only p (level_at n path fresh)) a b → Among n reach (only p stay) path a b ⊎ Among n reach (only p stay) path b a
+        narrow_linked : (path : List E) (a b : E) → n.same a b ≡ false → EntriesMeet n leaves_meet (only p (level_at n path fresh)) a b → Among n reach (only p stay) path a b ⊎ Among n reach (only p stay) path b a
         narrow_linked path a b d m =
             let x : Entries G L = level_at n path fresh in
             let ha : Has (held n a (only p x)) m.one = has_from (held n a (only p x)) m.one m.in_one in
@@ -201,16 +201,16 @@ module _ {E G L : Type 0} (n : Names E G L) (names : AreNames n) where
               | inr r ↦ inr (record { reaches = r; first = kb; second = ka })
             ]
 
-        pub narrow_sound : IsSound n meet (Among n reach (only p stay)) (only p fresh)
-        narrow_sound = λ path. subst (λ (x : Entries G L). IsSoundAt n meet (Among n reach (only p stay) path) x) (sym (level-only n p path fresh))
+        pub narrow_sound : IsSound n leaves_meet (Among n reach (only p stay)) (only p fresh)
+        narrow_sound = λ path. subst (λ (x : Entries G L). IsSoundAt n leaves_meet (Among n reach (only p stay) path) x) (sym (level-only n p path fresh))
             (record { forward = narrow_forward path; linked = narrow_linked path })
 
-    pub stands_once : (kept fresh : Entries G L) → StandsFor n meet kept fresh → Once (names_in n kept)
+    pub stands_once : (kept fresh : Entries G L) → StandsFor n leaves_meet kept fresh → Once (names_in n kept)
     stands_once kept fresh s = once_in n names kept
         (once_map n.leaf n.same names.sound names.reflexive (flat kept) s.once)
         (once_map n.group n.same names.sound names.reflexive (wrappers kept) s.grouped)
 
-    pub painted : (reach : List E → E → E → Type 0) (fresh kept : Entries G L) → StandsFor n meet fresh fresh → StandsFor n meet kept fresh → IsSound n meet reach fresh → IsReady n meet (λ l. true) reach kept fresh
+    pub painted : (reach : List E → E → E → Type 0) (fresh kept : Entries G L) → StandsFor n leaves_meet fresh fresh → StandsFor n leaves_meet kept fresh → IsSound n leaves_meet reach fresh → IsReady n leaves_meet (λ l. true) reach kept fresh
     painted reach fresh kept once stand sounds =
         let a : Once (names_in n fresh) = stands_once fresh fresh once in
         let b : Once (names_in n kept) = stands_once kept fresh stand in
@@ -219,25 +219,25 @@ module _ {E G L : Type 0} (n : Names E G L) (names : AreNames n) where
           sound = narrow_sound (λ l. true) kept fresh a b once.filled stand reach sounds;
         }
 
-    pub edited : (reach : List E → E → E → Type 0) (fresh next kept : Entries G L) (stays stay_too : L → Bool) → StandsFor n meet fresh fresh
+    pub edited : (reach : List E → E → E → Type 0) (fresh next kept : Entries G L) (stays stay_too : L → Bool) → StandsFor n leaves_meet fresh fresh
         → only (λ l. stays l && stay_too l) fresh ≡ only (λ l. stays l && stay_too l) next
-        → IsReady n meet stays reach kept fresh → IsReady n meet (λ l. stays l && stay_too l) reach kept next
+        → IsReady n leaves_meet stays reach kept fresh → IsReady n leaves_meet (λ l. stays l && stay_too l) reach kept next
     edited reach fresh next kept stays stay_too once same ready =
         let k : Entries G L = only stays kept in
         let f : Entries G L = only stays fresh in
         let a : Once (names_in n f) = once_only stays fresh (stands_once fresh fresh once) in
         let b : Once (names_in n k) = stands_once k f ready.stands in
-        let s : StandsFor n meet (only stay_too k) (only stay_too f) = narrow_stands stay_too k f a b (only_filled stays fresh) ready.stands in
-        let t : IsSound n meet (Among n (Among n reach k) (only stay_too k)) (only stay_too f) = narrow_sound stay_too k f a b (only_filled stays fresh) ready.stands (Among n reach k) ready.sound in
+        let s : StandsFor n leaves_meet (only stay_too k) (only stay_too f) = narrow_stands stay_too k f a b (only_filled stays fresh) ready.stands in
+        let t : IsSound n leaves_meet (Among n (Among n reach k) (only stay_too k)) (only stay_too f) = narrow_sound stay_too k f a b (only_filled stays fresh) ready.stands (Among n reach k) ready.sound in
         let both : L → Bool = λ l. stays l && stay_too l in
         let ek : only stay_too k ≡ only both kept = only_only stays stay_too kept in
         let ef : only stay_too f ≡ only both next = only_only stays stay_too fresh ∙ same in
         record {
-          stands = subst (λ (x : Entries G L). StandsFor n meet (only both kept) x) ef (subst (λ (x : Entries G L). StandsFor n meet x (only stay_too f)) ek s);
+          stands = subst (λ (x : Entries G L). StandsFor n leaves_meet (only both kept) x) ef (subst (λ (x : Entries G L). StandsFor n leaves_meet x (only stay_too f)) ek s);
           sound = λ path.
-              let u : IsSoundAt n meet (Among n (Among n reach k) (only both kept) path) (level_at n path (only both next)) =
-              subst (λ (x : Entries G L). IsSoundAt n meet (Among n (Among n reach k) (only both kept) path) (level_at n path x)) ef
-              (subst (λ (x : Entries G L). IsSoundAt n meet (Among n (Among n reach k) x path) (level_at n path (only stay_too f))) ek (t path)) in
+              let u : IsSoundAt n leaves_meet (Among n (Among n reach k) (only both kept) path) (level_at n path (only both next)) =
+              subst (λ (x : Entries G L). IsSoundAt n leaves_meet (Among n (Among n reach k) (only both kept) path) (level_at n path x)) ef
+              (subst (λ (x : Entries G L). IsSoundAt n leaves_meet (Among n (Among n reach k) x path) (level_at n path (only stay_too f))) ek (t path)) in
               record {
                 forward = λ c d r. u.forward c d (twice path c d r);
                 linked = λ c d e m. elim (u.linked c d e m) [

@@ -3,8 +3,8 @@ use Rattle.std.proofs.Common.{◌≡◌, refl, ◌∙◌, sym, subst, true, fals
 use Rattle.rd_keys.specs.Keys.{same_key}
 use Rattle.rd_keys.proofs.Keys.{same_key-sound, same_key-refl}
 use Rattle.rd_tree.specs.declared.node.Item.{Item}
-use Rattle.rd_tree.specs.Document.{BoxKey, Boxes, with_child}
-use Rattle.rd_tree.specs.Forest.{empty, tree, has, from, children, under, amid, without, without_siblings, branch, in_subtree, at_subtree, ◌▷◌, AreApart, IsApart}
+use Rattle.rd_tree.specs.Document.{BoxKey, BoxForest, with_child}
+use Rattle.rd_tree.specs.Forest.{empty, tree, has, from, children, with_children, insert_among, without_branch, without_siblings, branch, in_subtree, at_subtree, ◌▷◌, AreApart, IsApart}
 use Rattle.rd_tree.specs.Works.{touch}
 use Rattle.rd_tree.specs.Edits.{moved}
 use Rattle.rd_tree.proofs.Standing.{cases, either, join-empty, has-join, out_of_children, differs_back}
@@ -17,25 +17,25 @@ use Rattle.rd_tree.proofs.NearPlaced.{Divided, divided}
 use Rattle.rd_tree.proofs.Each.{apart_each}
 
 -- Boxes that are nowhere in the forest are put among the children of p.
-put_apart : (p : BoxKey) (before : Option BoxKey) (b f : Boxes) → IsApart same_key f → IsApart same_key b → AreApart same_key f b → IsApart same_key (under same_key p (amid same_key before b (children same_key p f)) f)
+put_apart : (p : BoxKey) (before : Option BoxKey) (b f : BoxForest) → IsApart same_key f → IsApart same_key b → AreApart same_key f b → IsApart same_key (with_children same_key p (insert_among same_key before b (children same_key p f)) f)
 put_apart p before b f a ab away =
-    let c : Boxes = children same_key p f in
+    let c : BoxForest = children same_key p f in
     let s : Divided same_key same_key-sound same_key-refl before c = divided same_key same_key-sound same_key-refl before c in
     let below : AreApart same_key c b = λ j h. away j (in_children same_key same_key-sound same_key-refl j p f h) in
     let w : Joined same_key same_key-sound same_key-refl b c (s.xs ▷ (b ▷ s.ys)) = joined same_key same_key-sound same_key-refl b c s.xs s.ys (apart_children same_key same_key-sound same_key-refl p f a) ab below s.is in
     elim (cases (has same_key p f)) [
       | inl e ↦ rw (s.amid_is b) (apart_under same_key same_key-sound same_key-refl p (s.xs ▷ (b ▷ s.ys)) f a w.apart e (λ j u v. w.no_more j u (away j v)))
-      | inr e ↦ rw (no_under same_key same_key-sound same_key-refl p (amid same_key before b c) f e) a
+      | inr e ↦ rw (no_under same_key same_key-sound same_key-refl p (insert_among same_key before b c) f e) a
     ]
 
 -- a new child under a key that no box has leaves all apart
-pub child_apart : (k : BoxKey) (d : Item) (p : BoxKey) (before : Option BoxKey) (f : Boxes) → IsApart same_key f → has same_key k f ≡ false → IsApart same_key (with_child p before k d f)
+pub child_apart : (k : BoxKey) (d : Item) (p : BoxKey) (before : Option BoxKey) (f : BoxForest) → IsApart same_key f → has same_key k f ≡ false → IsApart same_key (with_child p before k d f)
 child_apart k d p before f a n =
     put_apart p before (tree k d empty empty) f a (refl, refl, (λ j h. refl), tt, tt) (λ j h. rw (flipped same_key same_key-sound same_key-refl k j (differs_back same_key same_key-sound same_key-refl f k j n h)) refl)
 
 -- ---- moved
 
-branch-apart : (k : BoxKey) (f : Boxes) → IsApart same_key f → IsApart same_key (branch same_key k f)
+branch-apart : (k : BoxKey) (f : BoxForest) → IsApart same_key f → IsApart same_key (branch same_key k f)
 branch-apart k empty a = tt
 branch-apart k (tree j d below rest) a =
     elim (same_key k j) as (λ v. IsApart same_key (without_siblings (cond v (tree j d below rest) (cond (has same_key k below) (from same_key k below) (from same_key k rest))))) [
@@ -47,7 +47,7 @@ branch-apart k (tree j d below rest) a =
     ]
 
 -- what is neither the box nor below it
-out_of_branch : (j k : BoxKey) (f : Boxes) → same_key j k ≡ false → has same_key j (children same_key k f) ≡ false → has same_key j (branch same_key k f) ≡ false
+out_of_branch : (j k : BoxKey) (f : BoxForest) → same_key j k ≡ false → has same_key j (children same_key k f) ≡ false → has same_key j (branch same_key k f) ≡ false
 out_of_branch j k empty n h = refl
 out_of_branch j k (tree i d below rest) n h =
     elim (cases (same_key k i)) [
@@ -66,9 +66,9 @@ out_of_branch j k (tree i d below rest) n h =
     ]
 
 -- a box that moves with all below it leaves all apart
-pub moved_apart : (k p : BoxKey) (before : Option BoxKey) (f : Boxes) → IsApart same_key f → IsApart same_key (moved k p before f)
+pub moved_apart : (k p : BoxKey) (before : Option BoxKey) (f : BoxForest) → IsApart same_key f → IsApart same_key (moved k p before f)
 moved_apart k p before f a =
-    let g : Boxes = at_subtree same_key k touch f in
+    let g : BoxForest = at_subtree same_key k touch f in
     let ag : IsApart same_key g = apart_each (λ j. in_subtree same_key j k f) touch same_key f a in
-    let away : AreApart same_key (without same_key k g) (branch same_key k g) = λ j h. let s = stays_out same_key same_key-sound same_key-refl j k g ag h in out_of_branch j k g s.0 s.1 in
-    put_apart p before (branch same_key k g) (without same_key k g) (apart_without same_key same_key-sound same_key-refl k g ag) (branch-apart k g ag) away
+    let away : AreApart same_key (without_branch same_key k g) (branch same_key k g) = λ j h. let s = stays_out same_key same_key-sound same_key-refl j k g ag h in out_of_branch j k g s.0 s.1 in
+    put_apart p before (branch same_key k g) (without_branch same_key k g) (apart_without same_key same_key-sound same_key-refl k g ag) (branch-apart k g ag) away

@@ -4,13 +4,13 @@ use Rattle.std.proofs.lemmas.List.{take_more}
 use Rattle.rd_item.specs.declared.leaf.Leaf as item
 use Rattle.rd_list.specs.Wrappers.{Wrapper}
 use Rattle.rd_list.specs.Entries.{Entries, nil, leaf, group, ◌▷◌, flat}
-use Rattle.rd_list.specs.Listed.{listed}
+use Rattle.rd_list.specs.Internal.Listed.{listed}
 use Rattle.rd_list.specs.declared.plain.PlainEntry.{PlainEntry}
 use Rattle.rd_list.specs.declared.plain.PlainEntry.TheVariants.{Leaf, Group}
 use Rattle.rd_list.proofs.Joins.{listed-append, flat-join}
-use Rattle.rd_tree.specs.Document.{Boxes}
+use Rattle.rd_tree.specs.Document.{BoxForest}
 use Rattle.rd_run.specs.Lines.{KeptItem, item_line, group_line, lines, width}
-use Rattle.rd_run.specs.Display.{stamped}
+use Rattle.rd_run.specs.Internal.Display.{stamped}
 
 pub width-stamped : (n : ℕ) (xs : Entries Wrapper item.Leaf) → width (stamped n xs) ≡ width xs
 width-stamped n nil = refl
@@ -33,7 +33,7 @@ stamped-join n nil ys = refl
 stamped-join n (leaf l xs) ys = ap (leaf (record { of = l; made = n })) (stamped-join n xs ys)
 stamped-join n (group g inner xs) ys = ap (group g (stamped n inner)) (stamped-join n xs ys)
 
-lines-join : (t : Boxes) (d : ℕ) (xs ys : Entries Wrapper KeptItem) → lines t d (xs ▷ ys) ≡ lines t d xs ++ lines t d ys
+lines-join : (t : BoxForest) (d : ℕ) (xs ys : Entries Wrapper KeptItem) → lines t d (xs ▷ ys) ≡ lines t d xs ++ lines t d ys
 lines-join t d nil ys = refl
 lines-join t d (leaf i xs) ys =
     ap (λ z. item_line t d i ++ z) (lines-join t d xs ys) ∙ sym (append_assoc (item_line t d i) (lines t d xs) (lines t d ys))
@@ -42,7 +42,7 @@ lines-join t d (group g inner xs) ys =
     ap (λ z. front ++ z) (lines-join t d xs ys) ∙ sym (append_assoc front (lines t d xs) (lines t d ys))
 
 -- one more entry's lines
-pub lines_more : (t : Boxes) (d n : ℕ) (es : List PlainEntry) (i : ℕ) (x : PlainEntry) (begun before after : List ℕ) → i < length es → x ≡ get_or es i x
+pub lines_more : (t : BoxForest) (d n : ℕ) (es : List PlainEntry) (i : ℕ) (x : PlainEntry) (begun before after : List ℕ) → i < length es → x ≡ get_or es i x
     → before ≡ begun ++ lines t d (stamped n (listed (take i es))) → after ≡ before ++ lines t d (stamped n (listed (x ∷ [])))
     → after ≡ begun ++ lines t d (stamped n (listed (take (i + 1) es)))
 lines_more t d n es i x begun before after h e p q =

@@ -8,12 +8,12 @@ use Rattle.rd_list.specs.Lists.{StandsFor, meets_any}
 use Rattle.rd_geom.specs.Canvas.{canvas_of}
 use Rattle.rd_tree.specs.Document.{Document}
 use Rattle.rd_stack.specs.Fresh.{fresh_list}
-use Rattle.rd_geom.specs.Plane.{Rectangle, common, has_none, meets}
+use Rattle.rd_geom.specs.Plane.{Rectangle, meet, has_none, meets}
 use Rattle.rd_stack.specs.Laws.{IsOnCanvas}
 use Rattle.rd_stack.proofs.Promises.{stands_for_itself, shows_on_canvas}
 use Rattle.rd_run.specs.Lines.{KeptItem, paint_line}
 use Rattle.rd_run.specs.Machine.{State, settled_tree, Paints, leaves, invalid_area, made_after, pixels_in, built, kept_on}
-use Rattle.rd_run.specs.Display.{Shows, Answers, IsSound, stamped}
+use Rattle.rd_run.specs.Internal.Display.{Shows, Answers, IsWellFormed, stamped}
 use Rattle.rd_run.specs.declared.display.Display.{Display}
 use Rattle.rd_run.proofs.Pixels.{whole_canvas}
 use Rattle.rd_run.proofs.Sound.{settled_sound}
@@ -26,7 +26,7 @@ on_canvas canvas (l ∷ ls) h = (seen (h 0 l (omega arith)), on_canvas canvas ls
     seen o = let m = o.meets in grind arith
 
 -- every leaf is on the canvas
-pub all_meet : (t : Document) → IsSound t → AllByRecursion (λ l. meets_any (canvas_of t.canvas ∷ []) l ≡ true) (flat (fresh_list t))
+pub all_meet : (t : Document) → IsWellFormed t → AllByRecursion (λ l. meets_any (canvas_of t.canvas ∷ []) l ≡ true) (flat (fresh_list t))
 all_meet t h = on_canvas (canvas_of t.canvas) (flat (fresh_list t)) (shows_on_canvas t h.apart)
 
 pub leaves-stamped : (n : ℕ) (xs : Entries Wrapper Leaf) → leaves (stamped n xs) ≡ xs

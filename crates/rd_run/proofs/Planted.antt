@@ -2,9 +2,9 @@
 use Rattle.std.proofs.Common.{◌≡◌, ℕ, Option, refl, ap, ◌∙◌, sym, subst, Bool, true, false, cond, ◌||◌, Some, None, List, [], ◌∷◌, inl, inr}
 use Rattle.rd_keys.specs.Keys.{BoxKey, same_key}
 use Rattle.rd_keys.proofs.Keys.{same_key-sound, same_key-refl}
-use Rattle.rd_tree.specs.Forest.{empty, tree, has, children, under, ◌▷◌, AreApart, IsApart}
+use Rattle.rd_tree.specs.Forest.{empty, tree, has, children, with_children, ◌▷◌, AreApart, IsApart}
 use Rattle.rd_tree.specs.declared.node.Item.{Item}
-use Rattle.rd_tree.specs.Document.{Document, Boxes, with_child}
+use Rattle.rd_tree.specs.Document.{Document, BoxForest, with_child}
 use Rattle.rd_scene.specs.declared.script.SceneBox.{SceneBox}
 use Rattle.std.specs.Io.KnownBytes.{Appends}
 use Rattle.rd_io.specs.Causes.{GainsPart}
@@ -15,8 +15,8 @@ use Rattle.rd_scene.specs.Scripts.{Script}
 use Rattle.rd_scene.specs.Planting.{Plants, Grows, Adds, AddsAll, IsAlone, item_of, parent_in}
 use Rattle.rd_run.proofs.Apart.{child_apart}
 use Rattle.rd_run.specs.Machine.{start, Run, IsAllowedText}
-use Rattle.rd_run.specs.Display.{Shows}
-use Rattle.rd_run.specs.Answered.{AnswersAll, AnswersPart}
+use Rattle.rd_run.specs.Internal.Display.{Shows}
+use Rattle.rd_run.specs.Internal.Answered.{AnswersAll, AnswersPart}
 use Rattle.rd_run.specs.declared.display.Display.{Display}
 
 added : (b : SceneBox) (old new : Document) → Adds b old new → IsApart same_key old.boxes → IsApart same_key new.boxes
@@ -31,21 +31,21 @@ all_added-canvas : (bs : List SceneBox) (old new : Document) → AddsAll bs old 
 all_added-canvas [] old new h = ap (λ t. t.canvas) h
 all_added-canvas (b ∷ bs) old new h = all_added-canvas bs (h.0) new h.2 ∙ ap (λ (t : Document). t.canvas) h.1.4
 
-grown : (bs : List SceneBox) (root t : Document) → Grows bs root t → IsApart same_key t.boxes
-grown [] root t h = absurd h
-grown (b ∷ bs) root t h = all_added bs root t h.1 (subst (λ (f : Boxes). IsApart same_key f) (sym h.0.0) (refl, refl, (λ j e. refl), tt, tt))
+outset : (bs : List SceneBox) (root t : Document) → Grows bs root t → IsApart same_key t.boxes
+outset [] root t h = absurd h
+outset (b ∷ bs) root t h = all_added bs root t h.1 (subst (λ (f : BoxForest). IsApart same_key f) (sym h.0.0) (refl, refl, (λ j e. refl), tt, tt))
 
-grown-canvas : (bs : List SceneBox) (root t : Document) → Grows bs root t → t.canvas ≡ root.canvas
-grown-canvas [] root t h = absurd h
-grown-canvas (b ∷ bs) root t h = all_added-canvas bs root t h.1
+outset-canvas : (bs : List SceneBox) (root t : Document) → Grows bs root t → t.canvas ≡ root.canvas
+outset-canvas [] root t h = absurd h
+outset-canvas (b ∷ bs) root t h = all_added-canvas bs root t h.1
 
 -- each key is at one place
 pub planted-apart : (s : Script) (t : Document) → Plants s t → IsApart same_key t.boxes
-planted-apart s t h = grown s.boxes (h.0) t h.2
+planted-apart s t h = outset s.boxes (h.0) t h.2
 
 -- the canvas is the script's
 pub planted-canvas : (s : Script) (t : Document) → Plants s t → t.canvas ≡ s.canvas
-planted-canvas s t h = grown-canvas s.boxes (h.0) t h.2 ∙ h.1
+planted-canvas s t h = outset-canvas s.boxes (h.0) t h.2 ∙ h.1
 
 -- what is displayed at first is the machine's first state
 pub shows_start : (s : Script) (t : Document) (d : Display) → Plants s t → IsCanvas s.canvas → d ≡ record { list = nil; pending = true; paints = 0 } → Shows t d (start t)

@@ -8,11 +8,11 @@ use Rattle.rd_scene.specs.declared.script.Command.{Command}
 use Rattle.rd_scene.specs.declared.script.Command.TheVariants.{Change, Paint, Dump}
 use Rattle.rd_stack.specs.Fresh.{fresh_list}
 use Rattle.rd_stack.proofs.Promises.{stands_for_itself}
-use Rattle.rd_run.specs.Answered.{AnswersPart}
+use Rattle.rd_run.specs.Internal.Answered.{AnswersPart}
 use Rattle.rd_edits.specs.Refusals.{refusal_of}
 use Rattle.rd_run.specs.Lines.{ok_line, refused_line, paint_line}
 use Rattle.rd_run.specs.Machine.{State, Step, Run, Edits, Paints, Settles, settled_tree, invalid_area, built, kept_on, pixels_in, dumped}
-use Rattle.rd_run.specs.Display.{IsSound, stamped}
+use Rattle.rd_run.specs.Internal.Display.{IsWellFormed, stamped}
 use Rattle.rd_run.proofs.Sound.{settled_sound, edited_sound, edit_goes}
 use Rattle.rd_run.proofs.Painting.{leaves-stamped, made_now, all_meet}
 
@@ -33,7 +33,7 @@ run_on a b d (c ∷ cs) ds t u r s =
     (r.0, r.1 ++ u, r.2, r.3, run_on (r.2) b d cs ds (r.1) u r.4 s, ap (λ x. x ++ u) r.5 ∙ append_assoc (r.0) (r.1) u)
 
 -- a paint is always possible: the fresh list itself may be kept
-pub paint_goes : (s : State) → IsSound s.tree → (t : State) × (text : List ℕ) × Paints s text t × IsSound t.tree
+pub paint_goes : (s : State) → IsWellFormed s.tree → (t : State) × (text : List ℕ) × Paints s text t × IsWellFormed t.tree
 paint_goes s h =
     let n = s.paints + 1 in (
       record { tree = settled_tree s.tree; last = Some s.tree; pending = false; paints = s.paints + 1; kept = stamped n (fresh_list s.tree) },
@@ -47,14 +47,14 @@ paint_goes s h =
       settled_sound s.tree h,
     )
 
-settle_goes : (b : Bool) (s : State) → IsSound s.tree → (t : State) × (text : List ℕ) × Settles b s text t × IsSound t.tree
+settle_goes : (b : Bool) (s : State) → IsWellFormed s.tree → (t : State) × (text : List ℕ) × Settles b s text t × IsWellFormed t.tree
 settle_goes true s h = paint_goes s h
 settle_goes false s h = (s, [], (refl, refl), h)
 
-step_goes : (s : State) (c : Command) → IsSound s.tree → (t : State) × (text : List ℕ) × Step s c text t × IsSound t.tree
+step_goes : (s : State) (c : Command) → IsWellFormed s.tree → (t : State) × (text : List ℕ) × Step s c text t × IsWellFormed t.tree
 step_goes s (Change e) h = change_goes (refusal_of s.tree e) refl
   where
-    change_goes : (o : Option ℕ) → refusal_of s.tree e ≡ o → (t : State) × (text : List ℕ) × Edits o e s text t × IsSound t.tree
+    change_goes : (o : Option ℕ) → refusal_of s.tree e ≡ o → (t : State) × (text : List ℕ) × Edits o e s text t × IsWellFormed t.tree
     change_goes (Some n) r = (s, refused_line n, (refl, refl), h)
     change_goes None r =
         let t = edit_goes e s.tree r in
@@ -65,7 +65,7 @@ step_goes s Dump h =
     (p.0, p.1 ++ dumped (p.0), (p.1, p.2, refl), p.3)
 
 -- the machine answers any commands
-pub run_goes : (s : State) (cs : List Command) → IsSound s.tree → (t : State) × (text : List ℕ) × Run s cs text t
+pub run_goes : (s : State) (cs : List Command) → IsWellFormed s.tree → (t : State) × (text : List ℕ) × Run s cs text t
 run_goes s [] h = (s, [], (refl, refl))
 run_goes s (c ∷ cs) h =
     let p = step_goes s c h in
@@ -99,7 +99,7 @@ step_on a b e xs i d t u h is r s =
 
 -- a part of the answer to all, where a step's answer went through in part
 pub part_on : (a b e : State) (xs : List Command) (i : ℕ) (d : Command) (t u : List ℕ) (o m n : Option (List ℕ)) → i < length xs
-    → d ≡ get_or xs i d → Run a (take i xs) t b → Step b d u e → IsSound e.tree → Appends o m t → GainsPart m n u
+    → d ≡ get_or xs i d → Run a (take i xs) t b → Step b d u e → IsWellFormed e.tree → Appends o m t → GainsPart m n u
     → AnswersPart a xs o n
 part_on a b e xs i d t u o m n h is r s w p q =
     let z = run_goes e (drop (i + 1) xs) w in (
@@ -112,7 +112,7 @@ part_on a b e xs i d t u o m n h is r s w p q =
 
 -- and where a step gave up
 pub none_on : (a b : State) (xs : List Command) (i : ℕ) (t : List ℕ) (o m n : Option (List ℕ))
-    → Run a (take i xs) t b → IsSound b.tree → Appends o m t → Keeps m n → AnswersPart a xs o n
+    → Run a (take i xs) t b → IsWellFormed b.tree → Appends o m t → Keeps m n → AnswersPart a xs o n
 none_on a b xs i t o m n r w p q =
     let z = run_goes b (drop i xs) w in (
       z.0,

@@ -3,7 +3,7 @@ use Rattle.std.proofs.Common.{◌≡◌, refl, ap, ◌∙◌, sym, subst, ℕ, �
 use Rattle.std.specs.Prelude.{is_none, Result, Ok, Err, IfOk}
 use Rattle.rd_keys.specs.Keys.{BoxKey, same_key}
 use Rattle.rd_keys.proofs.Keys.{same_key-sound, same_key-refl}
-use Rattle.rd_tree.specs.Document.{Document, Boxes, named}
+use Rattle.rd_tree.specs.Document.{Document, BoxForest, named}
 use Rattle.rd_tree.specs.Forest.{empty, tree, has, in_subtree, at_subtree, IsApart}
 use Rattle.rd_tree.specs.Works.{settled, move_by}
 use Rattle.rd_tree.specs.Edits.{restyled, replaced}
@@ -18,31 +18,31 @@ use Rattle.rd_edits.specs.Refusals as refusals
 use Rattle.rd_edits.specs.Refusals.{refusal_of, first_that, is_unknown, is_known, is_one, is_pair, is_root, is_elsewhere, is_before_itself, levels_of, is_too_deep, is_full}
 use Rattle.rd_run.specs.Lines.{ok_line}
 use Rattle.rd_run.specs.Machine.{State, settled_tree, Edits}
-use Rattle.rd_run.specs.Display.{IsSound, Shows, Answers}
+use Rattle.rd_run.specs.Internal.Display.{IsWellFormed, Shows, Answers}
 use Rattle.rd_run.specs.declared.display.Display.{Display}
 use Rattle.rd_run.proofs.Apart.{child_apart, moved_apart}
 
 -- ---- settled
 
-pub settled_sound : (t : Document) → IsSound t → IsSound (settled_tree t)
+pub settled_sound : (t : Document) → IsWellFormed t → IsWellFormed (settled_tree t)
 settled_sound t h = record { apart = apart_each (λ k. true) settled same_key t.boxes h.apart; canvas = h.canvas }
 
 -- ---- edited
 
-changed_sound : (i : List ℕ) (g : BoxKey → Boxes) (old new : Document) → ((k : BoxKey) → IsApart same_key (g k)) → IsChanged i g old new → IsSound old → IsSound new
+changed_sound : (i : List ℕ) (g : BoxKey → BoxForest) (old new : Document) → ((k : BoxKey) → IsApart same_key (g k)) → IsChanged i g old new → IsWellFormed old → IsWellFormed new
 changed_sound i g old new apart h s =
-    subst (λ (t : Document). IsSound t) (sym h.2) (record { apart = apart (h.0); canvas = s.canvas })
+    subst (λ (t : Document). IsWellFormed t) (sym h.2) (record { apart = apart (h.0); canvas = s.canvas })
 
-pub edited_sound : (e : Edit) (old new : Document) → IsEdited e old new → IsSound old → IsSound new
+pub edited_sound : (e : Edit) (old new : Document) → IsEdited e old new → IsWellFormed old → IsWellFormed new
 edited_sound (Insert i parent before rect style) old new h s =
-    subst (λ (t : Document). IsSound t) (sym h.5) (record {
+    subst (λ (t : Document). IsWellFormed t) (sym h.5) (record {
       apart = child_apart (h.1) _ (h.0) _ old.boxes s.apart h.4;
       canvas = s.canvas;
     })
 edited_sound (Remove i) old new h s =
-    subst (λ (t : Document). IsSound t) (sym h.2) (record { apart = apart_without same_key same_key-sound same_key-refl (h.0) old.boxes s.apart; canvas = s.canvas })
+    subst (λ (t : Document). IsWellFormed t) (sym h.2) (record { apart = apart_without same_key same_key-sound same_key-refl (h.0) old.boxes s.apart; canvas = s.canvas })
 edited_sound (Move i parent before) old new h s =
-    subst (λ (t : Document). IsSound t) (sym h.4) (record { apart = moved_apart (h.0) (h.1) _ old.boxes s.apart; canvas = s.canvas })
+    subst (λ (t : Document). IsWellFormed t) (sym h.4) (record { apart = moved_apart (h.0) (h.1) _ old.boxes s.apart; canvas = s.canvas })
 edited_sound (SetStyle i change) old new h s =
     changed_sound i (λ k. restyled old.root k change old.boxes) old new (λ k. restyled-apart old.root k change old.boxes s.apart) h s
 edited_sound (SetRect i rect) old new h s =
@@ -62,14 +62,14 @@ some_of None h = absurd (let no : true ≡ false = h in cc)
 some_of (Some k) h = (k, refl)
 
 -- at least the slot of each box
-abbrev slots_of : Boxes → ℕ
+abbrev slots_of : BoxForest → ℕ
 slots_of empty = 0
 slots_of (tree k d below rest) = k.slot + (slots_of below + slots_of rest)
 
 differs : (j k : BoxKey) → k.slot < j.slot → same_key j k ≡ false
 differs j k h = grind arith
 
-beyond : (j : BoxKey) (f : Boxes) → slots_of f < j.slot → has same_key j f ≡ false
+beyond : (j : BoxKey) (f : BoxForest) → slots_of f < j.slot → has same_key j f ≡ false
 beyond j empty h = refl
 beyond j (tree k d below rest) h = rw (differs j k (omega arith), beyond j below (omega arith), beyond j rest (omega arith)) refl
 

@@ -1,7 +1,7 @@
 -- How a run may end, and what it has then written. The numbers and the lines are this project's own choice.
 use Rattle.std.specs.Prelude.{◌≡◌, ◌≢◌, ℕ, ◌+◌, ◌≤◌, ◌<◌, List, [], ◌∷◌, ◌++◌, codes, length, Option, Some, None, ◌⊎◌}
 use Rattle.std.specs.Io.KnownBytes.{Appends, Keeps, IsAtEnd}
-use Rattle.rd_io.specs.Causes.{GainsPart, Rose, Takes}
+use Rattle.rd_io.specs.Causes.{GainsPart, FaultsRose, Takes}
 use Rattle.rd_scene.specs.Scripts.{Script}
 pub use Rattle.rd_scene.specs.Reading.{IsScriptText, IsOffForm, HasNoReading}
 pub use Rattle.rd_run.specs.Machine.{IsAllowedText}
@@ -87,8 +87,8 @@ WritesNothing _ = Unit {0}
 abbrev pub ShowsCause : Option (List ℕ) → Option (List ℕ) → ℕ → ℕ → ℕ → ℕ → Status → Type 0
 ShowsCause left left_now source source_now out out_now Usage = Keeps left left_now × (source_now ≡ source)
 ShowsCause left left_now source source_now out out_now TooLarge = Takes left left_now (most + 1)
-ShowsCause left left_now source source_now out out_now ReadFault = Rose source source_now
-ShowsCause left left_now source source_now out out_now WriteFault = Rose out out_now
+ShowsCause left left_now source source_now out out_now ReadFault = FaultsRose source source_now
+ShowsCause left left_now source source_now out out_now WriteFault = FaultsRose out out_now
 ShowsCause left left_now source source_now out out_now Done = IsAtEnd left_now
 ShowsCause left left_now source source_now out out_now _ = Unit {0}
 

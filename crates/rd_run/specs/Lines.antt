@@ -9,7 +9,7 @@ use Rattle.rd_keys.specs.declared.entry.Part.TheVariants.{Back, Border, Content,
 use Rattle.rd_item.specs.declared.leaf.Leaf.{Leaf}
 use Rattle.rd_list.specs.Wrappers.{Wrapper}
 use Rattle.rd_list.specs.Entries.{Entries, nil, leaf, group, flat}
-use Rattle.rd_tree.specs.Document.{Boxes}
+use Rattle.rd_tree.specs.Document.{BoxForest}
 use Rattle.rd_run.specs.Names.{id_of}
 
 -- An item of a kept list: a leaf, and the number of the paint that made it.
@@ -68,7 +68,7 @@ width nil = 0
 width (leaf i rest) = width rest + 1
 width (group g inner rest) = width rest + 1
 
-module _ (boxes : Boxes) where
+module _ (boxes : BoxForest) where
   abbrev pub item_line : ℕ → KeptItem → List ℕ
   item_line depth i =
       line (codes "item" ∷ decimal depth ∷ id_of i.of.owner boxes ∷ part_text i.of.part

@@ -7,7 +7,7 @@ use Rattle.rd_list.specs.Wrappers.{Wrapper}
 use Rattle.rd_list.specs.Entries.{Entries, nil, leaf, group, flat}
 use Rattle.rd_list.specs.Lists.{StandsFor, same_leaf, meets_any}
 use Rattle.rd_tree.specs.Document.{Document}
-use Rattle.rd_tree.specs.Forest.{each_if}
+use Rattle.rd_tree.specs.Forest.{map_where}
 use Rattle.rd_tree.specs.Works.{settled}
 use Rattle.rd_edits.specs.declared.edit.Edit.{Edit}
 use Rattle.rd_edits.specs.Refusals.{refusal_of}
@@ -73,7 +73,7 @@ kept_on s = count_by (λ l. not (meets_any (invalid_area s) l)) (flat (fresh_lis
 
 -- the tree with no box touched
 abbrev pub settled_tree : Document → Document
-settled_tree t = record t { boxes = each_if (λ k. true) settled t.boxes }
+settled_tree t = record t { boxes = map_where (λ k. true) settled t.boxes }
 
 -- A paint leads from old to new with this line. The order within the new list is free where leaves do not meet.
 pub record Paints (old : State) (text : List ℕ) (new : State) : Type 0 where

@@ -3,8 +3,8 @@ use Rattle.std.specs.Prelude.{ℕ, List, []}
 use Rattle.std.specs.Option.{option_map_or}
 use Rattle.rd_keys.specs.Keys.{BoxKey}
 use Rattle.rd_tree.specs.Document as document
-use Rattle.rd_tree.specs.Document.{Boxes}
+use Rattle.rd_tree.specs.Document.{BoxForest}
 
 -- the id of the box with this key; nothing where there is no such box
-abbrev pub id_of : BoxKey → Boxes → List ℕ
+abbrev pub id_of : BoxKey → BoxForest → List ℕ
 id_of k boxes = option_map_or (λ i. i) (document.id_of k boxes) []

@@ -4,7 +4,7 @@ ghost use Rattle.std.specs.Prelude.{◌≡◌, ℕ, ◌+◌, ◌*◌, ◌<◌, �
 ghost use Rattle.rd_list.specs.Entries.{nil};
 ghost use Rattle.rd_edits.specs.Refusals.{refusal_of};
 ghost use Rattle.rd_run.specs.Machine.{State, Step, Paints, Settles, Edits};
-ghost use Rattle.rd_run.specs.Display.{Shows, Answers};
+ghost use Rattle.rd_run.specs.Internal.Display.{Shows, Answers};
 
 use crate::lines::{count, dump, ok_line, paint_line, refused_line};
 use rd_edits::{Edit, EditFault, apply};

@@ -3,11 +3,11 @@
 ghost use Rattle.std.specs.Prelude.{◌≡◌, ◌+◌, ◌<◌, ◌++◌, IfOk, OnOk, string_bytes, codes, decimal, length, false, ◌∷◌, []};
 ghost use Rattle.std.specs.Fmt.{digit_glyph};
 ghost use Rattle.rd_list.specs.Entries.{flat};
-ghost use Rattle.rd_list.specs.Listed.{listed};
+ghost use Rattle.rd_list.specs.Internal.Listed.{listed};
 ghost use Rattle.rd_run.specs.Lines as text;
 ghost use Rattle.rd_run.specs.Lines.{width};
 ghost use Rattle.rd_run.specs.Names.{id_of};
-ghost use Rattle.rd_run.specs.Display.{stamped};
+ghost use Rattle.rd_run.specs.Internal.Display.{stamped};
 
 use rd_geom::{Color, Rect};
 use rd_item::Leaf;

@@ -2,11 +2,11 @@
 
 ghost use Rattle.std.specs.Prelude.{◌≡◌, ◌≢◌, ◌⊎◌, ◌↔◌, ℕ, ◌+◌, ◌<◌, ◌≤◌, ◌^◌, List, IfOk, IfSome, IsErrOf, OnErr, OnOk, IsOk, None, map, string_bytes, length};
 ghost use Rattle.std.specs.Io.KnownBytes.{Appends, Keeps, IsAtEnd};
-ghost use Rattle.rd_io.specs.Causes.{Rose, GainsPart};
+ghost use Rattle.rd_io.specs.Causes.{FaultsRose, GainsPart};
 ghost use Rattle.rd_scene.specs.Scripts as scripts;
 ghost use Rattle.rd_scene.specs.Planting.{Plants};
-ghost use Rattle.rd_run.specs.Answered.{AnswersAll, AnswersPart};
-ghost use Rattle.rd_run.specs.Display.{Shows, IsSound};
+ghost use Rattle.rd_run.specs.Internal.Answered.{AnswersAll, AnswersPart};
+ghost use Rattle.rd_run.specs.Internal.Display.{Shows, IsWellFormed};
 ghost use Rattle.rd_run.specs.Endings as ends;
 ghost use Rattle.rd_run.specs.Machine.{State, Step};
 ghost use Rattle.rd_run.specs.Words.{words_form};
@@ -40,7 +40,7 @@ fn answer_one<O: Sink, B: Ledger>(
     ensures only { OnErr result (IsErrOf result Status.WriteFault ⊎ IsErrOf result Status.NoMemory) }
     ensures count { display.new.paints ≤ display.old.paints + 1 }
     ensures later { O.faults out.old ≤ O.faults out.new }
-    ensures cause { IsErrOf result Status.WriteFault → Rose (O.faults out.old) (O.faults out.new) }
+    ensures cause { IsErrOf result Status.WriteFault → FaultsRose (O.faults out.old) (O.faults out.new) }
 {
     let text = match display.answer(alloc, tree, command, looks) {
         Ok(text) => text,
@@ -67,7 +67,7 @@ fn answer_all<O: Sink, B: Ledger>(
     ensures part { OnErr result ((s : State) → Shows tree.old display.old s → AnswersPart s commands.now (O.written out.old) (O.written out.new)) }
     ensures only { OnErr result (IsErrOf result Status.WriteFault ⊎ IsErrOf result Status.NoMemory) }
     ensures later { O.faults out.old ≤ O.faults out.new }
-    ensures cause { IsErrOf result Status.WriteFault → Rose (O.faults out.old) (O.faults out.new) }
+    ensures cause { IsErrOf result Status.WriteFault → FaultsRose (O.faults out.old) (O.faults out.new) }
 {
     for command in commands {
         answer_one(alloc, tree, display, command, out, looks)?;
@@ -87,7 +87,7 @@ fn answer<O: Sink, B: Ledger>(
     ensures fault { result ≡ Status.WriteFault → (text : List ℕ) × ends.IsAllowedText script.now text × GainsPart (O.written out.old) (O.written out.new) text }
     ensures memory { result ≡ Status.NoMemory → Keeps (O.written out.old) (O.written out.new) ⊎ ((text : List ℕ) × ends.IsAllowedText script.now text × GainsPart (O.written out.old) (O.written out.new) text) }
     ensures later { O.faults out.old ≤ O.faults out.new }
-    ensures cause { result ≡ Status.WriteFault → Rose (O.faults out.old) (O.faults out.new) }
+    ensures cause { result ≡ Status.WriteFault → FaultsRose (O.faults out.old) (O.faults out.new) }
 {
     let commands = &script.commands;
     let mut tree: Tree<B> = match plant(alloc, script) {
@@ -109,7 +109,7 @@ fn answer_bytes<O: Sink, B: Ledger>(
     looks: &mut Steps<B>,
 ) -> Status
     ensures written { ends.HasWritten bytes.now (O.written out.old) (O.written out.new) result }
-    ensures cause { ends.MayFollow bytes.now (Rose (O.faults out.old) (O.faults out.new)) result }
+    ensures cause { ends.MayFollow bytes.now (FaultsRose (O.faults out.old) (O.faults out.new)) result }
     ensures still { ends.WritesNothing result → looks.new ≡ looks.old }
     ensures later { O.faults out.old ≤ O.faults out.new }
 {
@@ -130,7 +130,7 @@ fn replay<S: Source, O: Sink, B: Ledger>(
 ) -> Status
     ensures written { IfSome (S.left source.old) (λ bytes. ends.HasWritten bytes (O.written out.old) (O.written out.new) result) }
     ensures nothing { ends.WritesNothing result → Keeps (O.written out.old) (O.written out.new) × (looks.new ≡ looks.old) }
-    ensures cause { IfSome (S.left source.old) (λ bytes. ends.MayReplay bytes (Rose (S.faults source.old) (S.faults source.new)) (Rose (O.faults out.old) (O.faults out.new)) result) }
+    ensures cause { IfSome (S.left source.old) (λ bytes. ends.MayReplay bytes (FaultsRose (S.faults source.old) (S.faults source.new)) (FaultsRose (O.faults out.old) (O.faults out.new)) result) }
     ensures shown { ends.ShowsCause (S.left source.old) (S.left source.new) (S.faults source.old) (S.faults source.new) (O.faults out.old) (O.faults out.new) result }
     ensures words { result ≢ Status.Usage }
 {
@@ -153,7 +153,7 @@ fn serve<S: Source, O: Sink, B: Ledger>(
 ) -> Status
     ensures written { IfSome (S.left source.old) (λ bytes. ends.HasWritten bytes (O.written out.old) (O.written out.new) result) }
     ensures nothing { ends.WritesNothing result → Keeps (O.written out.old) (O.written out.new) × (looks.new ≡ looks.old) }
-    ensures cause { IfSome (S.left source.old) (λ bytes. ends.MayEnd (map string_bytes words.now) bytes (Rose (S.faults source.old) (S.faults source.new)) (Rose (O.faults out.old) (O.faults out.new)) result) }
+    ensures cause { IfSome (S.left source.old) (λ bytes. ends.MayEnd (map string_bytes words.now) bytes (FaultsRose (S.faults source.old) (S.faults source.new)) (FaultsRose (O.faults out.old) (O.faults out.new)) result) }
     ensures shown { ends.ShowsCause (S.left source.old) (S.left source.new) (S.faults source.old) (S.faults source.new) (O.faults out.old) (O.faults out.new) result }
     ensures usage { (result ≡ Status.Usage) ↔ (words_form (map string_bytes words.now) ≡ None) }
 {
@@ -184,18 +184,18 @@ pub fn run<S: Source, O: Sink, E: Sink, A: Ledger, B: Ledger>(
 
     // Why it ends so.
     ensures cause { (s : Status) → result ≡ ends.number s → IfSome (S.left source.old) (λ bytes.
-        ends.MayEnd (map string_bytes words.now) bytes (Rose (S.faults source.old) (S.faults source.new)) (Rose (O.faults out.old) (O.faults out.new)) s) }
+        ends.MayEnd (map string_bytes words.now) bytes (FaultsRose (S.faults source.old) (S.faults source.new)) (FaultsRose (O.faults out.old) (O.faults out.new)) s) }
     ensures shown { (s : Status) → result ≡ ends.number s →
         ends.ShowsCause (S.left source.old) (S.left source.new) (S.faults source.old) (S.faults source.new) (O.faults out.old) (O.faults out.new) s }
     ensures usage { (result ≡ ends.number Status.Usage) ↔ (words_form (map string_bytes words.now) ≡ None) }
 
     // A script is answered, unless memory or a stream fails.
     ensures complete { IfSome (S.left source.old) (λ bytes. (s : scripts.Script) → ends.IsInput (map string_bytes words.now) bytes → ends.IsScriptText bytes s
-        → ¬ (Rose (S.faults source.old) (S.faults source.new)) → ¬ (Rose (O.faults out.old) (O.faults out.new))
+        → ¬ (FaultsRose (S.faults source.old) (S.faults source.new)) → ¬ (FaultsRose (O.faults out.old) (O.faults out.new))
         → (result ≡ ends.number Status.Done) ⊎ (result ≡ ends.number Status.NoMemory)) }
 
     // The line on standard error.
-    ensures line { (s : Status) × (result ≡ ends.number s) × ends.Tells (E.written err.old) (E.written err.new) (Rose (E.faults err.old) (E.faults err.new)) s }
+    ensures line { (s : Status) × (result ≡ ends.number s) × ends.Tells (E.written err.old) (E.written err.new) (FaultsRose (E.faults err.old) (E.faults err.new)) s }
 {
     let status = serve(alloc, words, source, out, looks);
     match write_all(err, status.line().as_bytes()) {

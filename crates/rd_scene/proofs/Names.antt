@@ -3,19 +3,19 @@ use Rattle.std.proofs.Common.{◌≡◌, ℕ, Bool, true, false, ◌||◌, ◌&&
 use Rattle.rd_keys.specs.Keys.{same_key}
 use Rattle.rd_tree.proofs.Naming.{named_there}
 use Rattle.rd_tree.specs.declared.node.Item.{Item}
-use Rattle.rd_tree.specs.Forest.{empty, tree, has, children, under, ◌▷◌}
-use Rattle.rd_tree.specs.Document.{BoxKey, Boxes, named, or_else, with_child}
+use Rattle.rd_tree.specs.Forest.{empty, tree, has, children, with_children, ◌▷◌}
+use Rattle.rd_tree.specs.Document.{BoxKey, BoxForest, named, or_else, with_child}
 use Rattle.rd_scene.specs.declared.script.SceneBox.{SceneBox}
 use Rattle.rd_scene.specs.Planting.{parent_in}
 
-abbrev pub is_named : List ℕ → Boxes → Bool
+abbrev pub is_named : List ℕ → BoxForest → Bool
 is_named i f = is_some (named i f)
 
 some_or_else : (a b : Option BoxKey) → is_some (or_else a b) ≡ (is_some a || is_some b)
 some_or_else None b = refl
 some_or_else (Some k) b = refl
 
-named_tree : (i : List ℕ) (k : BoxKey) (d : Item) (below rest : Boxes) →
+named_tree : (i : List ℕ) (k : BoxKey) (d : Item) (below rest : BoxForest) →
     is_named i (tree k d below rest) ≡ (bytes_eq d.id i || (is_named i below || is_named i rest))
 named_tree i k d below rest =
     elim (bytes_eq d.id i) as (λ b. is_some (cond b (Some k) (or_else (named i below) (named i rest))) ≡ (b || (is_named i below || is_named i rest))) [
@@ -45,7 +45,7 @@ both true false true = refl
 both true false false = refl
 both false k g = refl
 
-named_join : (i : List ℕ) (f g : Boxes) → is_named i (f ▷ g) ≡ (is_named i f || is_named i g)
+named_join : (i : List ℕ) (f g : BoxForest) → is_named i (f ▷ g) ≡ (is_named i f || is_named i g)
 named_join i empty g = refl
 named_join i (tree k d below rest) g =
     named_tree i k d below (rest ▷ g) ∙ ap (λ b. bytes_eq d.id i || (is_named i below || b)) (named_join i rest g)
@@ -57,12 +57,12 @@ named_join i (tree k d below rest) g =
     regroup false false c e = refl
 
 -- the ids that stand elsewhere than below p
-outside : List ℕ → BoxKey → Boxes → Bool
+outside : List ℕ → BoxKey → BoxForest → Bool
 outside i p empty = false
 outside i p (tree k d below rest) =
     cond (same_key p k) (bytes_eq d.id i || is_named i rest) (bytes_eq d.id i || (outside i p below || outside i p rest))
 
-named_children : (i : List ℕ) (p : BoxKey) (f : Boxes) → is_named i f ≡ (outside i p f || is_named i (children same_key p f))
+named_children : (i : List ℕ) (p : BoxKey) (f : BoxForest) → is_named i f ≡ (outside i p f || is_named i (children same_key p f))
 unfolding outside
 named_children i p empty = refl
 named_children i p (tree k d below rest) =
@@ -75,22 +75,22 @@ named_children i p (tree k d below rest) =
           (sort (bytes_eq d.id i) (outside i p below) (is_named i (children same_key p below)) (outside i p rest) (is_named i (children same_key p rest)))
     ]
 
-named_under : (i : List ℕ) (p : BoxKey) (g f : Boxes) → is_named i (under same_key p g f) ≡ (outside i p f || (has same_key p f && is_named i g))
+named_under : (i : List ℕ) (p : BoxKey) (g f : BoxForest) → is_named i (with_children same_key p g f) ≡ (outside i p f || (has same_key p f && is_named i g))
 unfolding outside
 named_under i p g empty = refl
 named_under i p g (tree k d below rest) =
-    elim (same_key p k) as (λ b. is_named i (cond b (tree k d g rest) (tree k d (under same_key p g below) (under same_key p g rest)))
+    elim (same_key p k) as (λ b. is_named i (cond b (tree k d g rest) (tree k d (with_children same_key p g below) (with_children same_key p g rest)))
     ≡ (cond b (bytes_eq d.id i || is_named i rest) (bytes_eq d.id i || (outside i p below || outside i p rest))
     || ((b || (has same_key p below || has same_key p rest)) && is_named i g))) [
       | true ↦ named_tree i k d g rest ∙ swap (bytes_eq d.id i) (is_named i g) (is_named i rest)
-      | false ↦ named_tree i k d (under same_key p g below) (under same_key p g rest)
+      | false ↦ named_tree i k d (with_children same_key p g below) (with_children same_key p g rest)
           ∙ rw (named_under i p g below, named_under i p g rest)
           (sort (bytes_eq d.id i) (outside i p below) (has same_key p below && is_named i g) (outside i p rest) (has same_key p rest && is_named i g)
           ∙ ap (λ b. (bytes_eq d.id i || (outside i p below || outside i p rest)) || b) (both (has same_key p below) (has same_key p rest) (is_named i g)))
     ]
 
 -- Once a box is added, its id is there besides those of before.
-pub named_added : (i : List ℕ) (p k : BoxKey) (d : Item) (f : Boxes) → has same_key p f ≡ true →
+pub named_added : (i : List ℕ) (p k : BoxKey) (d : Item) (f : BoxForest) → has same_key p f ≡ true →
     is_named i (with_child p None k d f) ≡ (is_named i f || bytes_eq d.id i)
 named_added i p k d f there =
     named_under i p (children same_key p f ▷ tree k d empty empty) f
@@ -103,7 +103,7 @@ named_added i p k d f there =
     last false false false = refl
 
 -- the parent of a box, where the forest has one
-pub parent_there : (f : Boxes) (b : SceneBox) (k : BoxKey) → parent_in f b ≡ Some k → has same_key k f ≡ true
+pub parent_there : (f : BoxForest) (b : SceneBox) (k : BoxKey) → parent_in f b ≡ Some k → has same_key k f ≡ true
 parent_there f b k h = by b.parent h
   where
     by : (p : Option (List ℕ)) → option_and_then (λ i. named i f) p ≡ Some k → has same_key k f ≡ true

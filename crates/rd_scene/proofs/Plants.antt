@@ -2,7 +2,7 @@
 use Rattle.std.proofs.Common.{◌≡◌, ℕ, ◌+◌, Bool, true, false, ◌&&◌, ◌||◌, cond, List, [], ◌∷◌, ◌++◌, reverse, Option, Some, None, is_none, is_some, IsSome, refl, sym, ap, ◌∙◌, bytes_eq, unwrap_or, option_and_then}
 use Rattle.rd_keys.specs.Keys.{same_key}
 use Rattle.rd_tree.specs.Forest.{empty, tree, has}
-use Rattle.rd_tree.specs.Document.{Document, BoxKey, Boxes, named, with_child}
+use Rattle.rd_tree.specs.Document.{Document, BoxKey, BoxForest, named, with_child}
 use Rattle.rd_scene.specs.declared.script.SceneBox.{SceneBox}
 use Rattle.rd_scene.specs.Order.{depth_of, is_first, has_room, has_place, are_in_order}
 use Rattle.rd_scene.specs.Planting.{item_of, parent_in, Adds, AddsAll}
@@ -46,10 +46,10 @@ has_parent (b ∷ before) (Some p) h place = (p, refl, by (depth_of p (b ∷ bef
     by (Some d) h = refl
 
 -- The ids of the tree are those of the boxes so far.
-abbrev pub SameNames : Boxes → List SceneBox → Type 0
+abbrev pub SameNames : BoxForest → List SceneBox → Type 0
 SameNames f before = (q : List ℕ) → is_named q f ≡ is_some (depth_of q before)
 
-pub names_more : (f g : Boxes) (before : List SceneBox) (b : SceneBox) (p k : BoxKey) → SameNames f before → has same_key p f ≡ true
+pub names_more : (f g : BoxForest) (before : List SceneBox) (b : SceneBox) (p k : BoxKey) → SameNames f before → has same_key p f ≡ true
     → g ≡ with_child p None k (item_of b) f → SameNames g (b ∷ before)
 names_more f g before b p k names there e q =
     rw e (named_added q p k (item_of b) f there ∙ ap (λ c. c || bytes_eq b.id q) (names q) ∙ by (bytes_eq b.id q))
@@ -66,7 +66,7 @@ names_more f g before b p k names there e q =
         or_false true = refl
         or_false false = refl
 
-pub known_parent : (f : Boxes) (first : SceneBox) (bs rest : List SceneBox) (b : SceneBox) → SameNames f (so_far first bs) → Stands (so_far first bs) rest b → IsSome (parent_in f b)
+pub known_parent : (f : BoxForest) (first : SceneBox) (bs rest : List SceneBox) (b : SceneBox) → SameNames f (so_far first bs) → Stands (so_far first bs) rest b → IsSome (parent_in f b)
 known_parent f first bs rest b names s =
     let p = has_parent (so_far first bs) b.parent (not_first (reverse bs) first) s.place in
     rw p.1 (names p.0 ∙ p.2)

@@ -2,7 +2,7 @@
 use Rattle.std.specs.Prelude.{◌≡◌, true, false, List, [], ◌∷◌, Option, Some, None, option_and_then}
 use Rattle.rd_tree.specs.Forest.{tree, empty}
 use Rattle.rd_tree.specs.declared.node.Item.{Item}
-use Rattle.rd_tree.specs.Document.{Document, BoxKey, Boxes, IsUsed, contains, named, with_child, with_taken}
+use Rattle.rd_tree.specs.Document.{Document, BoxKey, BoxForest, IsUsed, contains, named, with_child, with_taken}
 use Rattle.rd_scene.specs.declared.script.SceneBox.{SceneBox}
 use Rattle.rd_scene.specs.Scripts.{Script}
 
@@ -11,7 +11,7 @@ abbrev pub item_of : SceneBox → Item
 item_of b = record { id = b.id; rect = b.rect; style = b.style; touched = true }
 
 -- the box of the tree that is its parent
-abbrev pub parent_in : Boxes → SceneBox → Option BoxKey
+abbrev pub parent_in : BoxForest → SceneBox → Option BoxKey
 parent_in boxes b = option_and_then (λ p. named p boxes) b.parent
 
 -- This project's own choice: this box alone, under any key.

@@ -41,7 +41,7 @@ pub(crate) fn id_or_null(alloc: Global, v: &Value) -> Result<Option<Id>, SceneFa
     Ok(Some(id))
 }
 
-#[tactic(auto, unfolding(crate::specs::Boxes::box_of))]
+#[tactic(auto, unfolding(crate::specs::BoxForest::box_of))]
 fn box_of(alloc: Global, v: &Value) -> Result<SceneBox, SceneFault>
     ensures value { Gives (λ b. b) result (spec.box_of (view v.now)) }
     ensures fits { IfOk result (λ b. FitsBox b) }

@@ -1,7 +1,7 @@
 //! The tree of a script.
 
 ghost use Rattle.std.specs.Prelude.{◌≡◌, ◌+◌, ◌<◌, true, [], ◌∷◌, length, All, IfOk, OnOk, None, IsSome};
-ghost use Rattle.rd_tree.specs.Document.{HasRoom, named, taken};
+ghost use Rattle.rd_tree.specs.Document.{HasFreeSlot, named, taken};
 ghost use Rattle.rd_scene.specs.Order.{are_in_order};
 ghost use Rattle.rd_scene.specs.Planting as spec;
 ghost use Rattle.rd_scene.specs.Planting.{IsAlone, Adds, AddsAll, Plants};
@@ -36,7 +36,7 @@ fn parent_key<B: Ledger>(tree: &Tree<B>, b: &SceneBox) -> Option<BoxKey>
 fn add<B: Ledger>(tree: &mut Tree<B>, b: &SceneBox) -> Result<(), NoMemory>
     requires parent { IsSome (spec.parent_in tree.old.boxes b.now) }
     requires new_id { named b.now.id tree.old.boxes ≡ None }
-    requires room { HasRoom tree.old }
+    requires room { HasFreeSlot tree.old }
     requires fits { FitsBox b.now }
     ensures added { OnOk result (Adds b.now tree.old tree.new) }
     ensures more { OnOk result (taken tree.new ≡ taken tree.old + 1) }

@@ -1,7 +1,7 @@
 -- Four weights of lists: how often a leaf comes, how often a group comes, how many groups are empty, and how many leaves are off the canvas.
 use Rattle.std.proofs.Common.{◌≡◌, refl, ap, ◌∙◌, sym, subst, Bool, true, false, not, ◌&&◌, cond, List, [], ◌∷◌, ◌++◌, ℕ, zero, suc, ◌+◌, ◌≤◌, ◌<◌, length, get_or, arith, inl, inr, append_assoc}
 use Rattle.std.specs.Prelude.{Option, Some, None, AllPairs}
-use Rattle.rd_geom.specs.Plane.{Rectangle, has_none, common}
+use Rattle.rd_geom.specs.Plane.{Rectangle, has_none, meet}
 use Rattle.rd_geom.specs.declared.color.Color.{Color}
 use Rattle.rd_keys.specs.Keys.{BoxKey, same_key}
 use Rattle.rd_keys.proofs.Keys.{same_key-sound}
@@ -10,10 +10,10 @@ use Rattle.rd_keys.specs.declared.entry.Part.TheVariants.{Back, Border, Content,
 use Rattle.rd_item.specs.declared.leaf.Leaf.{Leaf}
 use Rattle.rd_item.specs.declared.leaf.Shape.{Shape}
 use Rattle.rd_tree.specs.Forest.{empty, tree, has, IsApart}
-use Rattle.rd_tree.specs.Document.{Boxes}
+use Rattle.rd_tree.specs.Document.{BoxForest}
 use Rattle.rd_tree.proofs.Standing.{cases}
 use Rattle.rd_list.specs.Wrappers.{Wrapper}
-use Rattle.rd_list.specs.Entries.{Entries, nil, leaf, group, ◌▷◌, flat, singly, has_leaf, is_empty, no_group_is_empty}
+use Rattle.rd_list.specs.Entries.{Entries, nil, leaf, group, ◌▷◌, flat, option_entry, has_leaf, is_empty, no_group_is_empty}
 use Rattle.rd_list.specs.Lists.{same_leaf, same_part, groups}
 use Rattle.rd_list.proofs.Joins.{flat-join}
 use Rattle.rd_stack.specs.Spots.{BoxData, Spot}
@@ -58,11 +58,11 @@ none_fails p xs h k d l =
     ]
 
 -- the boxes with one key
-pub all-none : (f : Boxes) → all (λ b. 0) f ≡ 0
+pub all-none : (f : BoxForest) → all (λ b. 0) f ≡ 0
 all-none empty = refl
 all-none (tree k d c n) = omega (arith, all-none c, all-none n)
 
-all-key : (j : BoxKey) (f : Boxes) → IsApart same_key f → all (λ b. one (same_key j b.key)) f ≤ one (has same_key j f)
+all-key : (j : BoxKey) (f : BoxForest) → IsApart same_key f → all (λ b. one (same_key j b.key)) f ≤ one (has same_key j f)
 all-key j empty a = omega arith
 all-key j (tree k d c n) a =
     let s = all-key j c a.3 in
@@ -86,7 +86,7 @@ all-key j (tree k d c n) a =
       ]
     ]
 
-all-once : (j : BoxKey) (f : Boxes) → IsApart same_key f → all (λ b. one (same_key j b.key)) f ≤ 1
+all-once : (j : BoxKey) (f : BoxForest) → IsApart same_key f → all (λ b. one (same_key j b.key)) f ≤ 1
 all-once j f a = let s = all-key j f a in let t = at_most (has same_key j f) in omega (arith, s, t)
   where
     at_most : (b : Bool) → one b ≤ 1
@@ -115,9 +115,9 @@ module _ (p : Leaf → Bool) where
   leaf_weight None = 0
   leaf_weight (Some l) = one (p l)
 
-  pub that-singly : (o : Option Leaf) → leaves_that (singly o) ≡ leaf_weight o
-  that-singly None = refl
-  that-singly (Some l) = omega arith
+  pub that-option_entry : (o : Option Leaf) → leaves_that (option_entry o) ≡ leaf_weight o
+  that-option_entry None = refl
+  that-option_entry (Some l) = omega arith
 
 -- A leaf of a part of a box is named by them.
 abbrev IsNamed : BoxKey → Part → Option Leaf → Type 0
@@ -127,7 +127,7 @@ IsNamed k part (Some l) = (l.owner ≡ k) × (l.part ≡ part)
 named-shown : (canvas : Rectangle) (x : Spot) (part : Part) (s : Option (Shape × Color)) → IsNamed x.here.key part (shown canvas x part s)
 named-shown canvas x part None = tt
 named-shown canvas x part (Some s) =
-    let visible = common s.0.outer (clip_of canvas x) in
+    let visible = meet s.0.outer (clip_of canvas x) in
     elim (has_none visible) as (λ b. IsNamed x.here.key part (cond b None (Some (record { owner = x.here.key; part = part; visible = visible; shape = s.0; color = s.1; hits = takes_hits x.here.style.pointer })))) [ true ↦ tt | false ↦ (refl, refl) ]
 
 named : (canvas : Rectangle) (x : Spot) (part : Part) → IsNamed x.here.key part (leaf_of canvas x part)
@@ -152,10 +152,10 @@ module _ (canvas : Rectangle) (a : Leaf) where
   leaf_parts : (x : Spot) → 0 + (leaves_that (same_leaf a) (paint canvas Back x) + leaves_that (same_leaf a) (paint canvas Border x) + leaves_that (same_leaf a) (paint canvas Content x) + leaves_that (same_leaf a) (paint canvas Outline x)) ≤ one (same_key a.owner x.here.key)
   leaf_parts x =
       let q = λ (part : Part). part_weight x.here.key part (leaf_of canvas x part) (named canvas x part) in
-      let s = λ (part : Part). that-singly (same_leaf a) (leaf_of canvas x part) in
+      let s = λ (part : Part). that-option_entry (same_leaf a) (leaf_of canvas x part) in
       omega (arith, s Back, s Border, s Content, s Outline, q Back, q Border, q Content, q Outline, one_part (same_key a.owner x.here.key) a.part)
 
-  pub leaf_once : (f : Boxes) → IsApart same_key f → leaves_that (same_leaf a) (root_order canvas f) ≤ 1
+  pub leaf_once : (f : BoxForest) → IsApart same_key f → leaves_that (same_leaf a) (root_order canvas f) ≤ 1
   leaf_once f apart =
       let w : Weighs canvas (leaves_that (same_leaf a)) (λ b. 0) (λ b. one (same_key a.owner b.key)) = record { none = refl; join = that-join (same_leaf a); group = that-group (same_leaf a); parts = leaf_parts } in
       omega (arith, root_fit canvas (leaves_that (same_leaf a)) (λ b. 0) (λ b. one (same_key a.owner b.key)) w f apart, all-once a.owner f apart)
@@ -180,7 +180,7 @@ module _ (canvas : Rectangle) (j : BoxKey) where
       choose true = let s = total-append (λ k. one (same_key j k)) (groups x.order) [] in omega (arith, s)
       choose false = omega arith
 
-  no_groups : (o : Option Leaf) → groups_of (singly o) ≡ 0
+  no_groups : (o : Option Leaf) → groups_of (option_entry o) ≡ 0
   no_groups None = refl
   no_groups (Some l) = refl
 
@@ -189,7 +189,7 @@ module _ (canvas : Rectangle) (j : BoxKey) where
       let s = λ (part : Part). no_groups (leaf_of canvas x part) in
       omega (arith, s Back, s Border, s Content, s Outline)
 
-  pub group_once : (f : Boxes) → IsApart same_key f → groups_of (root_order canvas f) ≤ 1
+  pub group_once : (f : BoxForest) → IsApart same_key f → groups_of (root_order canvas f) ≤ 1
   group_once f apart =
       let own : BoxData → ℕ = λ b. one (same_key j b.key) in
       let w : Weighs canvas groups_of own own = record { none = refl; join = groups_of-join; group = groups_of-group; parts = group_parts } in
@@ -220,7 +220,7 @@ empty-group x = choose (is_translucent x.at) (has_leaf (flat x.order)) refl
     choose true true e = let n : one (is_empty x.order) ≡ 0 = ap one (leafy x.order e) in omega (arith, n)
 
 module _ (canvas : Rectangle) where
-  no_empty : (o : Option Leaf) → empty_groups (singly o) ≡ 0
+  no_empty : (o : Option Leaf) → empty_groups (option_entry o) ≡ 0
   no_empty None = refl
   no_empty (Some l) = refl
 
@@ -229,7 +229,7 @@ module _ (canvas : Rectangle) where
       let s = λ (part : Part). no_empty (leaf_of canvas x part) in
       omega (arith, s Back, s Border, s Content, s Outline)
 
-  pub none_empty : (f : Boxes) → IsApart same_key f → empty_groups (root_order canvas f) ≤ 0
+  pub none_empty : (f : BoxForest) → IsApart same_key f → empty_groups (root_order canvas f) ≤ 0
   none_empty f apart =
       let w : Weighs canvas empty_groups (λ b. 0) (λ b. 0) = record { none = refl; join = empty-join; group = empty-group; parts = empty_parts } in
       omega (arith, root_fit canvas empty_groups (λ b. 0) (λ b. 0) w f apart, all-none f)

@@ -8,7 +8,7 @@ use Rattle.rd_item.specs.declared.leaf.Leaf.{Leaf}
 use Rattle.rd_item.specs.Leaves.{covers}
 use Rattle.rd_list.specs.Wrappers.{Wrapper}
 use Rattle.rd_list.specs.Entries.{Entries, nil, leaf, group, only, grouped_if_any}
-use Rattle.rd_list.specs.Lists.{composed, meet}
+use Rattle.rd_list.specs.Lists.{composed, leaves_meet}
 
 channel : (a o : ℕ) → times 0 o + times a (255 - times 0 o) ≡ a
 channel a o = rw (times_none o) (omega (arith, times_by_whole a))
@@ -42,7 +42,7 @@ module _ (x y : ℤ) where
   last_and false b h = cc
 
   -- two leaves that cover one pixel meet
-  pub both_meet : (a b : Leaf) → covers a x y ≡ true → covers b x y ≡ true → IsTrue (meet a b)
+  pub both_meet : (a b : Leaf) → covers a x y ≡ true → covers b x y ≡ true → IsTrue (leaves_meet a b)
   both_meet a b s t =
       shares_meets a.visible b.visible (record {
         x = x;

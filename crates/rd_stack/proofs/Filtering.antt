@@ -2,7 +2,7 @@
 use Rattle.std.proofs.Common.{◌≡◌, refl, ap, ◌∙◌, sym, subst, Bool, true, false, not, ◌&&◌, ◌||◌, cond, List, [], ◌∷◌, ℕ, pos, ◌+ℤ◌, ◌-ℤ◌, IsTrue, arith, inl, inr, nat_lt}
 use Rattle.std.specs.Prelude.{Option, Some, None, option_map}
 use Rattle.std.proofs.lemmas.Int.{ints}
-use Rattle.rd_geom.specs.Plane.{Rectangle, right, bottom, common, has_none, no_pixels, hull_of, around, grown, inset_by, holds_pixel, IsWithin, SharesPixel}
+use Rattle.rd_geom.specs.Plane.{Rectangle, right, bottom, meet, has_none, no_pixels, hull_of, around, outset, inset, holds_pixel, IsWithin, SharesPixel}
 use Rattle.rd_geom.specs.Canvas.{canvas_of}
 use Rattle.rd_geom.specs.declared.color.Color.{Color}
 use Rattle.rd_geom.proofs.Pixels.{At, at_holds, holds_at, AtBetween, holds_between, common_pixels, none_is_within, within_around_left, within_around_right, left_of, meets_shares, shares_meets}
@@ -17,7 +17,7 @@ use Rattle.rd_list.specs.Entries.{Entries, nil, leaf, group, only}
 use Rattle.rd_list.proofs.Narrowing.{only_only}
 use Rattle.rd_tree.specs.Forest.{empty, tree, has, IsApart}
 use Rattle.rd_tree.specs.declared.node.Item.{Item}
-use Rattle.rd_tree.specs.Document.{Boxes}
+use Rattle.rd_tree.specs.Document.{BoxForest}
 use Rattle.rd_tree.specs.Near.{extent, hull_in}
 use Rattle.rd_tree.proofs.Standing.{never, refute, either, from_left, from_right, apart_back, differs}
 use Rattle.rd_tree.proofs.Under.{which}
@@ -47,17 +47,17 @@ within_hull_right a b = by (has_none a) (has_none b) refl refl
     by true false e f = λ x y h. h
     by false false e f = within_around_right a b
 
-within_grown : (r : Rectangle) (n : ℕ) → IsWithin r (grown r n)
+within_grown : (r : Rectangle) (n : ℕ) → IsWithin r (outset r n)
 within_grown r n x y h =
     let p : At r x y = holds_at r x y h in
-    at_holds (grown r n) x y (record { left = omega (arith, ints); right = omega (arith, ints); top = omega (arith, ints); bottom = omega (arith, ints) })
+    at_holds (outset r n) x y (record { left = omega (arith, ints); right = omega (arith, ints); top = omega (arith, ints); bottom = omega (arith, ints) })
 
-within_inset : (r : Rectangle) (t e b l : ℕ) → IsWithin (inset_by r t e b l) r
+within_inset : (r : Rectangle) (t e b l : ℕ) → IsWithin (inset r t e b l) r
 within_inset r t e b l x y h =
     let m : AtBetween (r.x +ℤ pos l) (r.y +ℤ pos t) (right r -ℤ pos e) (bottom r -ℤ pos b) x y = holds_between _ _ _ _ x y h in
     at_holds r x y (record { left = omega (arith, ints); right = omega (arith, ints); top = omega (arith, ints); bottom = omega (arith, ints) })
 
-within_common : (a b : Rectangle) → IsWithin (common a b) a
+within_common : (a b : Rectangle) → IsWithin (meet a b) a
 within_common a b x y h = let t : IsTrue (holds_pixel a x y && holds_pixel b x y) = subst (λ t. IsTrue t) (common_pixels a b x y) h in left_of _ _ t
 
 within_then : (a b c : Rectangle) → IsWithin a b → IsWithin b c → IsWithin a c
@@ -73,7 +73,7 @@ module _ (meets : Rectangle → Bool) (grows : Grows meets) (cut : BoxKey → Bo
 
   of_shown : (x : Spot) (part : Part) (s : Shape × Color) → (cut x.here.key ≡ true → meets s.0.outer ≡ false) → OfLeaf IsOff (shown canvas x part (Some s))
   of_shown x part s h =
-      let v = common s.0.outer (clip_of canvas x) in
+      let v = meet s.0.outer (clip_of canvas x) in
       elim (has_none v) as (λ b. OfLeaf IsOff (cond b None (Some (record { owner = x.here.key; part = part; visible = v; shape = s.0; color = s.1; hits = takes_hits x.here.style.pointer })))) [
         | true ↦ tt
         | false ↦ λ c. off v s.0.outer (within_common s.0.outer (clip_of canvas x)) (h c)
@@ -81,7 +81,7 @@ module _ (meets : Rectangle → Bool) (grows : Grows meets) (cut : BoxKey → Bo
 
   -- the extent of a box
   abbrev extent_of : BoxData → Rectangle
-  extent_of b = grown b.rect b.style.outline_width
+  extent_of b = outset b.rect b.style.outline_width
 
   of_shape : (above : List BoxData) (b : BoxData) (part : Part) → is_none above ≡ false → (cut b.key ≡ true → meets (extent_of b) ≡ false)
       → let x : Spot = record { above = above; here = b } in OfLeaf IsOff (shown canvas x part (shape_of canvas x part))
@@ -122,15 +122,15 @@ module _ (meets : Rectangle → Bool) (grows : Grows meets) (cut : BoxKey → Bo
       by (Some s) = of_shown x part s (λ c. absurd (never (cut x.here.key) c n))
 
   -- The boxes that are cut off are off the area.
-  abbrev AreFar : Boxes → Type 0
+  abbrev AreFar : BoxForest → Type 0
   AreFar empty = Unit {0}
   AreFar (tree k d below rest) = (cut k ≡ true → meets (extent d) ≡ false) × AreFar below × AreFar rest
 
-  far_boxes : (above : List BoxData) (f : Boxes) → is_none above ≡ false → AreFar f → EachBox IsOff canvas above f
+  far_boxes : (above : List BoxData) (f : BoxForest) → is_none above ≡ false → AreFar f → EachBox IsOff canvas above f
   far_boxes above empty n h = tt
   far_boxes above (tree k d below rest) n h = (of_parts above (box k d) n h.0, far_boxes (box k d ∷ above) below refl h.1, far_boxes above rest n h.2)
 
-  far_all : (f : Boxes) → meets (hull_in f) ≡ false → AreFar f
+  far_all : (f : BoxForest) → meets (hull_in f) ≡ false → AreFar f
   far_all empty h = tt
   far_all (tree k d below rest) h =
       let here : meets (hull_of (extent d) (hull_in below)) ≡ false = off _ _ (within_hull_left (hull_of (extent d) (hull_in below)) (hull_in rest)) h in (
@@ -139,7 +139,7 @@ module _ (meets : Rectangle → Bool) (grows : Grows meets) (cut : BoxKey → Bo
         far_all rest (off _ _ (within_hull_right (hull_of (extent d) (hull_in below)) (hull_in rest)) h),
       )
 
-  far_reached : (f : Boxes) → ((j : BoxKey) → has same_key j (reached meets f) ≡ true → cut j ≡ false) → AreFar f
+  far_reached : (f : BoxForest) → ((j : BoxKey) → has same_key j (reached meets f) ≡ true → cut j ≡ false) → AreFar f
   far_reached empty h = tt
   far_reached (tree k d below rest) h = by (meets (hull_of (extent d) (hull_in below))) refl h (far_reached below) (far_reached rest)
     where
@@ -160,7 +160,7 @@ module _ (meets : Rectangle → Bool) (grows : Grows meets) (cut : BoxKey → Bo
       )
 
 -- What is reached is there.
-not_reached : (meets : Rectangle → Bool) (j : BoxKey) (f : Boxes) → has same_key j f ≡ false → has same_key j (reached meets f) ≡ false
+not_reached : (meets : Rectangle → Bool) (j : BoxKey) (f : BoxForest) → has same_key j f ≡ false → has same_key j (reached meets f) ≡ false
 not_reached meets j empty h = refl
 not_reached meets j (tree k d below rest) h =
     let s = either (same_key j k) (has same_key j below || has same_key j rest) h in
@@ -172,15 +172,15 @@ not_reached meets j (tree k d below rest) h =
 
 module _ (meets : Rectangle → Bool) (cut : BoxKey → Bool) where
   -- Exactly what is not reached is cut off.
-  abbrev IsRest : Boxes → Type 0
+  abbrev IsRest : BoxForest → Type 0
   IsRest f = (j : BoxKey) → has same_key j f ≡ true → cut j ≡ not (has same_key j (reached meets f))
 
-  record Parted (k : BoxKey) (d : Item) (below rest : Boxes) (b : Bool) : Type 0 where
+  record Parted (k : BoxKey) (d : Item) (below rest : BoxForest) (b : Bool) : Type 0 where
     here : cut k ≡ not b
     low : (j : BoxKey) → has same_key j below ≡ true → cut j ≡ not (b && has same_key j (reached meets below))
     later : IsRest rest
 
-  parted : (k : BoxKey) (d : Item) (below rest : Boxes) → IsApart same_key (tree k d below rest) → IsRest (tree k d below rest) → Parted k d below rest (meets (hull_of (extent d) (hull_in below)))
+  parted : (k : BoxKey) (d : Item) (below rest : BoxForest) → IsApart same_key (tree k d below rest) → IsRest (tree k d below rest) → Parted k d below rest (meets (hull_of (extent d) (hull_in below)))
   parted k d below rest a h = by (meets (hull_of (extent d) (hull_in below))) h
     where
       by : (b : Bool) → ((j : BoxKey) → has same_key j (tree k d below rest) ≡ true → cut j ≡ not (has same_key j (cond b (tree k d (reached meets below) (reached meets rest)) (reached meets rest)))) → Parted k d below rest b
@@ -203,7 +203,7 @@ module _ (meets : Rectangle → Bool) (cut : BoxKey → Bool) where
         later = λ j u. g j (from_right (same_key j k) (has same_key j below || has same_key j rest) (from_right (has same_key j below) (has same_key j rest) u));
       }
 
-  rest_pruned : (f : Boxes) → IsApart same_key f → IsRest f → pruned cut f ≡ reached meets f
+  rest_pruned : (f : BoxForest) → IsApart same_key f → IsRest f → pruned cut f ≡ reached meets f
   rest_pruned empty a h = refl
   rest_pruned (tree k d below rest) a h = by (meets (hull_of (extent d) (hull_in below))) (parted k d below rest a h) (rest_pruned below a.3) (rest_pruned rest a.4)
     where
@@ -212,7 +212,7 @@ module _ (meets : Rectangle → Bool) (cut : BoxKey → Bool) where
       by true p u v = rw p.here (λ i. tree k d (u p.low i) (v p.later i))
       by false p u v = rw p.here (v p.later)
 
-  rest_closed : (f : Boxes) → IsApart same_key f → IsRest f → IsClosed cut f
+  rest_closed : (f : BoxForest) → IsApart same_key f → IsRest f → IsClosed cut f
   rest_closed empty a h = tt
   rest_closed (tree k d below rest) a h = by (meets (hull_of (extent d) (hull_in below))) (parted k d below rest a h) (rest_closed below a.3) (rest_closed rest a.4)
     where
@@ -220,7 +220,7 @@ module _ (meets : Rectangle → Bool) (cut : BoxKey → Bool) where
       by true p u v = ((λ c. absurd (never (cut k) c p.here)), u p.low, v p.later)
       by false p u v = let low : all_cut cut below ≡ true = all_from_has cut below p.low in ((λ _. low), closed_all cut below low, v p.later)
 
-order-reached : (meets : Rectangle → Bool) → Grows meets → (canvas : Rectangle) (k : BoxKey) (d : Item) (f : Boxes) → IsApart same_key (tree k d f empty)
+order-reached : (meets : Rectangle → Bool) → Grows meets → (canvas : Rectangle) (k : BoxKey) (d : Item) (f : BoxForest) → IsApart same_key (tree k d f empty)
     → only (λ l. meets l.visible) (root_order canvas (tree k d f empty)) ≡ only (λ l. meets l.visible) (root_order canvas (tree k d (reached meets f) empty))
 order-reached meets grows canvas k d f a =
     let cut : BoxKey → Bool = λ j. not (has same_key j (tree k d (reached meets f) empty)) in
@@ -259,11 +259,11 @@ filtering t a r meets grows =
 grows_any : (area : List Rectangle) → Grows (meets_area area)
 grows_any [] r s w h = h
 grows_any (q ∷ area) r s w h =
-    elim (which (not (has_none (common q r))) (meets_area area r) h) [
+    elim (which (not (has_none (meet q r))) (meets_area area r) h) [
       | inl u ↦
           let p : SharesPixel q r = meets_shares q r u in
-          from_left (not (has_none (common q s))) (meets_area area s) (shares_meets q s (record { x = p.x; y = p.y; first = p.first; second = w p.x p.y p.second }))
-      | inr u ↦ from_right (not (has_none (common q s))) (meets_area area s) (grows_any area r s w u)
+          from_left (not (has_none (meet q s))) (meets_area area s) (shares_meets q s (record { x = p.x; y = p.y; first = p.first; second = w p.x p.y p.second }))
+      | inr u ↦ from_right (not (has_none (meet q s))) (meets_area area s) (grows_any area r s w u)
     ]
 
 pub meeting_area : MeetingLaw

@@ -1,14 +1,14 @@
 -- What a look at a box tells of the walk over a tree.
 use Rattle.std.proofs.Common.{◌≡◌, refl, ap, ◌∙◌, sym, subst, inl, inr, ℕ, ◌<◌, ◌≤◌, arith, List, [], ◌∷◌, ◌++◌, append_assoc}
 use Rattle.std.specs.Prelude.{Option, Some}
-use Rattle.rd_geom.specs.Plane.{Rectangle, IsPlaced, grown}
+use Rattle.rd_geom.specs.Plane.{Rectangle, IsPlaced, outset}
 use Rattle.rd_style.specs.declared.styles.Style.{Style}
 use Rattle.rd_style.specs.Limits.{FitsRect, Fits}
 use Rattle.rd_style.proofs.Room.{grown_is_placed}
 use Rattle.rd_keys.specs.Keys.{BoxKey, same_key}
 use Rattle.rd_tree.specs.Forest.{empty, tree, has, from, from_some, size, IsApart}
 use Rattle.rd_tree.specs.declared.node.Item.{Item}
-use Rattle.rd_tree.specs.Document.{Boxes, AllFit}
+use Rattle.rd_tree.specs.Document.{BoxForest, AllFit}
 use Rattle.rd_tree.specs.Shown.{Shown, shown}
 use Rattle.rd_tree.proofs.Looking as looking
 use Rattle.rd_tree.proofs.Looking.{fit_from}
@@ -16,19 +16,19 @@ use Rattle.rd_tree.proofs.Standing.{cases}
 use Rattle.rd_stack.specs.Spots.{BoxData}
 use Rattle.rd_stack.specs.Fresh.{box, painted, with_below}
 use Rattle.rd_stack.specs.Painting.{Painted}
-use Rattle.rd_stack.specs.Looks.{Onward}
+use Rattle.rd_stack.specs.Internal.Looks.{Onward}
 
-placed_as : (q : Rectangle) (s : Style) (r : Rectangle) (t : Style) → q ≡ r → s ≡ t → FitsRect r → Fits t → IsPlaced (grown q s.outline_width)
+placed_as : (q : Rectangle) (s : Style) (r : Rectangle) (t : Style) → q ≡ r → s ≡ t → FitsRect r → Fits t → IsPlaced (outset q s.outline_width)
 placed_as q s r t e h f g = rw (e, h) (grown_is_placed r t.outline_width f g.outline)
 
 -- the box that is looked at has room for its outline
-pub placed : (root : BoxKey) (f : Boxes) (k : BoxKey) (v : Shown) → IsApart same_key f → AllFit f → Some v ≡ shown root (from same_key k f) → IsPlaced (grown v.rect v.style.outline_width)
+pub placed : (root : BoxKey) (f : BoxForest) (k : BoxKey) (v : Shown) → IsApart same_key f → AllFit f → Some v ≡ shown root (from same_key k f) → IsPlaced (outset v.rect v.style.outline_width)
 placed root f k v a l h =
     let w = looking.onward root f k v a h in
     let fits : AllFit (tree k w.item w.below w.rest) = subst AllFit w.is (fit_from k f l) in
     placed_as v.rect v.style w.item.rect w.item.style w.rect w.style fits.0 fits.1
 
-pub onward : (root : BoxKey) (f : Boxes) (k : BoxKey) (v : Shown) (here : BoxData) → IsApart same_key f → Some v ≡ shown root (from same_key k f) → here ≡ record { key = v.key; rect = v.rect; style = v.style }
+pub onward : (root : BoxKey) (f : BoxForest) (k : BoxKey) (v : Shown) (here : BoxData) → IsApart same_key f → Some v ≡ shown root (from same_key k f) → here ≡ record { key = v.key; rect = v.rect; style = v.style }
     → Onward f k here v.first_child v.next_sibling
 onward root f k v here a h e =
     let w = looking.onward root f k v a h in
@@ -47,12 +47,12 @@ onward root f k v here a h e =
         let mk : BoxKey → Rectangle → Style → BoxData = λ x y z. record { key = x; rect = y; style = z } in
         ap (λ x. mk x v.rect v.style) p ∙ (ap (λ y. mk k y v.style) q ∙ ap (mk k d.rect) r)
 
-pub smaller_next : (f : Boxes) (k : BoxKey) (here : BoxData) (c n : Option BoxKey) → Onward f k here c n → size (from_some same_key n f) < size (from same_key k f)
+pub smaller_next : (f : BoxForest) (k : BoxKey) (here : BoxData) (c n : Option BoxKey) → Onward f k here c n → size (from_some same_key n f) < size (from same_key k f)
 smaller_next f k here c n w = rw (w.is, w.next) (omega arith)
 
 module _ (canvas : Rectangle) where
   -- one sibling more is painted
-  pub painted_more : (f : Boxes) (above : List BoxData) (k : BoxKey) (here : BoxData) (c n : Option BoxKey) (before after one whole : List Painted) → Onward f k here c n
+  pub painted_more : (f : BoxForest) (above : List BoxData) (k : BoxKey) (here : BoxData) (c n : Option BoxKey) (before after one whole : List Painted) → Onward f k here c n
       → before ++ painted canvas above (from same_key k f) ≡ whole → one ≡ with_below canvas above here (painted canvas (here ∷ above) (from_some same_key c f)) → after ≡ before ++ one
       → after ++ painted canvas above (from_some same_key n f) ≡ whole
   painted_more f above k here c n before after one whole w b o e =
@@ -60,7 +60,7 @@ module _ (canvas : Rectangle) where
       rw (e, ← b, all) (append_assoc before one (painted canvas above (from_some same_key n f)))
 
   -- what the loop over siblings keeps
-  pub go_on : (f : Boxes) (above : List BoxData) (o : Option BoxKey) (k : BoxKey) (here : BoxData) (c n : Option BoxKey) (m : ℕ) (before after one whole : List Painted) → Onward f k here c n → o ≡ Some k
+  pub go_on : (f : BoxForest) (above : List BoxData) (o : Option BoxKey) (k : BoxKey) (here : BoxData) (c n : Option BoxKey) (m : ℕ) (before after one whole : List Painted) → Onward f k here c n → o ≡ Some k
       → (size (from_some same_key o f) ≤ m) × (before ++ painted canvas above (from_some same_key o f) ≡ whole)
       → one ≡ with_below canvas above here (painted canvas (here ∷ above) (from_some same_key c f)) → after ≡ before ++ one
       → (size (from_some same_key n f) ≤ m) × (after ++ painted canvas above (from_some same_key n f) ≡ whole)

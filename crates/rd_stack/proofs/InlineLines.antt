@@ -4,11 +4,11 @@ use Rattle.std.specs.List.{list_all, list_any}
 use Rattle.rd_geom.specs.Plane.{Rectangle}
 use Rattle.rd_style.specs.declared.kinds.Class.{Class}
 use Rattle.rd_style.specs.declared.kinds.Class.TheVariants.{Layer, Float, Atom, Block, Inline}
-use Rattle.rd_style.specs.Boxes.{class}
+use Rattle.rd_style.specs.Classes.{class}
 use Rattle.rd_keys.specs.Keys.{BoxKey, same_key}
 use Rattle.rd_keys.proofs.Keys.{same_key-sound, same_key-refl}
 use Rattle.rd_tree.specs.Forest.{empty, tree, has, IsApart}
-use Rattle.rd_tree.specs.Document.{Boxes}
+use Rattle.rd_tree.specs.Document.{BoxForest}
 use Rattle.rd_tree.proofs.Standing.{cases, differs_back, apart_back, from_left, from_right, either}
 use Rattle.rd_stack.specs.Spots.{BoxData, Spot, is_class, is, is_local, is_in_line, is_below, is_all_inline, is_inline, flows}
 use Rattle.rd_stack.specs.Painting.{Painted, steps}
@@ -21,7 +21,7 @@ abbrev pub key_in : BoxKey → List BoxData → Bool
 key_in k above = list_any (λ b. same_key b.key k) above
 
 -- No box of the forest is among those above it.
-abbrev pub AreOff : Boxes → List BoxData → Type 0
+abbrev pub AreOff : BoxForest → List BoxData → Type 0
 AreOff f above = (j : BoxKey) → has same_key j f ≡ true → key_in j above ≡ false
 
 pub in_below : (j k : BoxKey) (a b : Bool) → a ≡ true → (same_key j k || (a || b)) ≡ true
@@ -30,14 +30,14 @@ in_below j k a b h = from_right (same_key j k) (a || b) (from_left a b h)
 pub in_rest : (j k : BoxKey) (a b : Bool) → b ≡ true → (same_key j k || (a || b)) ≡ true
 in_rest j k a b h = from_right (same_key j k) (a || b) (from_right a b h)
 
-pub off_below : (k : BoxKey) (b : BoxData) (f : Boxes) (above : List BoxData) → b.key ≡ k → has same_key k f ≡ false → AreOff f above → AreOff f (b ∷ above)
+pub off_below : (k : BoxKey) (b : BoxData) (f : BoxForest) (above : List BoxData) → b.key ≡ k → has same_key k f ≡ false → AreOff f above → AreOff f (b ∷ above)
 off_below k b f above e h o j m =
     let d : same_key k j ≡ false = differs_back same_key same_key-sound same_key-refl f k j h m in
     rw (e, d) (o j m)
 
 module _ (canvas : Rectangle) where
   -- a box with all that it paints
-  abbrev pub painted_box : List BoxData → BoxData → Boxes → Painted
+  abbrev pub painted_box : List BoxData → BoxData → BoxForest → Painted
   painted_box above b children =
       let e : Spot = record { above = above; here = b } in
       record { at = e; order = steps canvas e (painted canvas (b ∷ above) children) }
@@ -57,7 +57,7 @@ module _ (canvas : Rectangle) where
   below_le j h xs = total-le (λ x. cond (key_in j x.at.above) (h x) 0) h xs (λ x. cond_le (key_in j x.at.above) (h x))
 
   -- below a key that is nowhere there is nothing
-  none_below : (j : BoxKey) (h : Painted → ℕ) (above : List BoxData) (f : Boxes) → key_in j above ≡ false → has same_key j f ≡ false → below_sum j h (painted canvas above f) ≡ 0
+  none_below : (j : BoxKey) (h : Painted → ℕ) (above : List BoxData) (f : BoxForest) → key_in j above ≡ false → has same_key j f ≡ false → below_sum j h (painted canvas above f) ≡ 0
   none_below j h above empty o n = refl
   none_below j h above (tree k d ch nx) o n =
       let s : (same_key j k ≡ false) × ((has same_key j ch || has same_key j nx) ≡ false) = either (same_key j k) (has same_key j ch || has same_key j nx) n in
@@ -88,13 +88,13 @@ module _ (canvas : Rectangle) where
     abbrev under_at : Spot → Painted → ℕ
     under_at c x = cond (is_local e x.at && flows x.at && is_all_inline c x.at) (v x) 0
 
-    line-under : (l f b i : Bool) (n : ℕ) → cond (l && f && b && i) n 0 ≡ cond b (cond (l && f && i) n 0) 0
-    line-under false f true i n = refl
-    line-under false f false i n = refl
-    line-under true false true i n = refl
-    line-under true false false i n = refl
-    line-under true true true i n = refl
-    line-under true true false i n = refl
+    line-with_children : (l f b i : Bool) (n : ℕ) → cond (l && f && b && i) n 0 ≡ cond b (cond (l && f && i) n 0) 0
+    line-with_children false f true i n = refl
+    line-with_children false f false i n = refl
+    line-with_children true false true i n = refl
+    line-with_children true false false i n = refl
+    line-with_children true true true i n = refl
+    line-with_children true true false i n = refl
 
     under_le : (l f i : Bool) (n : ℕ) → cond (l && f && i) n 0 ≤ cond (l && f) n 0
     under_le false f i n = omega arith
@@ -104,14 +104,14 @@ module _ (canvas : Rectangle) where
     total-line : (c : Spot) (xs : List Painted) → total (line_at c) xs ≡ below_sum c.here.key (under_at c) xs
     total-line c [] = refl
     total-line c (x ∷ xs) =
-        let h = line-under (is_local e x.at) (flows x.at) (is_below c x.at) (is_all_inline c x.at) (v x) in
+        let h = line-with_children (is_local e x.at) (flows x.at) (is_below c x.at) (is_all_inline c x.at) (v x) in
         omega (arith, h, total-line c xs)
 
     abbrev pub lines_in : List Painted → List Painted → ℕ
     lines_in whole cs = total (λ c. cond (is_local e c.at && is Block c.at) (total (line_at c.at) whole) 0) cs
 
     -- past a box that is not inline no line goes on
-    no_line : (c : Spot) (path : List BoxData) (f : Boxes) → list_all is_inline path ≡ false → total (under_at c) (painted canvas (path ++ c.here ∷ c.above) f) ≡ 0
+    no_line : (c : Spot) (path : List BoxData) (f : BoxForest) → list_all is_inline path ≡ false → total (under_at c) (painted canvas (path ++ c.here ∷ c.above) f) ≡ 0
     no_line c path empty h = refl
     no_line c path (tree k d ch nx) h =
         let above = path ++ c.here ∷ c.above in
@@ -131,7 +131,7 @@ module _ (canvas : Rectangle) where
         also true b h = h
         also false b h = refl
 
-    abbrev IsWhole : Boxes → List BoxData → List Painted → Type 0
+    abbrev IsWhole : BoxForest → List BoxData → List Painted → Type 0
     IsWhole f above whole = (j : BoxKey) → has same_key j f ≡ true → (h : Painted → ℕ) → below_sum j h whole ≡ below_sum j h (painted canvas above f)
 
     block_not_inline : (c : Class) → is_class Block c ≡ true → is_class Inline c ≡ false
@@ -142,7 +142,7 @@ module _ (canvas : Rectangle) where
     block_not_inline Inline h = cc
 
     -- The line of c and the lines of the blocks below it, together.
-    lines_once : (c : Spot) (path : List BoxData) (f : Boxes) (whole : List Painted) → IsApart same_key f → AreOff f (path ++ c.here ∷ c.above) → IsWhole f (path ++ c.here ∷ c.above) whole
+    lines_once : (c : Spot) (path : List BoxData) (f : BoxForest) (whole : List Painted) → IsApart same_key f → AreOff f (path ++ c.here ∷ c.above) → IsWhole f (path ++ c.here ∷ c.above) whole
         → total (under_at c) (painted canvas (path ++ c.here ∷ c.above) f) + lines_in whole (painted canvas (path ++ c.here ∷ c.above) f) ≤ total flow_at (painted canvas (path ++ c.here ∷ c.above) f)
     lines_once c path empty whole a o w = omega arith
     lines_once c path (tree k d ch nx) whole a o w =
@@ -202,7 +202,7 @@ module _ (canvas : Rectangle) where
         second false b h = cc
 
     -- All lines that e paints weigh no more than the boxes that flow in them.
-    pub lines_fit : (f : Boxes) → IsApart same_key f → AreOff f (e.here ∷ e.above)
+    pub lines_fit : (f : BoxForest) → IsApart same_key f → AreOff f (e.here ∷ e.above)
         → total (line_at e) (painted canvas (e.here ∷ e.above) f) + lines_in (painted canvas (e.here ∷ e.above) f) (painted canvas (e.here ∷ e.above) f) ≤ total flow_at (painted canvas (e.here ∷ e.above) f)
     lines_fit f a o =
         let below = painted canvas (e.here ∷ e.above) f in

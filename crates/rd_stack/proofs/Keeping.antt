@@ -12,7 +12,7 @@ use Rattle.rd_item.specs.Leaves.{covers}
 use Rattle.rd_graph.proofs.Listing.{Has, has_from, contains_from, has_left, has_right, has_filter, filter_has}
 use Rattle.rd_list.specs.Wrappers.{Wrapper}
 use Rattle.rd_list.specs.Entries.{Entries, nil, leaf, group, flat, routes, only, grouped_if_any}
-use Rattle.rd_list.specs.Lists.{StandsFor, groups, these, same_leaf, meet, without, composed, is_hit, is_outline, last}
+use Rattle.rd_list.specs.Lists.{StandsFor, groups, pair_in_order, same_leaf, leaves_meet, without_touched, composed, is_hit, is_outline, last}
 use Rattle.rd_list.proofs.Levelling.{flat-only}
 use Rattle.rd_list.proofs.Routing.{only_filled}
 use Rattle.rd_list.proofs.Narrowing.{only_only, filter_swap}
@@ -131,7 +131,7 @@ module _ (p : Leaf → Bool) where
     in_whole : (l : Leaf) → Contains (flat (only p fresh)) l → Contains (flat fresh) l
     in_whole l c = contains_from (flat fresh) l (filter_has p (flat fresh) l (has_from (filter p (flat fresh)) l (subst (λ ls. Contains ls l) (flat-only p fresh) c))).0
 
-    order_left : (a b : Leaf) → Contains (flat (only p fresh)) a → Contains (flat (only p fresh)) b → IsTrue (meet a b) → these a b (flat (only p kept)) ≡ these a b (flat (only p fresh))
+    order_left : (a b : Leaf) → Contains (flat (only p fresh)) a → Contains (flat (only p fresh)) b → IsTrue (leaves_meet a b) → pair_in_order a b (flat (only p kept)) ≡ pair_in_order a b (flat (only p fresh))
     order_left a b c d m =
         let these_two : Leaf → Bool = λ l. same_leaf a l || same_leaf b l in
         ap (filter these_two) (flat-only p kept)
@@ -169,14 +169,14 @@ module _ (touched : BoxKey → Bool) (x y : ℤ) where
   one_clear true c h = h refl
   one_clear false c h = refl
 
-  clear_left : (xs : Entries Wrapper Leaf) → IsClear touched xs x y → only (at x y) xs ≡ only (at x y) (without touched xs)
+  clear_left : (xs : Entries Wrapper Leaf) → IsClear touched xs x y → only (at x y) xs ≡ only (at x y) (without_touched touched xs)
   clear_left xs h =
       only_where (at x y) (λ l. not (touched l.owner) && covers l x y) xs
       (each_from_all (λ l. covers l x y ≡ (not (touched l.owner) && covers l x y)) xs
       (λ l u. one_clear (touched l.owner) (covers l x y) (All-contains (λ l. touched l.owner ≡ true → covers l x y ≡ false) (flat xs) l h (contains_from (flat xs) l u))))
       ∙ sym (only_only (λ l. not (touched l.owner)) (at x y) xs)
 
-  covering_same : (before now : Entries Wrapper Leaf) → without touched before ≡ without touched now → IsClear touched before x y → IsClear touched now x y → only (at x y) before ≡ only (at x y) now
+  covering_same : (before now : Entries Wrapper Leaf) → without_touched touched before ≡ without_touched touched now → IsClear touched before x y → IsClear touched now x y → only (at x y) before ≡ only (at x y) now
   covering_same before now e h k = clear_left before h ∙ (ap (only (at x y)) e ∙ sym (clear_left now k))
 
   hits_at : (xs : Entries Wrapper Leaf) → filter (is_hit x y) (flat xs) ≡ filter (λ l. l.hits) (filter (λ l. not (is_outline l.part)) (flat (only (at x y) xs)))

@@ -7,9 +7,9 @@ use Rattle.rd_keys.specs.declared.entry.Part.{Part}
 use Rattle.rd_keys.specs.declared.entry.Part.TheVariants.{Back, Border, Content, Outline}
 use Rattle.rd_item.specs.declared.leaf.Leaf.{Leaf}
 use Rattle.rd_list.specs.Wrappers.{Wrapper}
-use Rattle.rd_list.specs.Entries.{Entries, nil, leaf, group, ◌▷◌, each, singly, flat, has_leaf, only, grouped_if_any}
+use Rattle.rd_list.specs.Entries.{Entries, nil, leaf, group, ◌▷◌, each, option_entry, flat, has_leaf, only, grouped_if_any}
 use Rattle.rd_tree.specs.Forest.{empty, tree}
-use Rattle.rd_tree.specs.Document.{Boxes}
+use Rattle.rd_tree.specs.Document.{BoxForest}
 use Rattle.rd_stack.specs.Spots.{BoxData, Spot, is, is_root, is_context, is_local, is_layer, is_in_line}
 use Rattle.rd_stack.specs.Parts.{leaf_of}
 use Rattle.rd_stack.specs.Painting.{Painted, by_level, put, is_lower, grouped, is_translucent, when, paint, back_border, inline_part, flow, steps, layers_of, line_of, is_negative, is_positive, is_zero, is_blocky}
@@ -30,7 +30,7 @@ module _ (Q : Leaf → Type 0) where
   leaf_join (leaf l xs) ys h k = (h.0, leaf_join xs ys h.1 k)
   leaf_join (group g inner xs) ys h k = (h.0, leaf_join xs ys h.1 k)
 
-  leaf_single : (o : Option Leaf) → OfLeaf o → EachLeaf (singly o)
+  leaf_single : (o : Option Leaf) → OfLeaf o → EachLeaf (option_entry o)
   leaf_single None h = tt
   leaf_single (Some l) h = (h, tt)
 
@@ -117,11 +117,11 @@ module _ (Q : Leaf → Type 0) where
         (kind (λ x. paint canvas Outline x.at) (λ x. is_local e x.at) (λ x. is Block x.at || is Inline x.at) (λ x g. part Outline x.at g.0) below h)))))))))))
 
     -- The parts of each box of a forest.
-    abbrev pub EachBox : List BoxData → Boxes → Type 0
+    abbrev pub EachBox : List BoxData → BoxForest → Type 0
     EachBox above empty = Unit {0}
     EachBox above (tree k d below rest) = OfParts (record { above = above; here = box k d }) × EachBox (box k d ∷ above) below × EachBox above rest
 
-    in_painted : (above : List BoxData) (f : Boxes) → EachBox above f → AllOf IsGood (painted canvas above f)
+    in_painted : (above : List BoxData) (f : BoxForest) → EachBox above f → AllOf IsGood (painted canvas above f)
     in_painted above empty h = tt
     in_painted above (tree k d below rest) h =
         let e : Spot = record { above = above; here = box k d } in
@@ -129,7 +129,7 @@ module _ (Q : Leaf → Type 0) where
         ((h.0, in_steps e (painted canvas (box k d ∷ above) below) h.0 inside), all_append IsGood (painted canvas (box k d ∷ above) below) (painted canvas above rest) inside (in_painted above rest h.2))
 
     -- What holds of the parts of each box holds of every leaf that the root paints.
-    pub in_order : (f : Boxes) → EachBox [] f → EachLeaf (root_order canvas f)
+    pub in_order : (f : BoxForest) → EachBox [] f → EachLeaf (root_order canvas f)
     in_order empty h = tt
     in_order (tree k d below rest) h =
         let e : Spot = record { above = []; here = box k d } in

@@ -13,7 +13,7 @@ use Rattle.rd_item.specs.Leaves.{covers}
 use Rattle.rd_graph.proofs.Listing.{Has, has_from, contains_from, has_filter, filter_has, has_map}
 use Rattle.rd_list.specs.Wrappers.{Wrapper}
 use Rattle.rd_list.specs.Entries.{Entries, flat, routes, only}
-use Rattle.rd_list.specs.Lists.{StandsFor, groups, these, same_leaf, same_part, is_outline, is_hit, last, composed}
+use Rattle.rd_list.specs.Lists.{StandsFor, groups, pair_in_order, same_leaf, same_part, is_outline, is_hit, last, composed}
 use Rattle.rd_list.proofs.Narrowing.{filter_swap}
 use Rattle.rd_stack.specs.Locality.{LocalityLaw}
 use Rattle.rd_stack.proofs.Filters.{filter_both}
@@ -105,7 +105,7 @@ module _ (kept fresh : Entries Wrapper Leaf) (s : StandsFor kept fresh) where
     in_flat w h = contains_from (flat fresh) w.1 (subst (λ ls. Has ls w.1) (flat-ways fresh) (has_map leaf_of_way (ways fresh) w h))
 
     ordered_there : (a b : Way) → Has (filter shown (ways fresh)) a → Has (filter shown (ways fresh)) b
-        → these a.1 b.1 (map leaf_of_way (filter shown (ways kept))) ≡ these a.1 b.1 (map leaf_of_way (filter shown (ways fresh)))
+        → pair_in_order a.1 b.1 (map leaf_of_way (filter shown (ways kept))) ≡ pair_in_order a.1 b.1 (map leaf_of_way (filter shown (ways fresh)))
     ordered_there a b h k =
         let r = filter_has shown (ways fresh) a h in
         let q = filter_has shown (ways fresh) b k in

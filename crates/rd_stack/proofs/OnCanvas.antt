@@ -2,10 +2,10 @@
 use Rattle.std.proofs.Common.{◌≡◌, refl, ap, ◌∙◌, subst, Bool, true, false, not, ◌&&◌, cond, List, [], ◌∷◌, ◌+◌, ◌≤◌, ℤ, pos, ◌-ℤ◌, ◌≤ℤ◌, arith}
 use Rattle.std.proofs.lemmas.Int.{ints}
 use Rattle.std.specs.Prelude.{Option, Some, None, IsTrue, int_le}
-use Rattle.rd_geom.specs.Plane.{Rectangle, right, bottom, has_none, common, holds_pixel, IsWithin}
+use Rattle.rd_geom.specs.Plane.{Rectangle, right, bottom, has_none, meet, holds_pixel, IsWithin}
 use Rattle.rd_geom.proofs.Pixels.{At, at_holds, holds_at, common_pixels, HasSome, some_of, first_at, last_at, shares_meets}
 use Rattle.rd_geom.specs.declared.color.Color.{Color}
-use Rattle.rd_style.specs.Boxes.{clips}
+use Rattle.rd_style.specs.Classes.{clips}
 use Rattle.rd_clip.specs.Clipping as clipping
 use Rattle.rd_clip.specs.Clipping.{Entered, clipped, clipped_by, containing_chain, sought}
 use Rattle.rd_keys.specs.Keys.{same_key}
@@ -14,7 +14,7 @@ use Rattle.rd_keys.specs.declared.entry.Part.TheVariants.{Back, Border, Content,
 use Rattle.rd_item.specs.declared.leaf.Leaf.{Leaf}
 use Rattle.rd_item.specs.declared.leaf.Shape.{Shape}
 use Rattle.rd_tree.specs.Forest.{IsApart}
-use Rattle.rd_tree.specs.Document.{Boxes}
+use Rattle.rd_tree.specs.Document.{BoxForest}
 use Rattle.rd_stack.specs.Spots.{Spot}
 use Rattle.rd_stack.specs.Clips.{clip_of, entered}
 use Rattle.rd_stack.specs.Parts.{leaf_of, shown, shape_of, is_seen, takes_hits}
@@ -23,7 +23,7 @@ use Rattle.rd_stack.specs.Fresh.{root_order}
 use Rattle.rd_stack.specs.Laws.{IsOnCanvas}
 use Rattle.rd_stack.proofs.Weights.{Weighs}
 use Rattle.rd_stack.proofs.Takes.{root_fit}
-use Rattle.rd_stack.proofs.Counted.{leaves_that, that-join, that-group, that-singly, leaf_weight, all-none, one}
+use Rattle.rd_stack.proofs.Counted.{leaves_that, that-join, that-group, that-option_entry, leaf_weight, all-none, one}
 
 -- a test of rectangles: has the first a pixel, and does it lie in the second?
 abbrev pub lies_in : Rectangle → Rectangle → Bool
@@ -87,12 +87,12 @@ on_canvas canvas l h =
         let q : At v x y = holds_at v x y p in
         at_holds canvas x y (record { left = omega (arith, ints); right = omega (arith, ints); top = omega (arith, ints); bottom = omega (arith, ints) })
 
-within_first : (a b : Rectangle) → IsWithin (common a b) a
+within_first : (a b : Rectangle) → IsWithin (meet a b) a
 within_first a b x y h =
     let t : IsTrue (holds_pixel a x y && holds_pixel b x y) = subst (λ t. IsTrue t) (common_pixels a b x y) h in
     grind arith
 
-within_second : (a b : Rectangle) → IsWithin (common a b) b
+within_second : (a b : Rectangle) → IsWithin (meet a b) b
 within_second a b x y h =
     let t : IsTrue (holds_pixel a x y && holds_pixel b x y) = subst (λ t. IsTrue t) (common_pixels a b x y) h in
     grind arith
@@ -101,7 +101,7 @@ clipped_within : (canvas : Rectangle) (chain : List Entered) → IsWithin (clipp
 clipped_within canvas [] x y h = h
 clipped_within canvas (b ∷ bs) x y h = clipped_within canvas bs x y (one_less (clips b.style b.root) (clipped canvas bs) (clipping.padding_box b.style b.rect) x y h)
   where
-    one_less : (c : Bool) (r q : Rectangle) → IsWithin (cond c (common r q) r) r
+    one_less : (c : Bool) (r q : Rectangle) → IsWithin (cond c (meet r q) r) r
     one_less true r q = within_first r q
     one_less false r q = λ x y h. h
 
@@ -109,17 +109,17 @@ module _ (canvas : Rectangle) where
   abbrev test : Leaf → Bool
   test l = not (lies_in canvas l.visible)
 
-  visible_lies : (x : Spot) (outer : Rectangle) → has_none (common outer (clip_of canvas x)) ≡ false → lies_in canvas (common outer (clip_of canvas x)) ≡ true
+  visible_lies : (x : Spot) (outer : Rectangle) → has_none (meet outer (clip_of canvas x)) ≡ false → lies_in canvas (meet outer (clip_of canvas x)) ≡ true
   visible_lies x outer e =
-      lies canvas (common outer (clip_of canvas x)) e
+      lies canvas (meet outer (clip_of canvas x)) e
       (λ p q h. clipped_within canvas (containing_chain (sought x.here.style.position) (entered x.above)) p q (within_second outer (clip_of canvas x) p q h))
 
   shown-lies : (x : Spot) (part : Part) (s : Option (Shape × Color)) → leaf_weight test (shown canvas x part s) ≡ 0
   shown-lies x part None = refl
-  shown-lies x part (Some s) = by (has_none (common s.0.outer (clip_of canvas x))) refl
+  shown-lies x part (Some s) = by (has_none (meet s.0.outer (clip_of canvas x))) refl
     where
-      by : (b : Bool) → has_none (common s.0.outer (clip_of canvas x)) ≡ b
-          → leaf_weight test (cond b None (Some (record { owner = x.here.key; part = part; visible = common s.0.outer (clip_of canvas x); shape = s.0; color = s.1; hits = takes_hits x.here.style.pointer }))) ≡ 0
+      by : (b : Bool) → has_none (meet s.0.outer (clip_of canvas x)) ≡ b
+          → leaf_weight test (cond b None (Some (record { owner = x.here.key; part = part; visible = meet s.0.outer (clip_of canvas x); shape = s.0; color = s.1; hits = takes_hits x.here.style.pointer }))) ≡ 0
       by true e = refl
       by false e = ap (λ b. one (not b)) (visible_lies x s.0.outer e)
 
@@ -132,10 +132,10 @@ module _ (canvas : Rectangle) where
 
   lying_parts : (x : Spot) → 0 + (leaves_that test (paint canvas Back x) + leaves_that test (paint canvas Border x) + leaves_that test (paint canvas Content x) + leaves_that test (paint canvas Outline x)) ≤ 0
   lying_parts x =
-      let s = λ (part : Part). that-singly test (leaf_of canvas x part) ∙ leaf-lies x part in
+      let s = λ (part : Part). that-option_entry test (leaf_of canvas x part) ∙ leaf-lies x part in
       omega (arith, s Back, s Border, s Content, s Outline)
 
-  pub none_off : (f : Boxes) → IsApart same_key f → leaves_that test (root_order canvas f) ≤ 0
+  pub none_off : (f : BoxForest) → IsApart same_key f → leaves_that test (root_order canvas f) ≤ 0
   none_off f apart =
       let w : Weighs canvas (leaves_that test) (λ b. 0) (λ b. 0) = record { none = refl; join = that-join test; group = that-group test; parts = lying_parts } in
       omega (arith, root_fit canvas (leaves_that test) (λ b. 0) (λ b. 0) w f apart, all-none f)

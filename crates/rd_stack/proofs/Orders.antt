@@ -5,7 +5,7 @@ use Rattle.std.proofs.lemmas.Map.Keys.{IsDistinct-head, IsDistinct-tail}
 use Rattle.rd_keys.proofs.Keys.{same_key-refl}
 use Rattle.rd_item.specs.declared.leaf.Leaf.{Leaf}
 use Rattle.rd_graph.proofs.Listing.{Has}
-use Rattle.rd_list.specs.Lists.{same_leaf, these}
+use Rattle.rd_list.specs.Lists.{same_leaf, pair_in_order}
 use Rattle.rd_list.proofs.Naming.{same_part-refl}
 use Rattle.rd_stack.proofs.Members.{first_kept, later_kept}
 
@@ -33,7 +33,7 @@ module _ {R : Type 0} (g : R → Leaf) where
       cc
 
   pub in_order : (ks fs : List R) → IsDistinct same ks → IsDistinct same fs → ((x : R) → Has ks x → Has fs x) → ((x : R) → Has fs x → Has ks x)
-      → ((a b : R) → Has fs a → Has fs b → these (g a) (g b) (map g ks) ≡ these (g a) (g b) (map g fs)) → ks ≡ fs
+      → ((a b : R) → Has fs a → Has fs b → pair_in_order (g a) (g b) (map g ks) ≡ pair_in_order (g a) (g b) (map g fs)) → ks ≡ fs
   in_order [] [] d c m n o = refl
   in_order [] (f ∷ fs) d c m n o = absurd (n f (inl refl))
   in_order (k ∷ ks) [] d c m n o = absurd (m k (inl refl))

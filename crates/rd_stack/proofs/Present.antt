@@ -6,7 +6,7 @@ use Rattle.rd_geom.specs.Plane.{Rectangle}
 use Rattle.rd_geom.specs.Canvas.{canvas_of}
 use Rattle.rd_style.specs.declared.kinds.Class.{Class}
 use Rattle.rd_style.specs.declared.kinds.Class.TheVariants.{Layer, Float, Atom, Block, Inline}
-use Rattle.rd_style.specs.Boxes.{class, real}
+use Rattle.rd_style.specs.Classes.{class, real}
 use Rattle.rd_keys.specs.Keys.{BoxKey, same_key}
 use Rattle.rd_keys.proofs.Keys.{same_key-refl}
 use Rattle.rd_keys.specs.declared.entry.Part.{Part}
@@ -14,10 +14,10 @@ use Rattle.rd_keys.specs.declared.entry.Part.TheVariants.{Back, Border, Content,
 use Rattle.rd_item.specs.declared.leaf.Leaf.{Leaf}
 use Rattle.rd_graph.proofs.Listing.{Has, has_from, contains_from, has_left, has_right, has_either, has_filter}
 use Rattle.rd_list.specs.Wrappers.{Wrapper}
-use Rattle.rd_list.specs.Entries.{Entries, nil, leaf, group, ◌▷◌, each, singly, flat, has_leaf}
+use Rattle.rd_list.specs.Entries.{Entries, nil, leaf, group, ◌▷◌, each, option_entry, flat, has_leaf}
 use Rattle.rd_tree.specs.Forest.{empty, tree}
 use Rattle.rd_tree.specs.declared.node.Item.{Item}
-use Rattle.rd_tree.specs.Document.{Boxes}
+use Rattle.rd_tree.specs.Document.{BoxForest}
 use Rattle.rd_tree.proofs.Standing.{cases}
 use Rattle.rd_stack.specs.Spots.{BoxData, Spot, is_none, is_root, is_context, is_class, is, is_plain, is_inline, is_no_context, is_local, is_layer, is_in_line}
 use Rattle.rd_stack.specs.Parts.{leaf_of}
@@ -90,7 +90,7 @@ module _ (canvas : Rectangle) (l : Leaf) where
   in_each f (y ∷ ys) x (inl e) h = first (f y) (each f ys) (subst (λ z. Holds (f z)) (sym e) h)
   in_each f (y ∷ ys) x (inr u) h = second (f y) (each f ys) (in_each f ys x u h)
 
-  in_single : (o : Option Leaf) → o ≡ Some l → Holds (singly o)
+  in_single : (o : Option Leaf) → o ≡ Some l → Holds (option_entry o)
   in_single None e = cc
   in_single (Some m) e = inl (is_one m e)
     where
@@ -303,7 +303,7 @@ module _ (canvas : Rectangle) (l : Leaf) where
   Enters Block context unblocked O I = (unblocked ≡ true) × O
   Enters Inline context unblocked O I = (unblocked ≡ true) × O
 
-  abbrev TakenOf : List BoxData → Bool → Bool → Boxes → Type 0
+  abbrev TakenOf : List BoxData → Bool → Bool → BoxForest → Type 0
   TakenOf above context unblocked empty = ⊥
   TakenOf above context unblocked (tree k d below rest) =
       let b = box k d in
@@ -320,7 +320,7 @@ module _ (canvas : Rectangle) (l : Leaf) where
   enters_more Block x u x' u' O I I' f g h (e, o) = (g e, o)
   enters_more Inline x u x' u' O I I' f g h (e, o) = (g e, o)
 
-  taken_more : (above : List BoxData) (x u x' u' : Bool) (f : Boxes) → (x ≡ true → x' ≡ true) → (u ≡ true → u' ≡ true) → TakenOf above x u f → TakenOf above x' u' f
+  taken_more : (above : List BoxData) (x u x' u' : Bool) (f : BoxForest) → (x ≡ true → x' ≡ true) → (u ≡ true → u' ≡ true) → TakenOf above x u f → TakenOf above x' u' f
   taken_more above x u x' u' empty f g t = absurd t
   taken_more above x u x' u' (tree k d below rest) f g (inl t) = inl (enters_more (class d.style false) x u x' u' _ _ _ f g (λ i. i) t)
   taken_more above x u x' u' (tree k d below rest) f g (inr (inl t)) =
@@ -331,15 +331,15 @@ module _ (canvas : Rectangle) (l : Leaf) where
       (λ e. both p u' (first_true p u e) (g (second_true p u e))) t))
   taken_more above x u x' u' (tree k d below rest) f g (inr (inr t)) = inr (inr (taken_more above x u x' u' rest f g t))
 
-  abbrev Split : List BoxData → Boxes → Type 0
+  abbrev Split : List BoxData → BoxForest → Type 0
   Split above f = TakenOf above false true f ⊎ TakenOf above true false f
 
-  all_of : (above : List BoxData) (f : Boxes) → Split above f → TakenOf above true true f
+  all_of : (above : List BoxData) (f : BoxForest) → Split above f → TakenOf above true true f
   all_of above f (inl t) = taken_more above false true true true f (λ e. refl) (λ e. refl) t
   all_of above f (inr t) = taken_more above true false true true f (λ e. refl) (λ e. refl) t
 
   -- Each leaf is taken outside of the layers or inside of them.
-  split : (above : List BoxData) (f : Boxes) → IsLeafOf canvas l above f → Split above f
+  split : (above : List BoxData) (f : BoxForest) → IsLeafOf canvas l above f → Split above f
   split above empty h = absurd h
   split above (tree k d below rest) (inl o) = by (class d.style false) refl
     where
@@ -509,7 +509,7 @@ module _ (canvas : Rectangle) (l : Leaf) where
   and_right false h = h
 
   -- What e takes of the boxes below it is painted.
-  down : (e : Spot) (whole : List Painted) (path : List BoxData) (f : Boxes) → ((y : Painted) → Has (painted canvas (path ++ e.here ∷ e.above) f) y → Has whole y)
+  down : (e : Spot) (whole : List Painted) (path : List BoxData) (f : BoxForest) → ((y : Painted) → Has (painted canvas (path ++ e.here ∷ e.above) f) y → Has whole y)
       → (list_all is_plain path ≡ true → Line e whole (path ++ e.here ∷ e.above))
       → TakenOf (path ++ e.here ∷ e.above) (is_context e && list_all is_no_context path) (list_all is_plain path) f → Holds (steps canvas e whole)
   down e whole path empty sub line t = absurd t
@@ -537,7 +537,7 @@ module _ (canvas : Rectangle) (l : Leaf) where
       down e whole path nx (λ y u. sub y (inr (has_right (painted canvas (box k d ∷ above) ch) (painted canvas above nx) y u))) line t
 
   -- Each leaf of each box is in the list of the root.
-  present : (k : BoxKey) (d : Item) (f : Boxes) → IsLeafOf canvas l [] (tree k d f empty) → Holds (root_order canvas (tree k d f empty))
+  present : (k : BoxKey) (d : Item) (f : BoxForest) → IsLeafOf canvas l [] (tree k d f empty) → Holds (root_order canvas (tree k d f empty))
   present k d f h = in_grouped (record { at = at; order = steps canvas at whole }) (by h)
     where
       at : Spot
@@ -554,7 +554,7 @@ module _ (canvas : Rectangle) (l : Leaf) where
       by (inr (inr o)) = absurd o
 
 -- Each leaf of the list is one of a box.
-of_boxes : (canvas : Rectangle) (Q : Leaf → Type 0) (above : List BoxData) (f : Boxes) → ((l : Leaf) → IsLeafOf canvas l above f → Q l) → EachBox Q canvas above f
+of_boxes : (canvas : Rectangle) (Q : Leaf → Type 0) (above : List BoxData) (f : BoxForest) → ((l : Leaf) → IsLeafOf canvas l above f → Q l) → EachBox Q canvas above f
 of_boxes canvas Q above empty h = tt
 of_boxes canvas Q above (tree k d below rest) h = (
   (λ part. by (leaf_of canvas (record { above = above; here = box k d }) part) (λ l e. h l (inl (part, e)))),

@@ -5,25 +5,25 @@ use Rattle.std.specs.Option.{option_map_or}
 use Rattle.rd_geom.specs.Plane.{Rectangle}
 use Rattle.rd_geom.specs.Canvas.{canvas_of}
 use Rattle.rd_style.specs.declared.styles.StyleChange.{StyleChange}
-use Rattle.rd_style.specs.Boxes.{clips}
+use Rattle.rd_style.specs.Classes.{clips}
 use Rattle.rd_style.specs.Changes.{whole}
 use Rattle.rd_keys.specs.Keys.{BoxKey, same_key}
 use Rattle.rd_keys.proofs.Keys.{same_key-sound, same_key-refl}
 use Rattle.rd_item.specs.declared.leaf.Leaf.{Leaf}
 use Rattle.rd_list.specs.Wrappers.{Wrapper}
 use Rattle.rd_list.specs.Entries.{Entries, nil}
-use Rattle.rd_list.specs.Lists.{without}
+use Rattle.rd_list.specs.Lists.{without_touched}
 use Rattle.rd_list.proofs.Narrowing.{only_only}
-use Rattle.rd_tree.specs.Forest.{empty, tree, ◌▷◌, has, item_of, children, under, amid, branch, each_if, at_box, at_subtree, in_subtree, IsApart}
+use Rattle.rd_tree.specs.Forest.{empty, tree, ◌▷◌, has, item_of, children, with_children, insert_among, branch, map_where, at_box, at_subtree, in_subtree, IsApart}
 use Rattle.rd_tree.specs.Forest as forest
 use Rattle.rd_tree.specs.declared.node.Item.{Item}
-use Rattle.rd_tree.specs.Document.{Document, Boxes, IsRooted, is_touched, with_child}
+use Rattle.rd_tree.specs.Document.{Document, BoxForest, IsRooted, is_touched, with_child}
 use Rattle.rd_tree.specs.Edits.{restyle, with_rect, names_any, restyled, replaced, moved}
 use Rattle.rd_tree.specs.Works.{touch, move_by}
 use Rattle.rd_tree.proofs.Standing.{cases, never, from_left, from_right, join-empty, out_of_children, differs}
 use Rattle.rd_tree.proofs.Without.{apart_without}
 use Rattle.rd_tree.proofs.Each.{has-each, children-each, apart_each}
-use Rattle.rd_tree.proofs.EachBranch.{without-within, within_subtree}
+use Rattle.rd_tree.proofs.EachBranch.{without_touched-within, within_subtree}
 use Rattle.rd_stack.specs.Fresh.{root_order}
 use Rattle.rd_stack.specs.Cut.{pruned, all_cut, IsClosed}
 use Rattle.rd_stack.specs.Bare.{bare, bare_item}
@@ -43,98 +43,98 @@ module _ (gone touched : BoxKey → Bool) (more : (k : BoxKey) → gone k ≡ tr
       by true e = ap not (sym (more l.owner e))
       by false e = refl
 
-  pub without_more : (xs : Entries Wrapper Leaf) → without touched (without gone xs) ≡ without touched xs
+  pub without_more : (xs : Entries Wrapper Leaf) → without_touched touched (without_touched gone xs) ≡ without_touched touched xs
   without_more xs = only_only (λ l. not (gone l.owner)) (λ l. not (touched l.owner)) xs ∙ only_agree (λ l. not (gone l.owner) && not (touched l.owner)) (λ l. not (touched l.owner)) xs both_tests
 
 abbrev none : BoxKey → Bool
 none k = false
 
-pruned-none : (f : Boxes) → pruned none f ≡ f
+pruned-none : (f : BoxForest) → pruned none f ≡ f
 pruned-none empty = refl
 pruned-none (tree k d below rest) = λ i. tree k d (pruned-none below i) (pruned-none rest i)
 
 -- One box that is the first and has no siblings.
-abbrev IsTreeOf : BoxKey → Boxes → Type 0
-IsTreeOf root f = (d : Item) × (below : Boxes) × (f ≡ tree root d below empty)
+abbrev IsTreeOf : BoxKey → BoxForest → Type 0
+IsTreeOf root f = (d : Item) × (below : BoxForest) × (f ≡ tree root d below empty)
 
-tree_each : (t : BoxKey → Bool) (h : Item → Item) (root : BoxKey) (f : Boxes) → IsTreeOf root f → IsTreeOf root (each_if t h f)
-tree_each t h root f r = (cond (t root) (h r.0) r.0, each_if t h r.1, ap (each_if t h) r.2)
+tree_each : (t : BoxKey → Bool) (h : Item → Item) (root : BoxKey) (f : BoxForest) → IsTreeOf root f → IsTreeOf root (map_where t h f)
+tree_each t h root f r = (cond (t root) (h r.0) r.0, map_where t h r.1, ap (map_where t h) r.2)
 
-tree_without : (k root : BoxKey) (f : Boxes) → same_key k root ≡ false → IsTreeOf root f → IsTreeOf root (forest.without same_key k f)
-tree_without k root f n r = (r.0, forest.without same_key k r.1, ap (forest.without same_key k) r.2 ∙ rw n refl)
+tree_without : (k root : BoxKey) (f : BoxForest) → same_key k root ≡ false → IsTreeOf root f → IsTreeOf root (forest.without_branch same_key k f)
+tree_without k root f n r = (r.0, forest.without_branch same_key k r.1, ap (forest.without_branch same_key k) r.2 ∙ rw n refl)
 
-tree_under : (p : BoxKey) (g : Boxes) (root : BoxKey) (f : Boxes) → IsTreeOf root f → IsTreeOf root (under same_key p g f)
-tree_under p g root f r = (r.0, cond (same_key p root) g (under same_key p g r.1), ap (under same_key p g) r.2 ∙ by (same_key p root))
+tree_under : (p : BoxKey) (g : BoxForest) (root : BoxKey) (f : BoxForest) → IsTreeOf root f → IsTreeOf root (with_children same_key p g f)
+tree_under p g root f r = (r.0, cond (same_key p root) g (with_children same_key p g r.1), ap (with_children same_key p g) r.2 ∙ by (same_key p root))
   where
-    by : (b : Bool) → cond b (tree root r.0 g empty) (tree root r.0 (under same_key p g r.1) empty) ≡ tree root r.0 (cond b g (under same_key p g r.1)) empty
+    by : (b : Bool) → cond b (tree root r.0 g empty) (tree root r.0 (with_children same_key p g r.1) empty) ≡ tree root r.0 (cond b g (with_children same_key p g r.1)) empty
     by true = refl
     by false = refl
 
 module _ (canvas : Rectangle) (cut gone : BoxKey → Bool) (within : (k : BoxKey) → cut k ≡ true → gone k ≡ true) where
-  left_of : (root : BoxKey) (f : Boxes) → IsTreeOf root f → IsClosed cut f → cut root ≡ false → without gone (root_order canvas f) ≡ root_order canvas (bare gone true (pruned cut f))
+  left_of : (root : BoxKey) (f : BoxForest) → IsTreeOf root f → IsClosed cut f → cut root ≡ false → without_touched gone (root_order canvas f) ≡ root_order canvas (bare gone true (pruned cut f))
   left_of root f r c n =
       let c2 : IsClosed cut (tree root r.0 r.1 empty) = subst (λ z. IsClosed cut z) r.2 c in
-      subst (λ z. without gone (root_order canvas z) ≡ root_order canvas (bare gone true (pruned cut z))) (sym r.2) (order-left cut gone within canvas root r.0 r.1 c2.1 n)
+      subst (λ z. without_touched gone (root_order canvas z) ≡ root_order canvas (bare gone true (pruned cut z))) (sym r.2) (order-left cut gone within canvas root r.0 r.1 c2.1 n)
 
-gone_of : (canvas : Rectangle) (gone : BoxKey → Bool) (root : BoxKey) (f : Boxes) → IsTreeOf root f → all_cut gone f ≡ true → gone root ≡ true → without gone (root_order canvas f) ≡ nil
+gone_of : (canvas : Rectangle) (gone : BoxKey → Bool) (root : BoxKey) (f : BoxForest) → IsTreeOf root f → all_cut gone f ≡ true → gone root ≡ true → without_touched gone (root_order canvas f) ≡ nil
 gone_of canvas gone root f r a g =
     let a2 : all_cut gone (tree root r.0 r.1 empty) ≡ true = subst (λ z. all_cut gone z ≡ true) r.2 a in
     let low : all_cut gone r.1 ≡ true = below_all (gone root) (all_cut gone r.1) a2 in
-    subst (λ z. without gone (root_order canvas z) ≡ nil) (sym r.2) (order-gone gone canvas root r.0 r.1 g low (closed_all gone r.1 low))
+    subst (λ z. without_touched gone (root_order canvas z) ≡ nil) (sym r.2) (order-gone gone canvas root r.0 r.1 g low (closed_all gone r.1 low))
   where
     below_all : (a b : Bool) → (a && b && true) ≡ true → b ≡ true
     below_all true true h = refl
     below_all true false h = h
     below_all false b h = absurd (never false h refl)
 
-in-each : (t : BoxKey → Bool) (h : Item → Item) (j k : BoxKey) (f : Boxes) → in_subtree same_key j k (each_if t h f) ≡ in_subtree same_key j k f
+in-each : (t : BoxKey → Bool) (h : Item → Item) (j k : BoxKey) (f : BoxForest) → in_subtree same_key j k (map_where t h f) ≡ in_subtree same_key j k f
 in-each t h j k f = ap (λ z. same_key j k || z) (ap (has same_key j) (children-each t h same_key k f) ∙ has-each t h same_key j (children same_key k f))
 
 -- How far an edit of one box touches.
-pub restyled_whole : (root k : BoxKey) (c : StyleChange) (f : Boxes) (d : Item) → item_of same_key k f ≡ Some d → whole d.style (same_key k root) c ≡ true → restyled root k c f ≡ at_subtree same_key k touch (at_box same_key k (restyle c) f)
+pub restyled_whole : (root k : BoxKey) (c : StyleChange) (f : BoxForest) (d : Item) → item_of same_key k f ≡ Some d → whole d.style (same_key k root) c ≡ true → restyled root k c f ≡ at_subtree same_key k touch (at_box same_key k (restyle c) f)
 restyled_whole root k c f d e w = rw (e, w) refl
 
-pub restyled_alone : (root k : BoxKey) (c : StyleChange) (f : Boxes) (d : Item) → item_of same_key k f ≡ Some d → whole d.style (same_key k root) c ≡ false → names_any c ≡ true → restyled root k c f ≡ at_box same_key k touch (at_box same_key k (restyle c) f)
+pub restyled_alone : (root k : BoxKey) (c : StyleChange) (f : BoxForest) (d : Item) → item_of same_key k f ≡ Some d → whole d.style (same_key k root) c ≡ false → names_any c ≡ true → restyled root k c f ≡ at_box same_key k touch (at_box same_key k (restyle c) f)
 restyled_alone root k c f d e w n = rw (e, w, n) refl
 
-pub restyled_none : (root k : BoxKey) (c : StyleChange) (f : Boxes) (d : Item) → item_of same_key k f ≡ Some d → whole d.style (same_key k root) c ≡ false → names_any c ≡ false → restyled root k c f ≡ at_box same_key k (restyle c) f
+pub restyled_none : (root k : BoxKey) (c : StyleChange) (f : BoxForest) (d : Item) → item_of same_key k f ≡ Some d → whole d.style (same_key k root) c ≡ false → names_any c ≡ false → restyled root k c f ≡ at_box same_key k (restyle c) f
 restyled_none root k c f d e w n = rw (e, w, n) refl
 
-pub replaced_whole : (root k : BoxKey) (r : Rectangle) (f : Boxes) (d : Item) → item_of same_key k f ≡ Some d → clips d.style (same_key k root) ≡ true → replaced root k r f ≡ at_subtree same_key k touch (at_box same_key k (with_rect r) f)
+pub replaced_whole : (root k : BoxKey) (r : Rectangle) (f : BoxForest) (d : Item) → item_of same_key k f ≡ Some d → clips d.style (same_key k root) ≡ true → replaced root k r f ≡ at_subtree same_key k touch (at_box same_key k (with_rect r) f)
 replaced_whole root k r f d e w = rw (e, w) refl
 
-pub replaced_alone : (root k : BoxKey) (r : Rectangle) (f : Boxes) (d : Item) → item_of same_key k f ≡ Some d → clips d.style (same_key k root) ≡ false → replaced root k r f ≡ at_box same_key k touch (at_box same_key k (with_rect r) f)
+pub replaced_alone : (root k : BoxKey) (r : Rectangle) (f : BoxForest) (d : Item) → item_of same_key k f ≡ Some d → clips d.style (same_key k root) ≡ false → replaced root k r f ≡ at_box same_key k touch (at_box same_key k (with_rect r) f)
 replaced_alone root k r f d e w = rw (e, w) refl
 
-styled_whole : (root k : BoxKey) (c : StyleChange) (f : Boxes) (d : Item) → item_of same_key k f ≡ Some d → whole d.style (same_key k root) c ≡ true → (j : BoxKey) → touches (styling k c) root f j ≡ in_subtree same_key j k f
+styled_whole : (root k : BoxKey) (c : StyleChange) (f : BoxForest) (d : Item) → item_of same_key k f ≡ Some d → whole d.style (same_key k root) c ≡ true → (j : BoxKey) → touches (styling k c) root f j ≡ in_subtree same_key j k f
 styled_whole root k c f d e w j = ap (λ o. option_map_or (λ d. cond (whole d.style (same_key k root) c) (in_subtree same_key j k f) (names_any c && same_key j k)) o false) e ∙ rw w refl
 
-styled_alone : (root k : BoxKey) (c : StyleChange) (f : Boxes) (d : Item) → item_of same_key k f ≡ Some d → whole d.style (same_key k root) c ≡ false → names_any c ≡ true → (j : BoxKey) → touches (styling k c) root f j ≡ same_key j k
+styled_alone : (root k : BoxKey) (c : StyleChange) (f : BoxForest) (d : Item) → item_of same_key k f ≡ Some d → whole d.style (same_key k root) c ≡ false → names_any c ≡ true → (j : BoxKey) → touches (styling k c) root f j ≡ same_key j k
 styled_alone root k c f d e w n j = ap (λ o. option_map_or (λ d. cond (whole d.style (same_key k root) c) (in_subtree same_key j k f) (names_any c && same_key j k)) o false) e ∙ rw (w, n) refl
 
-styled_none : (root k : BoxKey) (c : StyleChange) (f : Boxes) (d : Item) → item_of same_key k f ≡ Some d → whole d.style (same_key k root) c ≡ false → names_any c ≡ false → (j : BoxKey) → touches (styling k c) root f j ≡ false
+styled_none : (root k : BoxKey) (c : StyleChange) (f : BoxForest) (d : Item) → item_of same_key k f ≡ Some d → whole d.style (same_key k root) c ≡ false → names_any c ≡ false → (j : BoxKey) → touches (styling k c) root f j ≡ false
 styled_none root k c f d e w n j = ap (λ o. option_map_or (λ d. cond (whole d.style (same_key k root) c) (in_subtree same_key j k f) (names_any c && same_key j k)) o false) e ∙ rw (w, n) refl
 
-placed_whole : (root k : BoxKey) (r : Rectangle) (f : Boxes) (d : Item) → item_of same_key k f ≡ Some d → clips d.style (same_key k root) ≡ true → (j : BoxKey) → touches (placing k r) root f j ≡ in_subtree same_key j k f
+placed_whole : (root k : BoxKey) (r : Rectangle) (f : BoxForest) (d : Item) → item_of same_key k f ≡ Some d → clips d.style (same_key k root) ≡ true → (j : BoxKey) → touches (placing k r) root f j ≡ in_subtree same_key j k f
 placed_whole root k r f d e w j = ap (λ o. option_map_or (λ d. cond (clips d.style (same_key k root)) (in_subtree same_key j k f) (same_key j k)) o false) e ∙ rw w refl
 
-placed_alone : (root k : BoxKey) (r : Rectangle) (f : Boxes) (d : Item) → item_of same_key k f ≡ Some d → clips d.style (same_key k root) ≡ false → (j : BoxKey) → touches (placing k r) root f j ≡ same_key j k
+placed_alone : (root k : BoxKey) (r : Rectangle) (f : BoxForest) (d : Item) → item_of same_key k f ≡ Some d → clips d.style (same_key k root) ≡ false → (j : BoxKey) → touches (placing k r) root f j ≡ same_key j k
 placed_alone root k r f d e w j = ap (λ o. option_map_or (λ d. cond (clips d.style (same_key k root)) (in_subtree same_key j k f) (same_key j k)) o false) e ∙ rw w refl
 
 one_item : (a b : Item) → let x : Option Item = Some a in x ≡ Some b → a ≡ b
 one_item a b e = cc
 
 module _ (old : Document) (apart : IsApart same_key old.boxes) (rooted : IsRooted old) where
-  abbrev pub boxes : Boxes
+  abbrev pub boxes : BoxForest
   boxes = old.boxes
 
   abbrev pub canvas : Rectangle
   canvas = canvas_of old.canvas
 
   -- What a change of these boxes leaves, where these are the boxes that it touches: each of them is marked, and without them the lists are the same.
-  pub record Row (gone : BoxKey → Bool) (g : Boxes) : Type 0 where
+  pub record Row (gone : BoxKey → Bool) (g : BoxForest) : Type 0 where
     pub marks : AreMarked gone g
-    pub same : without gone (root_order canvas boxes) ≡ without gone (root_order canvas g)
+    pub same : without_touched gone (root_order canvas boxes) ≡ without_touched gone (root_order canvas g)
 
   root_low : (k : BoxKey) → same_key k old.root ≡ false → in_subtree same_key old.root k boxes ≡ false
   root_low k n =
@@ -156,10 +156,10 @@ module _ (old : Document) (apart : IsApart same_key old.boxes) (rooted : IsRoote
       inside : (j : BoxKey) → has same_key j (tree old.root rooted.0 rooted.1 empty) ≡ true → in_subtree same_key j k (tree old.root rooted.0 rooted.1 empty) ≡ true
       inside j v = rw (e, same_key-sound k old.root e) (ap (λ z. same_key j old.root || z) (sym (or_none (has same_key j rooted.1))) ∙ v)
 
-  row : (gone : BoxKey → Bool) (g : Boxes) → AreMarked gone g → without gone (root_order canvas boxes) ≡ without gone (root_order canvas g) → Row gone g
+  row : (gone : BoxKey → Bool) (g : BoxForest) → AreMarked gone g → without_touched gone (root_order canvas boxes) ≡ without_touched gone (root_order canvas g) → Row gone g
   row gone g m e = record { marks = m; same = e }
 
-  moved_row_to : {p q : BoxKey → Bool} {f g : Boxes} → ((j : BoxKey) → q j ≡ p j) → g ≡ f → Row p f → Row q g
+  moved_row_to : {p q : BoxKey → Bool} {f g : BoxForest} → ((j : BoxKey) → q j ≡ p j) → g ≡ f → Row p f → Row q g
   moved_row_to {p = p} {q = q} {f = f} {g = g} e h r = subst (λ z. Row q z) (sym h) (subst (λ s. Row s f) (λ i j. sym (e j) i) r)
 
   abbrev subtree : BoxKey → BoxKey → Bool
@@ -169,7 +169,7 @@ module _ (old : Document) (apart : IsApart same_key old.boxes) (rooted : IsRoote
   one k j = same_key j k
 
   -- an edit that touches a subtree
-  subtree_row : (k : BoxKey) (g : Boxes) → IsTreeOf old.root g → let s : BoxKey → Bool = λ j. in_subtree same_key j k boxes in
+  subtree_row : (k : BoxKey) (g : BoxForest) → IsTreeOf old.root g → let s : BoxKey → Bool = λ j. in_subtree same_key j k boxes in
       IsClosed s g → pruned s g ≡ pruned s boxes → AreMarked s g → (same_key k old.root ≡ true → all_cut s boxes ≡ true → all_cut s g ≡ true) → Row s g
   subtree_row k g r c p m a =
       let s : BoxKey → Bool = λ j. in_subtree same_key j k boxes in
@@ -183,12 +183,12 @@ module _ (old : Document) (apart : IsApart same_key old.boxes) (rooted : IsRoote
       ]
 
   -- items of the subtree change, and it is touched
-  changed_row : (k : BoxKey) (t : BoxKey → Bool) (h : Item → Item) → ((j : BoxKey) → t j ≡ true → in_subtree same_key j k boxes ≡ true) → Row (subtree k) (at_subtree same_key k touch (each_if t h boxes))
+  changed_row : (k : BoxKey) (t : BoxKey → Bool) (h : Item → Item) → ((j : BoxKey) → t j ≡ true → in_subtree same_key j k boxes ≡ true) → Row (subtree k) (at_subtree same_key k touch (map_where t h boxes))
   changed_row k t h w =
       let s : BoxKey → Bool = λ j. in_subtree same_key j k boxes in
-      let g : Boxes = each_if t h boxes in
+      let g : BoxForest = map_where t h boxes in
       let u : BoxKey → Bool = λ j. in_subtree same_key j k g in
-      subtree_row k (each_if u touch g) (tree_each u touch old.root g (tree_each t h old.root boxes rooted))
+      subtree_row k (map_where u touch g) (tree_each u touch old.root g (tree_each t h old.root boxes rooted))
       (closed_each s u touch g (closed_each s t h boxes (closed_subtree k boxes apart)))
       (pruned_each s u touch g (λ j e. sym (in-each t h j k boxes) ∙ e) ∙ pruned_each s t h boxes w)
       (marked_each s u touch (λ d. refl) (λ j e. in-each t h j k boxes ∙ e) g)
@@ -197,31 +197,31 @@ module _ (old : Document) (apart : IsApart same_key old.boxes) (rooted : IsRoote
   shifted_row : (k : BoxKey) (h : Item → Item) → ((d : Item) → (h d).touched ≡ true) → Row (subtree k) (at_subtree same_key k h boxes)
   shifted_row k h q =
       let s : BoxKey → Bool = λ j. in_subtree same_key j k boxes in
-      subtree_row k (each_if s h boxes) (tree_each s h old.root boxes rooted)
+      subtree_row k (map_where s h boxes) (tree_each s h old.root boxes rooted)
       (closed_each s s h boxes (closed_subtree k boxes apart))
       (pruned_each s s h boxes (λ j e. e))
       (marked_each s s h q (λ j e. e) boxes)
       (λ _ a. all-each s s h boxes ∙ a)
 
-  removed_row : (k : BoxKey) → same_key k old.root ≡ false → Row (subtree k) (forest.without same_key k boxes)
+  removed_row : (k : BoxKey) → same_key k old.root ≡ false → Row (subtree k) (forest.without_branch same_key k boxes)
   removed_row k n =
       let s : BoxKey → Bool = λ j. in_subtree same_key j k boxes in
-      let w : forest.without same_key k (each_if s touch boxes) ≡ forest.without same_key k boxes = without-within same_key same_key-sound same_key-refl s touch k boxes apart (within_subtree same_key k boxes) in
+      let w : forest.without_branch same_key k (map_where s touch boxes) ≡ forest.without_branch same_key k boxes = without_touched-within same_key same_key-sound same_key-refl s touch k boxes apart (within_subtree same_key k boxes) in
       let here : s k ≡ true = from_left (same_key k k) (has same_key k (children same_key k boxes)) (same_key-refl k) in
-      subtree_row k (forest.without same_key k boxes) (tree_without k old.root boxes n rooted)
+      subtree_row k (forest.without_branch same_key k boxes) (tree_without k old.root boxes n rooted)
       (closed_without s k boxes (closed_subtree k boxes apart))
       (pruned_without s k boxes here)
-      (subst (λ z. AreMarked s z) w (marked_without s k (each_if s touch boxes) (marked_each s s touch (λ d. refl) (λ j e. e) boxes)))
+      (subst (λ z. AreMarked s z) w (marked_without s k (map_where s touch boxes) (marked_each s s touch (λ d. refl) (λ j e. e) boxes)))
       (λ e _. absurd (never (same_key k old.root) e n))
 
   moved_row : (k p : BoxKey) (before : Option BoxKey) → same_key k old.root ≡ false → in_subtree same_key p k boxes ≡ false → Row (subtree k) (moved k p before boxes)
   moved_row k p before n out =
       let s : BoxKey → Bool = λ j. in_subtree same_key j k boxes in
       let here : s k ≡ true = from_left (same_key k k) (has same_key k (children same_key k boxes)) (same_key-refl k) in
-      let f1 : Boxes = each_if s touch boxes in
-      let g : Boxes = forest.without same_key k f1 in
-      let b : Boxes = branch same_key k f1 in
-      let x : Boxes = amid same_key before b (children same_key p g) in
+      let f1 : BoxForest = map_where s touch boxes in
+      let g : BoxForest = forest.without_branch same_key k f1 in
+      let b : BoxForest = branch same_key k f1 in
+      let x : BoxForest = insert_among same_key before b (children same_key p g) in
       let c1 : IsClosed s f1 = closed_each s s touch boxes (closed_subtree k boxes apart) in
       let cg : IsClosed s g = closed_without s k f1 c1 in
       let m1 : AreMarked s f1 = marked_each s s touch (λ d. refl) (λ j e. e) boxes in
@@ -229,7 +229,7 @@ module _ (old : Document) (apart : IsApart same_key old.boxes) (rooted : IsRoote
       let a1 : IsApart same_key f1 = apart_each s touch same_key boxes apart in
       let ag : IsApart same_key g = apart_without same_key same_key-sound same_key-refl k f1 a1 in
       let ab : all_cut s b ≡ true = all_branch s k f1 here (λ j u. from_right (same_key j k) (has same_key j (children same_key k boxes)) (sym (ap (has same_key j) (children-each s touch same_key k boxes) ∙ has-each s touch same_key j (children same_key k boxes)) ∙ u)) in
-      subtree_row k (under same_key p x g) (tree_under p x old.root g (tree_without k old.root f1 n (tree_each s touch old.root boxes rooted)))
+      subtree_row k (with_children same_key p x g) (tree_under p x old.root g (tree_without k old.root f1 n (tree_each s touch old.root boxes rooted)))
       (closed_under s p x g out (closed_amid s before b (children same_key p g) (closed_branch s k f1 c1) (closed_children s p g cg)) cg)
       (pruned_under s p x g ag (pruned_amid s before b (children same_key p g) ab) ∙ (pruned_without s k f1 here ∙ pruned_each s s touch boxes (λ j e. e)))
       (marked_under s p x g (marked_amid s before b (children same_key p g) (marked_branch s k f1 m1) (marked_children s p g mg)) mg)
@@ -239,8 +239,8 @@ module _ (old : Document) (apart : IsApart same_key old.boxes) (rooted : IsRoote
   inserted_row : (p k : BoxKey) (before : Option BoxKey) (d : Item) → d.touched ≡ true → has same_key p boxes ≡ true → has same_key k boxes ≡ false → Row (one k) (with_child p before k d boxes)
   inserted_row p k before d t hp nk =
       let s : BoxKey → Bool = λ j. same_key j k in
-      let b : Boxes = tree k d empty empty in
-      let x : Boxes = amid same_key before b (children same_key p boxes) in
+      let b : BoxForest = tree k d empty empty in
+      let x : BoxForest = insert_among same_key before b (children same_key p boxes) in
       let off : (j : BoxKey) → has same_key j boxes ≡ true → s j ≡ false = λ j u. differs same_key same_key-sound same_key-refl boxes j k u nk in
       let root_there : has same_key old.root boxes ≡ true = subst (λ z. has same_key old.root z ≡ true) (sym rooted.2) (from_left (same_key old.root old.root) (has same_key old.root rooted.1 || false) (same_key-refl old.root)) in
       let c : IsClosed s boxes = closed_none s boxes off in
@@ -248,11 +248,11 @@ module _ (old : Document) (apart : IsApart same_key old.boxes) (rooted : IsRoote
       let cb : IsClosed s b = ((λ _. refl), tt, tt) in
       let mb : AreMarked s b = ((λ _. t), tt, tt) in
       let m : AreMarked s boxes = marked_none s boxes off in
-      row s (under same_key p x boxes)
+      row s (with_children same_key p x boxes)
       (marked_under s p x boxes (marked_amid s before b (children same_key p boxes) mb (marked_children s p boxes m)) m)
       (left_of canvas s s (λ k h. h) old.root boxes rooted c (off old.root root_there)
       ∙ (ap (λ z. root_order canvas (bare s true z)) (sym (pruned_under s p x boxes apart (pruned_amid s before b (children same_key p boxes) ab)))
-      ∙ sym (left_of canvas s s (λ k h. h) old.root (under same_key p x boxes) (tree_under p x old.root boxes rooted)
+      ∙ sym (left_of canvas s s (λ k h. h) old.root (with_children same_key p x boxes) (tree_under p x old.root boxes rooted)
       (closed_under s p x boxes (off p hp) (closed_amid s before b (children same_key p boxes) cb (closed_children s p boxes c)) c) (off old.root root_there))))
 
   -- one box changes so that no other box rests on it
@@ -261,9 +261,9 @@ module _ (old : Document) (apart : IsApart same_key old.boxes) (rooted : IsRoote
       let s : BoxKey → Bool = λ j. same_key j k in
       let a : IsApart same_key (tree old.root rooted.0 rooted.1 empty) = subst (λ z. IsApart same_key z) rooted.2 apart in
       let keeps : KeepsBare k h true boxes = subst (λ z. KeepsBare k h true z) (sym rooted.2) (keeps_root k h old.root rooted.0 rooted.1 a (λ x e. q x (ap (item_of same_key k) rooted.2 ∙ e))) in
-      let g : Boxes = at_box same_key k touch (at_box same_key k h boxes) in
+      let g : BoxForest = at_box same_key k touch (at_box same_key k h boxes) in
       let same : bare s true g ≡ bare s true boxes = bare_all k touch true (at_box same_key k h boxes) (λ r d. refl) ∙ bare_kept k h true boxes keeps in
-      let nothing : (f : Boxes) → IsClosed none f = λ f. closed_none none f (λ j u. refl) in
+      let nothing : (f : BoxForest) → IsClosed none f = λ f. closed_none none f (λ j u. refl) in
       row s g (marked_each s s touch (λ d. refl) (λ j e. e) (at_box same_key k h boxes))
       (left_of canvas none s (λ k h. absurd (never false h refl)) old.root boxes rooted (nothing boxes) refl
       ∙ (ap (λ z. root_order canvas (bare s true z)) (pruned-none boxes)
@@ -271,8 +271,8 @@ module _ (old : Document) (apart : IsApart same_key old.boxes) (rooted : IsRoote
       ∙ (ap (λ z. root_order canvas (bare s true z)) (sym (pruned-none g))
       ∙ sym (left_of canvas none s (λ k h. absurd (never false h refl)) old.root g (tree_each s touch old.root (at_box same_key k h boxes) (tree_each s h old.root boxes rooted)) (nothing g) refl)))))
 
-  same_row : (g : Boxes) → g ≡ boxes → Row none g
-  same_row g e = record { marks = marked_none none g (λ j u. refl); same = ap (λ z. without none (root_order canvas z)) (sym e) }
+  same_row : (g : BoxForest) → g ≡ boxes → Row none g
+  same_row g e = record { marks = marked_none none g (λ j u. refl); same = ap (λ z. without_touched none (root_order canvas z)) (sym e) }
 
   styled_row : (k : BoxKey) (c : StyleChange) → has same_key k boxes ≡ true → Row (touches (styling k c) old.root boxes) (restyled old.root k c boxes)
   styled_row k c h =
@@ -317,8 +317,8 @@ pub pruning : PruningLaw
 pruning c t apart rooted can gone h =
     let r = row_of t apart rooted c can in
     let was : BoxKey → Bool = touches c t.root t.boxes in
-    let g : Boxes = after c t.root t.boxes in
-    sym (without_more was gone h (root_order (canvas_of t.canvas) t.boxes)) ∙ (ap (without gone) r.same ∙ without_more was gone h (root_order (canvas_of t.canvas) g))
+    let g : BoxForest = after c t.root t.boxes in
+    sym (without_more was gone h (root_order (canvas_of t.canvas) t.boxes)) ∙ (ap (without_touched gone) r.same ∙ without_more was gone h (root_order (canvas_of t.canvas) g))
 
 pub marks_touched : (c : Change) (t : Document) → IsApart same_key t.boxes → IsRooted t → CanChange c t.root t.boxes → (k : BoxKey) → touches c t.root t.boxes k ≡ true → is_touched k (after c t.root t.boxes) ≡ true
 marks_touched c t apart rooted can k h = marked (touches c t.root t.boxes) k (after c t.root t.boxes) (row_of t apart rooted c can).marks h

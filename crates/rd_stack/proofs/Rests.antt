@@ -7,7 +7,7 @@ use Rattle.rd_keys.specs.Keys.{BoxKey}
 use Rattle.rd_item.specs.declared.leaf.Leaf.{Leaf}
 use Rattle.rd_list.specs.Wrappers.{Wrapper}
 use Rattle.rd_list.specs.Entries.{Entries, nil, ◌▷◌, each}
-use Rattle.rd_list.specs.Lists.{without}
+use Rattle.rd_list.specs.Lists.{without_touched}
 use Rattle.rd_list.proofs.Levelling.{only-join}
 use Rattle.rd_tree.proofs.Standing.{cases}
 use Rattle.rd_stack.specs.Painting.{Painted, by_level, put, when, level_of, number, is_negative, is_positive, is_zero}
@@ -61,7 +61,7 @@ module _ (cut gone : BoxKey → Bool) where
   kept x = not (cut x.at.here.key)
 
   abbrev pub lighter : Painted → Painted
-  lighter x = record { at = bare_spot gone x.at; order = without gone x.order }
+  lighter x = record { at = bare_spot gone x.at; order = without_touched gone x.order }
 
   -- what is left of painted boxes
   abbrev pub rest_of : List Painted → List Painted
@@ -69,17 +69,17 @@ module _ (cut gone : BoxKey → Bool) where
 
   -- A box that is cut off paints nothing that is left, and what stands below one that is cut off is cut off.
   pub record IsFine (x : Painted) : Type 0 where
-    pub bare : cut x.at.here.key ≡ true → without gone x.order ≡ nil
+    pub bare : cut x.at.here.key ≡ true → without_touched gone x.order ≡ nil
     pub below : list_any (λ b. cut b.key) x.at.above ≡ true → cut x.at.here.key ≡ true
 
   abbrev pub AllFine : List Painted → Type 0
   AllFine [] = Unit {0}
   AllFine (x ∷ xs) = IsFine x × AllFine xs
 
-  pub join2 : (a b a' b' : Entries Wrapper Leaf) → without gone a ≡ a' → without gone b ≡ b' → without gone (a ▷ b) ≡ a' ▷ b'
+  pub join2 : (a b a' b' : Entries Wrapper Leaf) → without_touched gone a ≡ a' → without_touched gone b ≡ b' → without_touched gone (a ▷ b) ≡ a' ▷ b'
   join2 a b a' b' p q = rw (only-join, p, q) refl
 
-  pub when-left : (c c' : Bool) (a a' : Entries Wrapper Leaf) → c' ≡ c → without gone a ≡ a' → without gone (when c a) ≡ when c' a'
+  pub when-left : (c c' : Bool) (a a' : Entries Wrapper Leaf) → c' ≡ c → without_touched gone a ≡ a' → without_touched gone (when c a) ≡ when c' a'
   when-left true c' a a' e p = p ∙ ap (λ b. when b a') (sym e)
   when-left false c' a a' e p = ap (λ b. when b a') (sym e)
 
@@ -96,9 +96,9 @@ module _ (cut gone : BoxKey → Bool) where
   fine_filter p (x ∷ xs) h = elim (p x) as (λ b. AllFine (cond b (x ∷ filter p xs) (filter p xs))) [ true ↦ (h.0, fine_filter p xs h.1) | false ↦ fine_filter p xs h.1 ]
 
   pub each_rest : (f g : Painted → Entries Wrapper Leaf)
-      → ((x : Painted) → IsFine x → cut x.at.here.key ≡ false → without gone (f x) ≡ g (lighter x))
-      → ((x : Painted) → IsFine x → cut x.at.here.key ≡ true → without gone (f x) ≡ nil)
-      → (xs : List Painted) → AllFine xs → without gone (each f xs) ≡ each g (rest_of xs)
+      → ((x : Painted) → IsFine x → cut x.at.here.key ≡ false → without_touched gone (f x) ≡ g (lighter x))
+      → ((x : Painted) → IsFine x → cut x.at.here.key ≡ true → without_touched gone (f x) ≡ nil)
+      → (xs : List Painted) → AllFine xs → without_touched gone (each f xs) ≡ each g (rest_of xs)
   each_rest f g stays goes [] h = refl
   each_rest f g stays goes (x ∷ xs) h =
       elim (cases (cut x.at.here.key)) [

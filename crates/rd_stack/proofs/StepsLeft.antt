@@ -2,7 +2,7 @@
 use Rattle.std.proofs.Common.{◌≡◌, refl, ap, ◌∙◌, sym, Bool, true, false, not, ◌&&◌, ◌||◌, cond, List, [], ◌∷◌, Option, Some, None, inl, inr}
 use Rattle.std.specs.Prelude.{filter, nat_lt}
 use Rattle.std.specs.List.{list_any}
-use Rattle.rd_geom.specs.Plane.{Rectangle, has_none, common}
+use Rattle.rd_geom.specs.Plane.{Rectangle, has_none, meet}
 use Rattle.rd_geom.specs.declared.color.Color.{Color}
 use Rattle.rd_style.specs.declared.kinds.Class.{Class}
 use Rattle.rd_style.specs.declared.kinds.Class.TheVariants.{Float, Atom, Block, Inline}
@@ -13,8 +13,8 @@ use Rattle.rd_keys.specs.declared.entry.Part.TheVariants.{Back, Border, Content,
 use Rattle.rd_item.specs.declared.leaf.Leaf.{Leaf}
 use Rattle.rd_item.specs.declared.leaf.Shape.{Shape}
 use Rattle.rd_list.specs.Wrappers.{Wrapper}
-use Rattle.rd_list.specs.Entries.{Entries, nil, group, ◌▷◌, each, flat, singly, has_leaf}
-use Rattle.rd_list.specs.Lists.{without}
+use Rattle.rd_list.specs.Entries.{Entries, nil, group, ◌▷◌, each, flat, option_entry, has_leaf}
+use Rattle.rd_list.specs.Lists.{without_touched}
 use Rattle.rd_list.proofs.Levelling.{only-join}
 use Rattle.rd_list.proofs.Routing.{both_true}
 use Rattle.rd_tree.proofs.Standing.{cases}
@@ -33,7 +33,7 @@ IsOwned k (Some l) = l.owner ≡ k
 shown-owned : (canvas : Rectangle) (x : Spot) (part : Part) (s : Option (Shape × Color)) → IsOwned x.here.key (shown canvas x part s)
 shown-owned canvas x part None = tt
 shown-owned canvas x part (Some s) =
-    let visible = common s.0.outer (clip_of canvas x) in
+    let visible = meet s.0.outer (clip_of canvas x) in
     elim (has_none visible) as (λ b. IsOwned x.here.key (cond b None (Some (record { owner = x.here.key; part = part; visible = visible; shape = s.0; color = s.1; hits = takes_hits x.here.style.pointer })))) [ true ↦ tt | false ↦ refl ]
 
 leaf-owned : (canvas : Rectangle) (x : Spot) (part : Part) → IsOwned x.here.key (leaf_of canvas x part)
@@ -50,7 +50,7 @@ or_later false b h = h
 module _ (cut gone : BoxKey → Bool) (within : (k : BoxKey) → cut k ≡ true → gone k ≡ true) where
   -- What is left of a is b.
   record Leaves (a b : Entries Wrapper Leaf) : Type 0 where
-    holds : without gone a ≡ b
+    holds : without_touched gone a ≡ b
 
   both : {a b a' b' : Entries Wrapper Leaf} → Leaves a a' → Leaves b b' → Leaves (a ▷ b) (a' ▷ b')
   both p q = record { holds = rw (only-join, p.holds, q.holds) refl }
@@ -58,15 +58,15 @@ module _ (cut gone : BoxKey → Bool) (within : (k : BoxKey) → cut k ≡ true 
   where_it_is : {c c' : Bool} {a a' : Entries Wrapper Leaf} → c' ≡ c → Leaves a a' → Leaves (when c a) (when c' a')
   where_it_is {c = c} {c' = c'} e p = record { holds = when-left cut gone c c' _ _ e p.holds }
 
-  singly-left : (k : BoxKey) (o : Option Leaf) → IsOwned k o → gone k ≡ false → without gone (singly o) ≡ singly o
-  singly-left k None h g = refl
-  singly-left k (Some l) h g = rw (h, g) refl
+  option_entry-left : (k : BoxKey) (o : Option Leaf) → IsOwned k o → gone k ≡ false → without_touched gone (option_entry o) ≡ option_entry o
+  option_entry-left k None h g = refl
+  option_entry-left k (Some l) h g = rw (h, g) refl
 
-  singly-gone : (k : BoxKey) (o : Option Leaf) → IsOwned k o → gone k ≡ true → without gone (singly o) ≡ nil
-  singly-gone k None h g = refl
-  singly-gone k (Some l) h g = rw (h, g) refl
+  option_entry-gone : (k : BoxKey) (o : Option Leaf) → IsOwned k o → gone k ≡ true → without_touched gone (option_entry o) ≡ nil
+  option_entry-gone k None h g = refl
+  option_entry-gone k (Some l) h g = rw (h, g) refl
 
-  join_nil : (a b : Entries Wrapper Leaf) → without gone a ≡ nil → without gone b ≡ nil → without gone (a ▷ b) ≡ nil
+  join_nil : (a b : Entries Wrapper Leaf) → without_touched gone a ≡ nil → without_touched gone b ≡ nil → without_touched gone (a ▷ b) ≡ nil
   join_nil a b p q = rw (only-join, p, q) refl
 
   below_cut : (c : BoxKey) (above : List BoxData) → cut c ≡ true → list_any (λ b. same_key b.key c) above ≡ true → list_any (λ b. cut b.key) above ≡ true
@@ -80,12 +80,12 @@ module _ (cut gone : BoxKey → Bool) (within : (k : BoxKey) → cut k ≡ true 
   translucent-bare : (x : Spot) → is_translucent (bare_spot gone x) ≡ is_translucent x
   translucent-bare x = ap (λ c. c && nat_lt x.here.style.opacity 255) (context-bare gone x)
 
-  pub grouped-lighter : (x : Painted) → without gone (grouped x) ≡ grouped (lighter cut gone x)
+  pub grouped-lighter : (x : Painted) → without_touched gone (grouped x) ≡ grouped (lighter cut gone x)
   grouped-lighter x =
       grouped-left (λ l. not (gone l.owner)) (record { key = x.at.here.key; opacity = x.at.here.style.opacity }) (is_translucent x.at) x.order
-      ∙ ap (λ c. cond (c && has_leaf (flat (without gone x.order))) (group (record { key = x.at.here.key; opacity = x.at.here.style.opacity }) (without gone x.order) nil) (without gone x.order)) (sym (translucent-bare x.at))
+      ∙ ap (λ c. cond (c && has_leaf (flat (without_touched gone x.order))) (group (record { key = x.at.here.key; opacity = x.at.here.style.opacity }) (without_touched gone x.order) nil) (without_touched gone x.order)) (sym (translucent-bare x.at))
 
-  pub grouped-gone : (x : Painted) → without gone x.order ≡ nil → without gone (grouped x) ≡ nil
+  pub grouped-gone : (x : Painted) → without_touched gone x.order ≡ nil → without_touched gone (grouped x) ≡ nil
   grouped-gone x h = grouped-left (λ l. not (gone l.owner)) (record { key = x.at.here.key; opacity = x.at.here.style.opacity }) (is_translucent x.at) x.order ∙ rw h (no_group (is_translucent x.at))
     where
       no_group : (c : Bool) → cond {A = Entries Wrapper Leaf} (c && false) (group (record { key = x.at.here.key; opacity = x.at.here.style.opacity }) nil nil) nil ≡ nil
@@ -93,42 +93,42 @@ module _ (cut gone : BoxKey → Bool) (within : (k : BoxKey) → cut k ≡ true 
       no_group false = refl
 
   module _ (canvas : Rectangle) where
-    paint-left : (part : Part) (x : Spot) → without gone (paint canvas part x) ≡ paint canvas part (bare_spot gone x)
+    paint-left : (part : Part) (x : Spot) → without_touched gone (paint canvas part x) ≡ paint canvas part (bare_spot gone x)
     paint-left part x =
         elim (cases (gone x.here.key)) [
-          | inl g ↦ singly-gone x.here.key (leaf_of canvas x part) (leaf-owned canvas x part) g ∙ sym (ap singly (leaf-gone gone canvas x part g))
-          | inr g ↦ singly-left x.here.key (leaf_of canvas x part) (leaf-owned canvas x part) g ∙ sym (ap singly (leaf-kept gone canvas x part g))
+          | inl g ↦ option_entry-gone x.here.key (leaf_of canvas x part) (leaf-owned canvas x part) g ∙ sym (ap option_entry (leaf-gone gone canvas x part g))
+          | inr g ↦ option_entry-left x.here.key (leaf_of canvas x part) (leaf-owned canvas x part) g ∙ sym (ap option_entry (leaf-kept gone canvas x part g))
         ]
 
-    paint-gone : (part : Part) (x : Spot) → cut x.here.key ≡ true → without gone (paint canvas part x) ≡ nil
-    paint-gone part x g = singly-gone x.here.key (leaf_of canvas x part) (leaf-owned canvas x part) (within x.here.key g)
+    paint-gone : (part : Part) (x : Spot) → cut x.here.key ≡ true → without_touched gone (paint canvas part x) ≡ nil
+    paint-gone part x g = option_entry-gone x.here.key (leaf_of canvas x part) (leaf-owned canvas x part) (within x.here.key g)
 
-    back-left : (x : Spot) → without gone (back_border canvas x) ≡ back_border canvas (bare_spot gone x)
+    back-left : (x : Spot) → without_touched gone (back_border canvas x) ≡ back_border canvas (bare_spot gone x)
     back-left x = join2 cut gone (paint canvas Back x) (paint canvas Border x) (paint canvas Back (bare_spot gone x)) (paint canvas Border (bare_spot gone x)) (paint-left Back x) (paint-left Border x)
 
-    back-gone : (x : Spot) → cut x.here.key ≡ true → without gone (back_border canvas x) ≡ nil
+    back-gone : (x : Spot) → cut x.here.key ≡ true → without_touched gone (back_border canvas x) ≡ nil
     back-gone x g = join_nil (paint canvas Back x) (paint canvas Border x) (paint-gone Back x g) (paint-gone Border x g)
 
-    inline-left : (x : Painted) → IsFine cut gone x → cut x.at.here.key ≡ false → without gone (inline_part canvas x) ≡ inline_part canvas (lighter cut gone x)
+    inline-left : (x : Painted) → IsFine cut gone x → cut x.at.here.key ≡ false → without_touched gone (inline_part canvas x) ≡ inline_part canvas (lighter cut gone x)
     inline-left x h g =
-        elim (is Atom x.at) as (λ b. without gone (cond b x.order (back_border canvas x.at ▷ paint canvas Content x.at)) ≡ cond b (without gone x.order) (back_border canvas (bare_spot gone x.at) ▷ paint canvas Content (bare_spot gone x.at))) [
+        elim (is Atom x.at) as (λ b. without_touched gone (cond b x.order (back_border canvas x.at ▷ paint canvas Content x.at)) ≡ cond b (without_touched gone x.order) (back_border canvas (bare_spot gone x.at) ▷ paint canvas Content (bare_spot gone x.at))) [
           | true ↦ refl
           | false ↦ join2 cut gone (back_border canvas x.at) (paint canvas Content x.at) (back_border canvas (bare_spot gone x.at)) (paint canvas Content (bare_spot gone x.at)) (back-left x.at) (paint-left Content x.at)
         ]
-        ∙ ap (λ b. cond b (without gone x.order) (back_border canvas (bare_spot gone x.at) ▷ paint canvas Content (bare_spot gone x.at))) (sym (is-bare gone Atom x.at))
+        ∙ ap (λ b. cond b (without_touched gone x.order) (back_border canvas (bare_spot gone x.at) ▷ paint canvas Content (bare_spot gone x.at))) (sym (is-bare gone Atom x.at))
 
-    inline-gone : (x : Painted) → IsFine cut gone x → cut x.at.here.key ≡ true → without gone (inline_part canvas x) ≡ nil
+    inline-gone : (x : Painted) → IsFine cut gone x → cut x.at.here.key ≡ true → without_touched gone (inline_part canvas x) ≡ nil
     inline-gone x h g =
-        elim (is Atom x.at) as (λ b. without gone (cond b x.order (back_border canvas x.at ▷ paint canvas Content x.at)) ≡ nil) [
+        elim (is Atom x.at) as (λ b. without_touched gone (cond b x.order (back_border canvas x.at ▷ paint canvas Content x.at)) ≡ nil) [
           | true ↦ h.bare g
           | false ↦ join_nil (back_border canvas x.at) (paint canvas Content x.at) (back-gone x.at g) (paint-gone Content x.at g)
         ]
 
     -- boxes that all are cut off leave nothing
     each-gone : (f : Painted → Entries Wrapper Leaf) (q : Painted → Bool)
-        → ((x : Painted) → IsFine cut gone x → cut x.at.here.key ≡ true → without gone (f x) ≡ nil)
+        → ((x : Painted) → IsFine cut gone x → cut x.at.here.key ≡ true → without_touched gone (f x) ≡ nil)
         → ((x : Painted) → IsFine cut gone x → q x ≡ true → cut x.at.here.key ≡ true)
-        → (xs : List Painted) → AllFine cut gone xs → without gone (each f (filter q xs)) ≡ nil
+        → (xs : List Painted) → AllFine cut gone xs → without_touched gone (each f (filter q xs)) ≡ nil
     each-gone f q goes are [] h = refl
     each-gone f q goes are (x ∷ xs) h =
         elim (cases (q x)) [
@@ -139,14 +139,14 @@ module _ (cut gone : BoxKey → Bool) (within : (k : BoxKey) → cut k ≡ true 
     line-rest : (e : Spot) (below : List Painted) (c : Spot) → line_of (bare_spot gone e) (rest_of cut gone below) (bare_spot gone c) ≡ rest_of cut gone (line_of e below c)
     line-rest e below c = filter_rest cut gone (λ x. is_in_line e c x.at) (λ x. is_in_line (bare_spot gone e) (bare_spot gone c) x.at) (λ x. in-line-bare gone e c x.at) below
 
-    flow-left : (e : Spot) (below : List Painted) (c : Spot) → AllFine cut gone below → without gone (flow canvas e below c) ≡ flow canvas (bare_spot gone e) (rest_of cut gone below) (bare_spot gone c)
+    flow-left : (e : Spot) (below : List Painted) (c : Spot) → AllFine cut gone below → without_touched gone (flow canvas e below c) ≡ flow canvas (bare_spot gone e) (rest_of cut gone below) (bare_spot gone c)
     flow-left e below c h =
         join2 cut gone (paint canvas Content c) (each (inline_part canvas) (line_of e below c)) (paint canvas Content (bare_spot gone c))
         (each (inline_part canvas) (line_of (bare_spot gone e) (rest_of cut gone below) (bare_spot gone c))) (paint-left Content c)
         (each_rest cut gone (inline_part canvas) (inline_part canvas) inline-left inline-gone (line_of e below c) (fine_filter cut gone (λ x. is_in_line e c x.at) below h)
         ∙ ap (each (inline_part canvas)) (sym (line-rest e below c)))
 
-    flow-gone : (e : Spot) (below : List Painted) (c : Spot) → AllFine cut gone below → cut c.here.key ≡ true → without gone (flow canvas e below c) ≡ nil
+    flow-gone : (e : Spot) (below : List Painted) (c : Spot) → AllFine cut gone below → cut c.here.key ≡ true → without_touched gone (flow canvas e below c) ≡ nil
     flow-gone e below c h g =
         join_nil (paint canvas Content c) (each (inline_part canvas) (line_of e below c)) (paint-gone Content c g) (each-gone (inline_part canvas) (λ x. is_in_line e c x.at) inline-gone in_cut below h)
       where
@@ -158,17 +158,17 @@ module _ (cut gone : BoxKey → Bool) (within : (k : BoxKey) → cut k ≡ true 
 
     -- one of the twelve lists: what f paints for the boxes of a kind
     kind-left : (f g : Painted → Entries Wrapper Leaf) (p q p' q' : Painted → Bool)
-        → ((x : Painted) → IsFine cut gone x → cut x.at.here.key ≡ false → without gone (f x) ≡ g (lighter cut gone x))
-        → ((x : Painted) → IsFine cut gone x → cut x.at.here.key ≡ true → without gone (f x) ≡ nil)
+        → ((x : Painted) → IsFine cut gone x → cut x.at.here.key ≡ false → without_touched gone (f x) ≡ g (lighter cut gone x))
+        → ((x : Painted) → IsFine cut gone x → cut x.at.here.key ≡ true → without_touched gone (f x) ≡ nil)
         → ((x : Painted) → p' (lighter cut gone x) ≡ p x) → ((x : Painted) → q' (lighter cut gone x) ≡ q x)
         → (below : List Painted) → AllFine cut gone below
-        → without gone (each f (filter q (filter p below))) ≡ each g (filter q' (filter p' (rest_of cut gone below)))
+        → without_touched gone (each f (filter q (filter p below))) ≡ each g (filter q' (filter p' (rest_of cut gone below)))
     kind-left f g p q p' q' stays goes p-same q-same below h =
         each_rest cut gone f g stays goes _ (fine_filter cut gone q _ (fine_filter cut gone p below h))
         ∙ ap (each g) (sym (filter_rest cut gone q q' q-same (filter p below)) ∙ ap (filter q') (sym (filter_rest cut gone p p' p-same below)))
 
     layer-left : (e : Spot) (q : Painted → Bool) → ((x : Painted) → q (lighter cut gone x) ≡ q x) → (below : List Painted) → AllFine cut gone below
-        → without gone (each grouped (by_level (filter q (layers_of e below)))) ≡ each grouped (by_level (filter q (layers_of (bare_spot gone e) (rest_of cut gone below))))
+        → without_touched gone (each grouped (by_level (filter q (layers_of e below)))) ≡ each grouped (by_level (filter q (layers_of (bare_spot gone e) (rest_of cut gone below))))
     layer-left e q q-same below h =
         each_rest cut gone grouped grouped (λ x _ _. grouped-lighter x) (λ x k g. grouped-gone x (k.bare g)) _ (fine_by_level cut gone _ (fine_filter cut gone q _ (fine_filter cut gone (λ x. is_layer e x.at) below h)))
         ∙ ap (each grouped) (sym (by_level_rest cut gone (filter q (layers_of e below)))
@@ -184,8 +184,8 @@ module _ (cut gone : BoxKey → Bool) (within : (k : BoxKey) → cut k ≡ true 
     flow-rest e below c h = record { holds = flow-left e below c h }
 
     kind-rest : (f g : Painted → Entries Wrapper Leaf) (p q p' q' : Painted → Bool)
-        → ((x : Painted) → IsFine cut gone x → cut x.at.here.key ≡ false → without gone (f x) ≡ g (lighter cut gone x))
-        → ((x : Painted) → IsFine cut gone x → cut x.at.here.key ≡ true → without gone (f x) ≡ nil)
+        → ((x : Painted) → IsFine cut gone x → cut x.at.here.key ≡ false → without_touched gone (f x) ≡ g (lighter cut gone x))
+        → ((x : Painted) → IsFine cut gone x → cut x.at.here.key ≡ true → without_touched gone (f x) ≡ nil)
         → ((x : Painted) → p' (lighter cut gone x) ≡ p x) → ((x : Painted) → q' (lighter cut gone x) ≡ q x)
         → (below : List Painted) → AllFine cut gone below
         → Leaves (each f (filter q (filter p below))) (each g (filter q' (filter p' (rest_of cut gone below))))
@@ -196,7 +196,7 @@ module _ (cut gone : BoxKey → Bool) (within : (k : BoxKey) → cut k ≡ true 
     layer-rest e q q-same below h = record { holds = layer-left e q q-same below h }
 
     -- What is left of what e paints is what e paints over what is left.
-    pub steps-left : (e : Spot) (below : List Painted) → AllFine cut gone below → without gone (steps canvas e below) ≡ steps canvas (bare_spot gone e) (rest_of cut gone below)
+    pub steps-left : (e : Spot) (below : List Painted) → AllFine cut gone below → without_touched gone (steps canvas e below) ≡ steps canvas (bare_spot gone e) (rest_of cut gone below)
     unfolding steps
     steps-left e below h =
         let e' = bare_spot gone e in
@@ -237,11 +237,11 @@ module _ (cut gone : BoxKey → Bool) (within : (k : BoxKey) → cut k ≡ true 
     none-flow : (e : Spot) (below : List Painted) (c : Spot) → AllFine cut gone below → cut c.here.key ≡ true → Leaves (flow canvas e below c) nil
     none-flow e below c h g = record { holds = flow-gone e below c h g }
 
-    none-each : (f : Painted → Entries Wrapper Leaf) → ((x : Painted) → IsFine cut gone x → cut x.at.here.key ≡ true → without gone (f x) ≡ nil)
+    none-each : (f : Painted → Entries Wrapper Leaf) → ((x : Painted) → IsFine cut gone x → cut x.at.here.key ≡ true → without_touched gone (f x) ≡ nil)
         → (xs : List Painted) → AllFine cut gone xs → rest_of cut gone xs ≡ [] → Leaves (each f xs) nil
     none-each f goes xs h n = record { holds = all_go xs h n }
       where
-        all_go : (xs : List Painted) → AllFine cut gone xs → rest_of cut gone xs ≡ [] → without gone (each f xs) ≡ nil
+        all_go : (xs : List Painted) → AllFine cut gone xs → rest_of cut gone xs ≡ [] → without_touched gone (each f xs) ≡ nil
         all_go [] h n = refl
         all_go (x ∷ xs) h n =
             elim (cases (cut x.at.here.key)) [
@@ -258,7 +258,7 @@ module _ (cut gone : BoxKey → Bool) (within : (k : BoxKey) → cut k ≡ true 
         ]
 
     none-kind : (f : Painted → Entries Wrapper Leaf) (p q : Painted → Bool)
-        → ((x : Painted) → IsFine cut gone x → cut x.at.here.key ≡ true → without gone (f x) ≡ nil)
+        → ((x : Painted) → IsFine cut gone x → cut x.at.here.key ≡ true → without_touched gone (f x) ≡ nil)
         → (below : List Painted) → AllFine cut gone below → rest_of cut gone below ≡ []
         → Leaves (each f (filter q (filter p below))) nil
     none-kind f p q goes below h n = none-each f goes _ (fine_filter cut gone q _ (fine_filter cut gone p below h)) (none-filter q (filter p below) (none-filter p below n))
@@ -270,7 +270,7 @@ module _ (cut gone : BoxKey → Bool) (within : (k : BoxKey) → cut k ≡ true 
         (sym (by_level_rest cut gone (filter q (layers_of e below))) ∙ ap by_level (none-filter q (layers_of e below) (none-filter (λ x. is_layer e x.at) below n)))
 
     -- A box that is cut off leaves nothing, where all below it are cut off.
-    pub steps-gone : (e : Spot) (below : List Painted) → AllFine cut gone below → cut e.here.key ≡ true → rest_of cut gone below ≡ [] → without gone (steps canvas e below) ≡ nil
+    pub steps-gone : (e : Spot) (below : List Painted) → AllFine cut gone below → cut e.here.key ≡ true → rest_of cut gone below ≡ [] → without_touched gone (steps canvas e below) ≡ nil
     unfolding steps
     steps-gone e below h g n =
         let root = is_root e in

@@ -7,10 +7,10 @@ use Rattle.rd_style.specs.declared.styles.Style.{Style}
 use Rattle.rd_style.specs.declared.kinds.Class.{Class}
 use Rattle.rd_style.specs.declared.kinds.Display.TheVariants as display
 use Rattle.rd_style.specs.declared.kinds.Class.TheVariants.{Layer, Float, Atom, Block, Inline}
-use Rattle.rd_style.specs.Boxes.{class, real, stacks, in_flow_class}
+use Rattle.rd_style.specs.Classes.{class, real, stacks, in_flow_class}
 use Rattle.rd_keys.specs.Keys.{same_key}
 use Rattle.rd_tree.specs.Forest.{empty, tree, has, IsApart}
-use Rattle.rd_tree.specs.Document.{Boxes}
+use Rattle.rd_tree.specs.Document.{BoxForest}
 use Rattle.rd_list.specs.Wrappers.{Wrapper}
 use Rattle.rd_list.specs.Entries.{Entries}
 use Rattle.rd_stack.specs.Spots.{BoxData, Spot, is_class, is_local, is_context, is_plain, is_no_context, is_none, between}
@@ -40,7 +40,7 @@ kind b = kind_by (class b.style false) (real b.style false)
 
 module _ (own : BoxData → ℕ) where
   -- all boxes
-  abbrev pub all : Boxes → ℕ
+  abbrev pub all : BoxForest → ℕ
   all empty = 0
   all (tree k d c n) = own (box k d) + all c + all n
 
@@ -57,11 +57,11 @@ module _ (own : BoxData → ℕ) where
   inside_of aside o a c = c
   inside_of plain o a c = c
 
-  abbrev outside : Boxes → ℕ
+  abbrev outside : BoxForest → ℕ
   outside empty = 0
   outside (tree k d c n) = outside_of (kind (box k d)) (own (box k d)) (outside c) + outside n
 
-  abbrev inside : Boxes → ℕ
+  abbrev inside : BoxForest → ℕ
   inside empty = 0
   inside (tree k d c n) = inside_of (kind (box k d)) (own (box k d)) (all c) (inside c) + inside n
 
@@ -73,18 +73,18 @@ module _ (own : BoxData → ℕ) where
   share aside context unblocked o below = cond unblocked (o + below false true) 0 + below context false
   share plain context unblocked o below = cond unblocked o 0 + below context unblocked
 
-  abbrev pub taken : Bool → Bool → Boxes → ℕ
+  abbrev pub taken : Bool → Bool → BoxForest → ℕ
   taken context unblocked empty = 0
   taken context unblocked (tree k d c n) = share (kind (box k d)) context unblocked (own (box k d)) (λ r o. taken r o c) + taken context unblocked n
 
-  pub record Sums (f : Boxes) : Type 0 where
+  pub record Sums (f : BoxForest) : Type 0 where
     pub split : all f ≡ outside f + inside f
     pub none : taken false false f ≡ 0
     pub outer : taken false true f ≡ outside f
     pub inner : taken true false f ≡ inside f
     pub both : taken true true f ≡ all f
 
-  sums_of : (k : Kind) (o : ℕ) (c n : Boxes) → Sums c → Sums n
+  sums_of : (k : Kind) (o : ℕ) (c n : BoxForest) → Sums c → Sums n
       → (o + all c + all n ≡ (outside_of k o (outside c) + outside n) + (inside_of k o (all c) (inside c) + inside n))
       × (share k false false o (λ r q. taken r q c) + taken false false n ≡ 0)
       × (share k false true o (λ r q. taken r q c) + taken false true n ≡ outside_of k o (outside c) + outside n)
@@ -96,7 +96,7 @@ module _ (own : BoxData → ℕ) where
   sums_of plain o c n p q = (omega arith, omega arith, omega arith, omega arith, omega arith)
 
   -- a stacking context takes each box below it once
-  pub sums : (f : Boxes) → Sums f
+  pub sums : (f : BoxForest) → Sums f
   sums empty = record { split = refl; none = refl; outer = refl; inner = refl; both = refl }
   sums (tree k d c n) =
       let s = sums_of (kind (box k d)) (own (box k d)) c n (sums c) (sums n) in
@@ -176,7 +176,7 @@ module _ (canvas : Rectangle) (weight : Entries Wrapper Leaf → ℕ) (extra own
       (head_take (class s false) (real s false) (context && n2) l2 parts order extra_b own_b below (unreal s) p o z)
 
   -- What e takes of the boxes below it.
-  taken_fit : (e : Spot) (path : List BoxData) (f : Boxes) → IsApart same_key f → AreOff f (path ++ e.here ∷ e.above)
+  taken_fit : (e : Spot) (path : List BoxData) (f : BoxForest) → IsApart same_key f → AreOff f (path ++ e.here ∷ e.above)
       → total (taken_of canvas weight extra own w e) (painted canvas (path ++ e.here ∷ e.above) f) ≤ taken own (is_context e && list_all is_no_context path) (list_all is_plain path) f
   taken_fit e path empty a o = omega arith
   taken_fit e path (tree k d ch nx) a o =
@@ -201,7 +201,7 @@ module _ (canvas : Rectangle) (weight : Entries Wrapper Leaf → ℕ) (extra own
       omega (arith, here, split, taken_fit e (b ∷ path) ch a.3 o3, taken_fit e path nx a.4 o2)
 
   -- What a tree paints weighs no more than all its boxes.
-  pub root_fit : (f : Boxes) → IsApart same_key f → weight (root_order canvas f) ≤ all own f
+  pub root_fit : (f : BoxForest) → IsApart same_key f → weight (root_order canvas f) ≤ all own f
   root_fit empty a = rw w.none (omega arith)
   root_fit (tree k d ch nx) a =
       let b = box k d in

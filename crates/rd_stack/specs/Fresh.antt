@@ -8,7 +8,7 @@ use Rattle.rd_list.specs.Wrappers.{Wrapper}
 use Rattle.rd_list.specs.Entries.{Entries, nil}
 use Rattle.rd_tree.specs.Forest.{empty, tree}
 use Rattle.rd_tree.specs.declared.node.Item.{Item}
-use Rattle.rd_tree.specs.Document.{Boxes, Document}
+use Rattle.rd_tree.specs.Document.{BoxForest, Document}
 use Rattle.rd_stack.specs.Spots.{BoxData, Spot}
 use Rattle.rd_stack.specs.Painting.{Painted, steps, grouped}
 
@@ -19,10 +19,10 @@ box k d = record { key = k; rect = d.rect; style = d.style }
 -- This project's own form: a box where it stands, with the boxes below it.
 pub record Place : Type 0 where
   pub at : Spot
-  pub below : Boxes
+  pub below : BoxForest
 
 -- This project's own form: the boxes of a forest in tree order, where they stand below the given ones.
-abbrev pub places : List BoxData → Boxes → List Place
+abbrev pub places : List BoxData → BoxForest → List Place
 places above empty = []
 places above (tree k d children next) =
     record { at = record { above = above; here = box k d }; below = children } ∷ places (box k d ∷ above) children ++ places above next
@@ -39,7 +39,7 @@ module _ (canvas : Rectangle) where
       record { at = e; order = steps canvas e below } ∷ below
 
   -- This project's own form: the boxes of a forest in tree order, each with all that it paints.
-  abbrev pub painted : List BoxData → Boxes → List Painted
+  abbrev pub painted : List BoxData → BoxForest → List Painted
   painted above empty = []
   painted above (tree k d children next) = with_below above (box k d) (painted (box k d ∷ above) children) ++ painted above next
 
@@ -48,7 +48,7 @@ module _ (canvas : Rectangle) where
   painting_order e = steps canvas e.at (painted (e.at.here ∷ e.at.above) e.below)
 
   -- CSS 2.2 Appendix E.2: the painting order of the first box, which is the root
-  abbrev pub root_order : Boxes → Entries Wrapper Leaf
+  abbrev pub root_order : BoxForest → Entries Wrapper Leaf
   root_order empty = nil
   root_order (tree k d children next) =
       let root : Place = record { at = record { above = []; here = box k d }; below = children } in

@@ -5,7 +5,7 @@ use Rattle.rd_item.specs.declared.leaf.Leaf.{Leaf}
 use Rattle.rd_item.specs.Leaves.{covers}
 use Rattle.rd_list.specs.Wrappers.{Wrapper}
 use Rattle.rd_list.specs.Entries.{Entries, flat, routes, only}
-use Rattle.rd_list.specs.Lists.{StandsFor, without, pixel, hit}
+use Rattle.rd_list.specs.Lists.{StandsFor, without_touched, pixel, hit}
 
 -- This project's own choice: what passes a test of a list that stands for another stands for what passes it of the other.
 abbrev pub LeavingLaw : Type 0
@@ -14,7 +14,7 @@ LeavingLaw = (p : Leaf → Bool) (kept fresh : Entries Wrapper Leaf) → StandsF
 -- This project's own choice: where two lists are the same without the touched boxes, each leaf of another box stands in both, under the same groups.
 abbrev pub StayingLaw : Type 0
 StayingLaw =
-    (touched : BoxKey → Bool) (before now : Entries Wrapper Leaf) → without touched before ≡ without touched now
+    (touched : BoxKey → Bool) (before now : Entries Wrapper Leaf) → without_touched touched before ≡ without_touched touched now
     → (path : List Wrapper) (l : Leaf) → Contains (routes [] now) (path, l) → touched l.owner ≡ false → Contains (routes [] before) (path, l)
 
 -- This project's own choice: no leaf of a touched box covers the pixel.
@@ -29,5 +29,5 @@ pub record StaysAt (before now : Entries Wrapper Leaf) (x y : ℤ) : Type 0 wher
 -- This project's own choice: so it is where the lists are the same without the touched boxes.
 abbrev pub OutsideLaw : Type 0
 OutsideLaw =
-    (touched : BoxKey → Bool) (before now : Entries Wrapper Leaf) → without touched before ≡ without touched now
+    (touched : BoxKey → Bool) (before now : Entries Wrapper Leaf) → without_touched touched before ≡ without_touched touched now
     → (x y : ℤ) → IsClear touched before x y → IsClear touched now x y → StaysAt before now x y

@@ -3,12 +3,12 @@ use Rattle.std.specs.Prelude.{ℤ, pos, int_lt, nat_lt, Bool, not, ◌&&◌, ◌
 use Rattle.rd_geom.specs.Plane.{Rectangle}
 use Rattle.rd_style.specs.declared.kinds.Class.{Class}
 use Rattle.rd_style.specs.declared.kinds.Class.TheVariants.{Float, Atom, Block, Inline}
-use Rattle.rd_style.specs.Boxes.{level, blocky}
+use Rattle.rd_style.specs.Classes.{level, blocky}
 use Rattle.rd_keys.specs.declared.entry.Part.{Part}
 use Rattle.rd_keys.specs.declared.entry.Part.TheVariants.{Back, Border, Content, Outline}
 use Rattle.rd_item.specs.declared.leaf.Leaf.{Leaf}
 use Rattle.rd_list.specs.Wrappers.{Wrapper}
-use Rattle.rd_list.specs.Entries.{Entries, nil, group, ◌▷◌, each, singly, flat, has_leaf}
+use Rattle.rd_list.specs.Entries.{Entries, nil, group, ◌▷◌, each, option_entry, flat, has_leaf}
 use Rattle.rd_stack.specs.Spots.{Spot, is_root, is_context, is, is_local, is_layer, is_in_line}
 use Rattle.rd_stack.specs.Parts.{leaf_of}
 
@@ -89,7 +89,7 @@ is_blocky e = blocky e.here.style (is_root e)
 module _ (canvas : Rectangle) where
   -- This project's own form: the leaf of a part, where there is one.
   abbrev pub paint : Part → Spot → Entries Wrapper Leaf
-  paint part x = singly (leaf_of canvas x part)
+  paint part x = option_entry (leaf_of canvas x part)
 
   -- CSS 2.2 Appendix E.2: the background, and the border on top of it
   abbrev pub back_border : Spot → Entries Wrapper Leaf

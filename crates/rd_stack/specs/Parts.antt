@@ -1,6 +1,6 @@
 -- The leaves of a box.
 use Rattle.std.specs.Prelude.{Bool, true, false, ◌||◌, if◌then◌else◌, nat_lt, Option, Some, None, option_map}
-use Rattle.rd_geom.specs.Plane.{Rectangle, common, no_pixels, has_none, grown}
+use Rattle.rd_geom.specs.Plane.{Rectangle, meet, no_pixels, has_none, outset}
 use Rattle.rd_geom.specs.declared.color.Color.{Color}
 use Rattle.rd_geom.specs.declared.rect.Sides.{Sides}
 use Rattle.rd_style.specs.declared.kinds.Visibility.{Visibility}
@@ -46,7 +46,7 @@ border b = if has_border b.style.border_width then Some (ring b.rect (padding_bo
 
 -- CSS 2.2 section 18.4: the outline lies outside the border box
 abbrev pub outline : BoxData → Option (Shape × Color)
-outline b = if nat_lt 0 b.style.outline_width then Some (ring (grown b.rect b.style.outline_width) b.rect, b.style.outline_color) else None
+outline b = if nat_lt 0 b.style.outline_width then Some (ring (outset b.rect b.style.outline_width) b.rect, b.style.outline_color) else None
 
 -- CSS 2.2 sections 8.5, 14.2 and 18.4: the shape and the colour of a part, where the box has it; that text is a rectangle is this project's own choice
 abbrev pub shape_of : Rectangle → Spot → Part → Option (Shape × Color)
@@ -59,7 +59,7 @@ shape_of canvas x Outline = outline x.here
 abbrev pub shown : Rectangle → Spot → Part → Option (Shape × Color) → Option Leaf
 shown canvas x part None = None
 shown canvas x part (Some s) =
-    let visible = common s.0.outer (clip_of canvas x) in
+    let visible = meet s.0.outer (clip_of canvas x) in
     if has_none visible then None else
     Some (record { owner = x.here.key; part = part; visible = visible; shape = s.0; color = s.1; hits = takes_hits x.here.style.pointer })
 

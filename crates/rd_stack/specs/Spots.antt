@@ -1,11 +1,11 @@
 -- Boxes where they stand, and how they take part in painting.
 use Rattle.std.specs.Prelude.{◌+◌, ◌-◌, Bool, true, false, not, ◌&&◌, ◌||◌, List, [], ◌∷◌, length, take}
 use Rattle.std.specs.List.{list_all, list_any}
-use Rattle.rd_geom.specs.Plane.{Rectangle, IsPlaced, grown}
+use Rattle.rd_geom.specs.Plane.{Rectangle, IsPlaced, outset}
 use Rattle.rd_style.specs.declared.styles.Style.{Style}
 use Rattle.rd_style.specs.declared.kinds.Class.{Class}
 use Rattle.rd_style.specs.declared.kinds.Class.TheVariants.{Layer, Float, Atom, Block, Inline}
-use Rattle.rd_style.specs.Boxes.{class, real}
+use Rattle.rd_style.specs.Classes.{class, real}
 use Rattle.rd_keys.specs.Keys.{BoxKey, same_key}
 
 -- CSS 2.2 section 8.1: a box by its name, its border box and its style
@@ -15,8 +15,8 @@ pub record BoxData : Type 0 where
   pub style : Style
 
 -- This project's own choice: the outline is within the limits of rectangles.
-abbrev pub HasRoom : BoxData → Type 0
-HasRoom b = IsPlaced (grown b.rect b.style.outline_width)
+abbrev pub OutlineFits : BoxData → Type 0
+OutlineFits b = IsPlaced (outset b.rect b.style.outline_width)
 
 -- This project's own form: a box with the boxes above it, from its parent up to the root.
 pub record Spot : Type 0 where

@@ -2,7 +2,7 @@
 ghost use Rattle.std.specs.Prelude.{◌≡◌};
 ghost use Rattle.rd_clip.specs.Standing.{clips_of};
 ghost use Rattle.rd_stack.specs.Clips.{clip_of, entered, padding_box};
-ghost use Rattle.rd_stack.specs.Seen.{spot};
+ghost use Rattle.rd_stack.specs.Internal.Seen.{spot};
 
 use crate::spot::{BoxData, Spot};
 use rd_clip::Clips;

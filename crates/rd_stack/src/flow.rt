@@ -1,6 +1,6 @@
 //! What a box paints of itself, and its line.
 ghost use Rattle.std.specs.Prelude.{◌≡◌, OnOk, map};
-ghost use Rattle.rd_stack.specs.Seen.{spot, seen};
+ghost use Rattle.rd_stack.specs.Internal.Seen.{spot, seen};
 ghost use Rattle.rd_list.specs.Entries.{◌▷◌, each};
 ghost use Rattle.rd_stack.specs.Spots as spots;
 ghost use Rattle.rd_stack.specs.Painting as painting;

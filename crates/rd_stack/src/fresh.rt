@@ -2,10 +2,10 @@
 ghost use Rattle.std.specs.Prelude.{◌≡◌, IfOk, MatchOption, map, ◌∷◌, ◌++◌};
 ghost use Rattle.rd_keys.specs.Keys.{same_key};
 ghost use Rattle.rd_tree.specs.Forest.{empty, from, from_some};
-ghost use Rattle.rd_stack.specs.Seen.{seen};
+ghost use Rattle.rd_stack.specs.Internal.Seen.{seen};
 ghost use Rattle.rd_stack.specs.Fresh as spec;
 ghost use Rattle.rd_stack.specs.Painting as painting;
-ghost use Rattle.rd_stack.specs.Looks.{Onward};
+ghost use Rattle.rd_stack.specs.Internal.Looks.{Onward};
 
 use crate::layers::group;
 use crate::painted::Painted;

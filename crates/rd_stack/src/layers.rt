@@ -1,11 +1,11 @@
 //! The layers of a stacking context, by level.
 ghost use Rattle.std.specs.Prelude.{◌≡◌, ◌≤◌, OnOk, IfOk, map, filter, length};
 ghost use Rattle.std.specs.List.{insert};
-ghost use Rattle.rd_stack.specs.Seen.{spot, seen, looked};
+ghost use Rattle.rd_stack.specs.Internal.Seen.{spot, seen, looked};
 ghost use Rattle.rd_list.specs.Entries.{◌▷◌, each};
 ghost use Rattle.rd_stack.specs.Spots as spots;
 ghost use Rattle.rd_stack.specs.Painting as painting;
-ghost use Rattle.rd_stack.specs.Tests as tests;
+ghost use Rattle.rd_stack.specs.Internal.Tests as tests;
 
 use crate::painted::Painted;
 use crate::spot::{Spot, is_context, is_layer, is_root};

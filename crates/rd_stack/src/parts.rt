@@ -1,6 +1,6 @@
 //! The leaves of a box.
 ghost use Rattle.std.specs.Prelude.{◌≡◌, Some};
-ghost use Rattle.rd_stack.specs.Seen.{spot};
+ghost use Rattle.rd_stack.specs.Internal.Seen.{spot};
 ghost use Rattle.rd_stack.specs.Parts as parts;
 
 use crate::clip::{clip, padding};

@@ -1,8 +1,8 @@
 //! Boxes where they stand, and the tests of painting on them.
 ghost use Rattle.std.specs.Prelude.{◌≡◌};
 ghost use Rattle.std.specs.List.{list_all};
-ghost use Rattle.rd_geom.specs.Plane.{IsPlaced, grown};
-ghost use Rattle.rd_stack.specs.Seen.{spot};
+ghost use Rattle.rd_geom.specs.Plane.{IsPlaced, outset};
+ghost use Rattle.rd_stack.specs.Internal.Seen.{spot};
 ghost use Rattle.rd_stack.specs.Spots as spots;
 ghost use Rattle.rd_style.specs.declared.kinds.Class.TheVariants as classes;
 
@@ -20,20 +20,20 @@ pub struct BoxData {
 }
 
 impl Model for BoxData {
-    ghost use Rattle.rd_stack.specs.Spots.{BoxData, HasRoom};
+    ghost use Rattle.rd_stack.specs.Spots.{BoxData, OutlineFits};
 
     ghost Value = { BoxData };
 
     ghost view = { λ a. record { key = a.key; rect = a.rect; style = a.style } };
 
-    ghost invariant = { λ a. HasRoom (record { key = a.key; rect = a.rect; style = a.style }) };
+    ghost invariant = { λ a. OutlineFits (record { key = a.key; rect = a.rect; style = a.style }) };
 
     ghost inverse = { λ b. record { key = b.key; rect = b.rect; style = b.style } };
 }
 
 impl BoxData {
     pub fn new(key: BoxKey, rect: Rect, style: Style) -> BoxData
-        requires { IsPlaced (grown rect style.outline_width) }
+        requires { IsPlaced (outset rect style.outline_width) }
         ensures { result ≡ record { key = key; rect = rect; style = style } }
     {
         BoxData { key, rect, style }

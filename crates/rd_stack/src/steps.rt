@@ -1,10 +1,10 @@
 //! The ten steps of the painting order (CSS 2.2 Appendix E.2).
 ghost use Rattle.std.specs.Prelude.{◌≡◌, OnOk, IfOk, map, filter, not};
-ghost use Rattle.rd_stack.specs.Seen.{spot, seen};
+ghost use Rattle.rd_stack.specs.Internal.Seen.{spot, seen};
 ghost use Rattle.rd_list.specs.Entries.{◌▷◌, each};
 ghost use Rattle.rd_stack.specs.Spots as spots;
 ghost use Rattle.rd_stack.specs.Painting as painting;
-ghost use Rattle.rd_stack.specs.Tests as tests;
+ghost use Rattle.rd_stack.specs.Internal.Tests as tests;
 ghost use Rattle.rd_keys.specs.declared.entry.Part.TheVariants as parts;
 
 use crate::flow::{back_border, flow, paint};

@@ -1,6 +1,6 @@
 //! The plain program on small documents, of which every pixel and hit was worked out by hand.
 ghost use Rattle.std.specs.Prelude.{◌≡◌, ◌+◌, ◌<◌, ◌≤◌, IfOk, OnOk, length};
-ghost use Rattle.rd_tree.specs.Document.{HasRoom, taken};
+ghost use Rattle.rd_tree.specs.Document.{OutlineFits, taken};
 
 use crate::fresh_list;
 use rd_geom::{Color, Rect, Sides, Size, Steps};
@@ -94,7 +94,7 @@ fn rect_of(rt: &impl Abort, r: &[i32; 4]) -> Rect {
 }
 
 fn add<B: Ledger>(rt: &impl Abort, alloc: Global, tree: &mut Tree<B>, row: &Row) -> Result<(), Fail>
-    requires { HasRoom tree.old }
+    requires { OutlineFits tree.old }
     ensures { OnOk result (taken tree.new ≡ taken tree.old + 1) }
 {
     let parent = Id::new(alloc, row.parent)?;

@@ -1,10 +1,10 @@
 use Rattle.std.proofs.Common.{ℕ, ◌≤◌, arith}
 use Rattle.std.proofs.lemmas.Int.{ints}
-use Rattle.rd_geom.specs.Plane.{Rectangle, IsPlaced, grown}
+use Rattle.rd_geom.specs.Plane.{Rectangle, IsPlaced, outset}
 use Rattle.rd_style.specs.Limits.{FitsRect}
 
 -- round a box within the limits there is room for its outline
-pub grown_is_placed : (r : Rectangle) (n : ℕ) → FitsRect r → n ≤ 1000 → IsPlaced (grown r n)
+pub grown_is_placed : (r : Rectangle) (n : ℕ) → FitsRect r → n ≤ 1000 → IsPlaced (outset r n)
 grown_is_placed r n f small = record {
   wide = omega (arith, ints);
   high = omega (arith, ints);

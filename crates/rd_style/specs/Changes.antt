@@ -8,7 +8,7 @@ use Rattle.rd_style.specs.declared.kinds.Display.TheVariants as display
 use Rattle.rd_style.specs.declared.kinds.Floating.TheVariants as floating
 use Rattle.rd_style.specs.declared.kinds.Visibility.TheVariants as visibility
 use Rattle.rd_style.specs.declared.kinds.Pointer.TheVariants as pointer
-use Rattle.rd_style.specs.Boxes.{clips}
+use Rattle.rd_style.specs.Classes.{clips}
 
 -- CSS Color 3 section 4.1: the keyword black
 abbrev pub black : Color

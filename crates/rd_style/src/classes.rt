@@ -1,7 +1,7 @@
 //! What CSS makes of one style.
 
 ghost use Rattle.std.specs.Prelude.{◌≡◌};
-ghost use Rattle.rd_style.specs.Boxes as boxes;
+ghost use Rattle.rd_style.specs.Classes as boxes;
 
 use crate::kinds::{Class, Display, Floating, Overflow, Position};
 use crate::styles::Style;

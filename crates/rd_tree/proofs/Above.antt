@@ -8,11 +8,11 @@ use Rattle.rd_keys.proofs.Keys.{same_key-sound, same_key-refl}
 use Rattle.rd_tree.specs.declared.node.Node as inner
 use Rattle.rd_tree.specs.declared.near.Near.{Near}
 use Rattle.rd_tree.specs.Forest.{empty, tree, has, children, depth, IsApart}
-use Rattle.rd_tree.specs.Links.{Node, Stands, up_of}
-use Rattle.rd_tree.specs.Document.{BoxKey, Item, Boxes}
-use Rattle.rd_tree.specs.Linked.{linked, plain, IsTree}
+use Rattle.rd_tree.specs.Internal.Links.{Node, Stands, up_of}
+use Rattle.rd_tree.specs.Document.{BoxKey, Item, BoxForest}
+use Rattle.rd_tree.specs.Internal.Linked.{linked, plain, IsTree}
 use Rattle.rd_tree.specs.Near.{near_at, is_above}
-use Rattle.rd_tree.specs.Rows.{IsStanding, IsIn, Puts}
+use Rattle.rd_tree.specs.Internal.Rows.{IsStanding, IsIn, Puts}
 use Rattle.rd_tree.proofs.Standing.{cases, never, from_left, no_children, refute}
 use Rattle.rd_tree.proofs.Children.{stands_children}
 use Rattle.rd_tree.proofs.Climbing.{First, Child, climb, depth_size}
@@ -45,7 +45,7 @@ puts_at a old new k row p v j u =
       off : (s t g h : ℕ) → (t == s) ≡ false → ((s == t) && (g == h)) ≡ false
       off s t g h e = grind arith
 
-module _ (a : Arena inner.Node) (root : BoxKey) (f : Boxes) (is : IsStanding a root f) (k : BoxKey) (m : has same_key k f ≡ true) where
+module _ (a : Arena inner.Node) (root : BoxKey) (f : BoxForest) (is : IsStanding a root f) (k : BoxKey) (m : has same_key k f ≡ true) where
   node_of : (y : Node BoxKey Item) × (linked a k ≡ Some y) × Stands (linked a) (Some k) None (children same_key k f) y.first y.last None × IsApart same_key (children same_key k f) × (has same_key k (children same_key k f) ≡ false)
   node_of = stands_children same_key same_key-sound same_key-refl (linked a) None None f (Some root) (Some root) None k is.apart is.stands m
 
@@ -84,7 +84,7 @@ module _ (a : Arena inner.Node) (root : BoxKey) (f : Boxes) (is : IsStanding a r
   above_self = from_left (same_key k k) (has same_key k (children same_key k f)) (same_key-refl k)
 
 -- What is above a box of a forest is in it.
-pub above_in : (o : Option BoxKey) (k : BoxKey) (f : Boxes) → IsIn o f → is_above o k f ≡ true → has same_key k f ≡ true
+pub above_in : (o : Option BoxKey) (k : BoxKey) (f : BoxForest) → IsIn o f → is_above o k f ≡ true → has same_key k f ≡ true
 above_in None k f i u = absurd (never false u refl)
 above_in (Some j) k f i u =
     elim (cases (has same_key k f)) [
@@ -108,7 +108,7 @@ from_up_none : (n : ℕ) (at : BoxKey → Option (Node BoxKey Item)) → from_up
 from_up_none zero at = refl
 from_up_none (suc n) at = refl
 
-deep : (k : BoxKey) (f : Boxes) → has same_key k f ≡ true → 1 ≤ depth same_key k f
+deep : (k : BoxKey) (f : BoxForest) → has same_key k f ≡ true → 1 ≤ depth same_key k f
 deep k empty m = absurd (never false m refl)
 deep k (tree j d below rest) m = at (same_key k j) (has same_key k below) (has same_key k rest) m (depth same_key k below) (depth same_key k rest) (deep k below) (deep k rest) where
   at : (b c e : Bool) → (b || (c || e)) ≡ true → (x y : ℕ) → (c ≡ true → 1 ≤ x) → (e ≡ true → 1 ≤ y) → 1 ≤ cond b 1 (cond c (1 + x) y)
@@ -116,7 +116,7 @@ deep k (tree j d below rest) m = at (same_key k j) (has same_key k below) (has s
   at false true e m x y u v = omega arith
   at false false e m x y u v = v m
 
-from_up_depth : (n : ℕ) (a : Arena inner.Node) (root : BoxKey) (f : Boxes) → IsStanding a root f → (k : BoxKey) → has same_key k f ≡ true → depth same_key k f ≤ n → from_up n (linked a) (Some k) ≡ depth same_key k f
+from_up_depth : (n : ℕ) (a : Arena inner.Node) (root : BoxKey) (f : BoxForest) → IsStanding a root f → (k : BoxKey) → has same_key k f ≡ true → depth same_key k f ≤ n → from_up n (linked a) (Some k) ≡ depth same_key k f
 from_up_depth zero a root f is k m h = absurd (omega (arith, deep k f m, h))
 from_up_depth (suc n) a root f is k m h =
     elim (step a root f is k m) [
@@ -127,7 +127,7 @@ from_up_depth (suc n) a root f is k m h =
     ]
 
 -- A step up leaves fewer boxes above.
-pub fewer_up : (a : Arena inner.Node) (root : BoxKey) (f : Boxes) → IsStanding a root f → (k : BoxKey) → has same_key k f ≡ true → from_up a.limit (linked a) (up_of (linked a k)) < from_up a.limit (linked a) (Some k)
+pub fewer_up : (a : Arena inner.Node) (root : BoxKey) (f : BoxForest) → IsStanding a root f → (k : BoxKey) → has same_key k f ≡ true → from_up a.limit (linked a) (up_of (linked a k)) < from_up a.limit (linked a) (Some k)
 fewer_up a root f is k m =
     let small : depth same_key k f ≤ a.limit = omega (arith, depth_size k f, is.small) in
     let here : from_up a.limit (linked a) (Some k) ≡ depth same_key k f = from_up_depth a.limit a root f is k m small in
@@ -141,7 +141,7 @@ fewer_up a root f is k m =
     ]
 
 -- No box outside a forest is above one of it.
-pub off_outside : (o : Option BoxKey) (k : BoxKey) (f : Boxes) → IsIn o f → has same_key k f ≡ false → is_above o k f ≡ false
+pub off_outside : (o : Option BoxKey) (k : BoxKey) (f : BoxForest) → IsIn o f → has same_key k f ≡ false → is_above o k f ≡ false
 off_outside o k f i n = refute (is_above o k f) (λ u. never (has same_key k f) (above_in o k f i u) n)
 
 -- The links of a tree stand for its boxes.

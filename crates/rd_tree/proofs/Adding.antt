@@ -12,10 +12,10 @@ use Rattle.rd_keys.proofs.Calls.{value-before, live-enters, occupied-enters, lim
 use Rattle.rd_keys.proofs.Keys.{same_key-sound, same_key-refl}
 use Rattle.rd_tree.specs.declared.node.Node as inner
 use Rattle.rd_tree.specs.Forest.{empty, tree, has, children, IsPlaceIn}
-use Rattle.rd_tree.specs.Links.{Node, ends_of, left_of, grafted}
+use Rattle.rd_tree.specs.Internal.Links.{Node, ends_of, left_of, grafted}
 use Rattle.rd_style.specs.Limits.{FitsRect, Fits}
 use Rattle.rd_tree.specs.Document.{BoxKey, Item, named, with_taken}
-use Rattle.rd_tree.specs.Linked.{plain, linked, Relinks, IsTree, seen, marks, item_at, IsIndexed, AddsText, EachFits, IsSound}
+use Rattle.rd_tree.specs.Internal.Linked.{plain, linked, Relinks, IsTree, seen, marks, item_at, IsIndexed, AddsText, EachFits, IsConsistent}
 use Rattle.rd_tree.proofs.Marks.{marks-enters}
 use Rattle.rd_tree.proofs.Standing.{cases}
 use Rattle.rd_tree.proofs.Grow.{fresh, alone, linked_put, GrownTree, grow_tree, planted, no_value}
@@ -85,11 +85,11 @@ indexed_added k d old new ids0 ids1 more free none adds x = record { named = nam
 
 -- A box came in with its id, and the links round it were set.
 pub grow_sound : {Y S : Type 0} (a0 a1 a2 : Arena inner.Node) (root p k : BoxKey) (before : Option BoxKey) (d : Item) (ids0 ids1 : HashMap (String Y) BoxKey S) →
-    IsSound a0 root ids0 → occupied a0 < 20000 → has same_key p (seen a0 root) ≡ true → IsPlaceIn same_key before (children same_key p (seen a0 root)) → named d.id (seen a0 root) ≡ None →
+    IsConsistent a0 root ids0 → occupied a0 < 20000 → has same_key p (seen a0 root) ≡ true → IsPlaceIn same_key before (children same_key p (seen a0 root)) → named d.id (seen a0 root) ≡ None →
     FitsRect d.rect → Fits d.style → value a0 k.slot k.generation ≡ None →
     Enters a0 a1 k.slot k.generation (fresh d p (left_of (linked a0) (ends_of (linked a0 p)).1 before) before) → live a1 ≡ live a0 + 1 → occupied a1 ≡ occupied a0 + 1 → AddsText d.id k ids0 ids1 →
     Relinks a1 a2 (grafted same_key p k (left_of (linked a0) (ends_of (linked a0 p)).1 before) before (ends_of (linked a0 p)).0 (ends_of (linked a0 p)).1 (linked a1)) →
-    IsSound a2 root ids1 × GrownTree a0 a2 root p k before d × (marks a2 ≡ with_taken (marks a0) k)
+    IsConsistent a2 root ids1 × GrownTree a0 a2 root p k before d × (marks a2 ≡ with_taken (marks a0) k)
 grow_sound a0 a1 a2 root p k before d ids0 ids1 s room m place new_id r st free stored more still adds r2 =
     let room2 : occupied a0 < a0.limit = rw s.limit room in
     let g : GrownTree a0 a2 root p k before d = grow_tree a0 a1 a2 root p k before d s.tree room2 m place free stored more still r2 in
@@ -111,7 +111,7 @@ grow_sound a0 a1 a2 root p k before d ids0 ids1 s room m place new_id r st free 
 pub planted_sound : {Y S : Type 0} (a0 a1 : Arena inner.Node) (k : BoxKey) (d : Item) (ids0 ids1 : HashMap (String Y) BoxKey S) →
     a0.slots ≡ [] → a0.limit ≡ 20000 → a0.first ≡ 0 → FitsRect d.rect → Fits d.style → Enters a0 a1 k.slot k.generation (alone d) → live a1 ≡ live a0 + 1 → occupied a1 ≡ occupied a0 + 1 →
     ((i : List ℕ) → get_by_text ids0 i ≡ None) → AddsText d.id k ids0 ids1 →
-    IsSound a1 k ids1 × (seen a1 k ≡ tree k d empty empty)
+    IsConsistent a1 k ids1 × (seen a1 k ≡ tree k d empty empty)
 planted_sound a0 a1 k d ids0 ids1 none limit first r st stored more still no_id adds =
     let t : (t : IsTree a1 k) × (seen a1 k ≡ tree k d empty empty) = planted a0 a1 k d none (rw limit (omega arith)) stored more still in
     let nothing : (j : BoxKey) → item_at a0 j ≡ None = λ j. ap (λ o. option_map (λ n. n.item) (option_map plain o)) (no_value a0 j.slot j.generation none) in
@@ -131,7 +131,7 @@ planted_sound a0 a1 k d ids0 ids1 none limit first r st stored more still no_id 
       kept false o = refl
 
 -- An index with the same entries serves as well.
-pub same_entries : {Y S : Type 0} (a : Arena inner.Node) (root : BoxKey) (ids0 ids1 : HashMap (String Y) BoxKey S) → ids1.entries ≡ ids0.entries → IsSound a root ids0 → IsSound a root ids1
+pub same_entries : {Y S : Type 0} (a : Arena inner.Node) (root : BoxKey) (ids0 ids1 : HashMap (String Y) BoxKey S) → ids1.entries ≡ ids0.entries → IsConsistent a root ids0 → IsConsistent a root ids1
 same_entries a root ids0 ids1 e s =
     let same : (i : List ℕ) → get_by_text ids1 i ≡ get_by_text ids0 i = λ i. ap (lookup (λ k. bytes_eq i (string_bytes k))) e in
     record { tree = s.tree; indexed = record { named = λ k d h. same d.id ∙ s.indexed.named k d h; live = λ i k h. s.indexed.live i k (sym (same i) ∙ h) }; fits = s.fits; limit = s.limit; first = s.first }
@@ -150,11 +150,11 @@ no_text ids e i = ap (lookup (λ k. bytes_eq i (string_bytes k))) e
 
 -- The same, as the code knows it.
 pub grown_so : {Y S : Type 0} (a0 a1 a2 : Arena inner.Node) (root p k : BoxKey) (before : Option BoxKey) (d : Item) (ids0 ids1 : HashMap (String Y) BoxKey S) (i : List ℕ) (v : Option BoxKey) (ends : Option BoxKey × Option BoxKey) →
-    IsSound a0 root ids0 → occupied a0 < 20000 → has same_key p (seen a0 root) ≡ true → IsPlaceIn same_key before (children same_key p (seen a0 root)) → named d.id (seen a0 root) ≡ None →
+    IsConsistent a0 root ids0 → occupied a0 < 20000 → has same_key p (seen a0 root) ≡ true → IsPlaceIn same_key before (children same_key p (seen a0 root)) → named d.id (seen a0 root) ≡ None →
     FitsRect d.rect → Fits d.style → i ≡ d.id → v ≡ left_of (linked a0) ends.1 before → ends ≡ ends_of (linked a0 p) →
     Enters a0 a1 k.slot k.generation (fresh (record d { id = i }) p v before) → AddsText i k ids0 ids1 →
     Relinks a1 a2 (grafted same_key p k v before ends.0 ends.1 (linked a1)) →
-    IsSound a2 root ids1 × GrownTree a0 a2 root p k before d × (marks a2 ≡ with_taken (marks a0) k)
+    IsConsistent a2 root ids1 × GrownTree a0 a2 root p k before d × (marks a2 ≡ with_taken (marks a0) k)
 grown_so a0 a1 a2 root p k before d ids0 ids1 i v ends s room m place new_id r st same_id left ends_are stored adds links =
     let s1 : Enters a0 a1 k.slot k.generation (fresh d p v before) = subst (λ j. Enters a0 a1 k.slot k.generation (fresh (record d { id = j }) p v before)) same_id stored in
     let v2 : v ≡ left_of (linked a0) (ends_of (linked a0 p)).1 before = left ∙ ap (λ o. left_of (linked a0) o.1 before) ends_are in

@@ -5,23 +5,23 @@ use Rattle.rd_style.specs.declared.styles.StyleChange.{StyleChange}
 use Rattle.rd_keys.specs.Keys.{same_key}
 use Rattle.rd_tree.specs.declared.reach.Reach.{Reach}
 use Rattle.rd_tree.specs.declared.reach.Reach.TheVariants.{Nothing, Alone, Subtree}
-use Rattle.rd_tree.specs.Document.{BoxKey, Boxes}
+use Rattle.rd_tree.specs.Document.{BoxKey, BoxForest}
 use Rattle.rd_tree.specs.Forest.{item_of, in_subtree, at_box, IsApart}
 use Rattle.rd_tree.specs.Works.{touch}
 use Rattle.rd_tree.specs.Edits.{style_reach, rect_reach, restyle, with_rect, touched_by, restyled, replaced}
 use Rattle.rd_tree.proofs.Each.{apart_each}
 
-touched_by-apart : (r : Reach) (k : BoxKey) (f : Boxes) → IsApart same_key f → IsApart same_key (touched_by r k f)
+touched_by-apart : (r : Reach) (k : BoxKey) (f : BoxForest) → IsApart same_key f → IsApart same_key (touched_by r k f)
 touched_by-apart Nothing k f a = a
 touched_by-apart Alone k f a = apart_each (λ j. same_key j k) touch same_key f a
 touched_by-apart Subtree k f a = apart_each (λ j. in_subtree same_key j k f) touch same_key f a
 
-pub restyled-apart : (root k : BoxKey) (c : StyleChange) (f : Boxes) → IsApart same_key f → IsApart same_key (restyled root k c f)
+pub restyled-apart : (root k : BoxKey) (c : StyleChange) (f : BoxForest) → IsApart same_key f → IsApart same_key (restyled root k c f)
 restyled-apart root k c f a =
     touched_by-apart (option_map_or (λ d. style_reach d.style (same_key k root) c) (item_of same_key k f) Nothing) k (at_box same_key k (restyle c) f)
     (apart_each (λ j. same_key j k) (restyle c) same_key f a)
 
-pub replaced-apart : (root k : BoxKey) (r : Rectangle) (f : Boxes) → IsApart same_key f → IsApart same_key (replaced root k r f)
+pub replaced-apart : (root k : BoxKey) (r : Rectangle) (f : BoxForest) → IsApart same_key f → IsApart same_key (replaced root k r f)
 replaced-apart root k r f a =
     touched_by-apart (option_map_or (λ d. rect_reach d.style (same_key k root)) (item_of same_key k f) Nothing) k (at_box same_key k (with_rect r) f)
     (apart_each (λ j. same_key j k) (with_rect r) same_key f a)

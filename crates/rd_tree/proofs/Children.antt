@@ -2,7 +2,7 @@
 use Rattle.std.proofs.Common.{◌≡◌, refl, ap, ◌∙◌, sym, subst, Bool, true, false, inl, inr}
 use Rattle.std.specs.Prelude.{Option, Some, None}
 use Rattle.rd_tree.specs.Forest.{Forest, empty, tree, has, children, IsApart}
-use Rattle.rd_tree.specs.Links.{Node, node, Stands}
+use Rattle.rd_tree.specs.Internal.Links.{Node, node, Stands}
 use Rattle.rd_tree.proofs.Standing.{cases, join-empty, no_children, never}
 
 module _ {K D : Type 0} (same : K → K → Bool) (sound : (a b : K) → same a b ≡ true → a ≡ b) (reflexive : (a : K) → same a a ≡ true) where

@@ -7,9 +7,9 @@ use Rattle.rd_keys.proofs.Calls.{live_occupied}
 use Rattle.rd_keys.proofs.Keys.{same_key-sound, same_key-refl}
 use Rattle.rd_tree.specs.declared.node.Node as inner
 use Rattle.rd_tree.specs.Forest.{Forest, empty, tree, ◌▷◌, size, has, children, depth, is_among, IsApart}
-use Rattle.rd_tree.specs.Links.{Node, Stands, up_of}
-use Rattle.rd_tree.specs.Document.{BoxKey, Item, Boxes}
-use Rattle.rd_tree.specs.Linked.{linked, IsTree, seen}
+use Rattle.rd_tree.specs.Internal.Links.{Node, Stands, up_of}
+use Rattle.rd_tree.specs.Document.{BoxKey, Item, BoxForest}
+use Rattle.rd_tree.specs.Internal.Linked.{linked, IsTree, seen}
 use Rattle.rd_tree.proofs.Standing.{flip, cases, never, refute, from_left, from_right, has-join, out_of_children, differs, apart_back}
 use Rattle.rd_tree.proofs.Children.{stands_children}
 use Rattle.rd_tree.proofs.Under.{which}
@@ -144,7 +144,7 @@ climb_seen a root k t m =
     (climb same_key same_key-sound same_key-refl (linked a) None None t.boxes (Some root) (Some root) None k t.is.apart t.is.stands (subst (λ f. has same_key k f ≡ true) e m))
 
 -- What a step to the parent tells.
-pub record Stepped (f : Boxes) (k p : BoxKey) : Type 0 where
+pub record Stepped (f : BoxForest) (k p : BoxKey) : Type 0 where
   pub there : has same_key p f ≡ true
   pub deep : depth same_key k f ≡ depth same_key p f + 1
   pub below_too : (q : BoxKey) → has same_key k (children same_key q f) ≡ (same_key p q || has same_key p (children same_key q f))
@@ -156,7 +156,7 @@ step_up a root k p t m e =
       | inr x ↦ let n : x.parent ≡ p = cc (e, x.up_is) in subst (λ q. Stepped (seen a root) k q) n (record { there = x.there; deep = x.deep; below_too = x.below_too })
     ]
 
-pub record AtTop (f : Boxes) (k : BoxKey) : Type 0 where
+pub record AtTop (f : BoxForest) (k : BoxKey) : Type 0 where
   pub deep : depth same_key k f ≡ 1
   pub below_none : (q : BoxKey) → has same_key k (children same_key q f) ≡ false
 
@@ -223,7 +223,7 @@ no_child a root k q t n e = subst (λ f. false ≡ is_among same_key k (children
       let up : up_of (linked a k) ≡ Some q = among_up same_key same_key-sound same_key-refl (linked a) (Some q) None (children same_key q t.boxes) x.0.first x.0.last None k x.2 u in
       cc (e, up)
 
-pub depth_size : (k : BoxKey) (f : Boxes) → depth same_key k f ≤ size f
+pub depth_size : (k : BoxKey) (f : BoxForest) → depth same_key k f ≤ size f
 depth_size k empty = omega arith
 depth_size k (tree j d below rest) = at (same_key k j) (has same_key k below) (depth same_key k below) (depth same_key k rest) (size below) (size rest) (depth_size k below) (depth_size k rest) where
   at : (b c : Bool) (x y m n : ℕ) → x ≤ m → y ≤ n → cond b 1 (cond c (1 + x) y) ≤ 1 + (m + n)

@@ -14,12 +14,12 @@ use Rattle.rd_tree.specs.declared.node.Node as inner
 use Rattle.rd_tree.specs.declared.reach.Reach.{Reach}
 use Rattle.rd_tree.specs.declared.reach.Reach.TheVariants.{Nothing, Alone, Subtree}
 use Rattle.rd_tree.specs.declared.walk.Work.TheVariants.{Shift}
-use Rattle.rd_tree.specs.Forest.{empty, tree, has, children, top, from, each_if, at_box, at_subtree, AllItems, IsApart}
-use Rattle.rd_tree.specs.Links.{Node, with_item, Stands, edit, on_each, onward_of}
-use Rattle.rd_tree.specs.Document.{BoxKey, Item, Boxes}
-use Rattle.rd_tree.specs.Linked.{linked, Relinks, IsTree, seen, seen_from, item_at, EachFits, IsSound}
+use Rattle.rd_tree.specs.Forest.{empty, tree, has, children, top, from, map_where, at_box, at_subtree, AllItems, IsApart}
+use Rattle.rd_tree.specs.Internal.Links.{Node, with_item, Stands, edit, on_each, onward_of}
+use Rattle.rd_tree.specs.Document.{BoxKey, Item, BoxForest}
+use Rattle.rd_tree.specs.Internal.Linked.{linked, Relinks, IsTree, seen, seen_from, item_at, EachFits, IsConsistent}
 use Rattle.rd_tree.specs.Works.{touch, settled, move_by, shifted, Allows}
-use Rattle.rd_tree.specs.WorksAt.{AllowsAt, FitsAt, ShiftFitsAt, reached}
+use Rattle.rd_tree.specs.Internal.WorksAt.{AllowsAt, FitsAt, ShiftFitsAt, reached}
 use Rattle.rd_tree.specs.Edits.{touched_by, restyle, with_rect, CanRestyle, CanShift}
 use Rattle.rd_tree.proofs.Standing.{never}
 use Rattle.rd_tree.proofs.Under.{which}
@@ -48,41 +48,41 @@ of_item a root k j P d t h e i =
     let n : j ≡ k = same_key-sound j k e in
     if_some (top (from same_key k (seen a root))) P d h (sym (item_seen a root k t) ∙ subst (λ x. item_at a x ≡ Some d) n i)
 
-pub styled : {Y S : Type 0} (a b : Arena inner.Node) (root k : BoxKey) (ids : HashMap (String Y) BoxKey S) (c : StyleChange) → IsSound a root ids → CanRestyle k c (seen a root) → Relinks a b (edit same_key k (with_item (restyle c)) (linked a)) →
-    IsSound b root ids × (seen b root ≡ at_box same_key k (restyle c) (seen a root))
+pub styled : {Y S : Type 0} (a b : Arena inner.Node) (root k : BoxKey) (ids : HashMap (String Y) BoxKey S) (c : StyleChange) → IsConsistent a root ids → CanRestyle k c (seen a root) → Relinks a b (edit same_key k (with_item (restyle c)) (linked a)) →
+    IsConsistent b root ids × (seen b root ≡ at_box same_key k (restyle c) (seen a root))
 styled a b root k ids c s can r =
     let e : Relinks a b (on_each (λ j. same_key j k) (restyle c) (linked a)) = edit_each a b k (restyle c) r in (
       each_sound a b root ids (λ j. same_key j k) (restyle c) s e (λ d. refl) (λ j d i u. ((s.fits j d i).0, of_item a root k j (λ d. Fits (changed d.style c)) d s.tree can u i)),
       (each_tree a b root (λ j. same_key j k) (restyle c) s.tree e).1,
     )
 
-pub put : {Y S : Type 0} (a b : Arena inner.Node) (root k : BoxKey) (ids : HashMap (String Y) BoxKey S) (q : Rectangle) → IsSound a root ids → FitsRect q → Relinks a b (edit same_key k (with_item (with_rect q)) (linked a)) →
-    IsSound b root ids × (seen b root ≡ at_box same_key k (with_rect q) (seen a root))
+pub put : {Y S : Type 0} (a b : Arena inner.Node) (root k : BoxKey) (ids : HashMap (String Y) BoxKey S) (q : Rectangle) → IsConsistent a root ids → FitsRect q → Relinks a b (edit same_key k (with_item (with_rect q)) (linked a)) →
+    IsConsistent b root ids × (seen b root ≡ at_box same_key k (with_rect q) (seen a root))
 put a b root k ids q s fit r =
     let e : Relinks a b (on_each (λ j. same_key j k) (with_rect q) (linked a)) = edit_each a b k (with_rect q) r in (
       each_sound a b root ids (λ j. same_key j k) (with_rect q) s e (λ d. refl) (λ j d i u. (fit, (s.fits j d i).1)),
       (each_tree a b root (λ j. same_key j k) (with_rect q) s.tree e).1,
     )
 
-each_none : (g : Item → Item) (f : Boxes) → each_if (λ j. false) g f ≡ f
+each_none : (g : Item → Item) (f : BoxForest) → map_where (λ j. false) g f ≡ f
 each_none g empty = refl
 each_none g (tree k d below rest) = rw (each_none g below, each_none g rest) refl
 
-pub touched_sound : {Y S : Type 0} (a b : Arena inner.Node) (root k : BoxKey) (ids : HashMap (String Y) BoxKey S) (reach : Reach) → IsSound a root ids → has same_key k (seen a root) ≡ true →
-    Relinks a b (on_each (reached reach k (seen_from a (onward_of (linked a k)).0)) touch (linked a)) → IsSound b root ids × (seen b root ≡ touched_by reach k (seen a root))
+pub touched_sound : {Y S : Type 0} (a b : Arena inner.Node) (root k : BoxKey) (ids : HashMap (String Y) BoxKey S) (reach : Reach) → IsConsistent a root ids → has same_key k (seen a root) ≡ true →
+    Relinks a b (on_each (reached reach k (seen_from a (onward_of (linked a k)).0)) touch (linked a)) → IsConsistent b root ids × (seen b root ≡ touched_by reach k (seen a root))
 touched_sound a b root k ids reach s m r =
     let u : Under a root k (onward_of (linked a k)).0 = under_box a root k s.tree m in
     let p : BoxKey → Bool = reached reach k (seen_from a (onward_of (linked a k)).0) in (
       each_sound a b root ids p touch s r (λ d. refl) (λ j d i v. s.fits j d i),
       (each_tree a b root p touch s.tree r).1 ∙ by reach (seen_from a (onward_of (linked a k)).0) u.told,
     ) where
-      by : (reach : Reach) (f : Boxes) → f ≡ children same_key k (seen a root) → each_if (reached reach k f) touch (seen a root) ≡ touched_by reach k (seen a root)
+      by : (reach : Reach) (f : BoxForest) → f ≡ children same_key k (seen a root) → map_where (reached reach k f) touch (seen a root) ≡ touched_by reach k (seen a root)
       by Nothing f e = each_none touch (seen a root)
       by Alone f e = refl
-      by Subtree f e = ap (λ c. each_if (λ j. same_key j k || has same_key j c) touch (seen a root)) e
+      by Subtree f e = ap (λ c. map_where (λ j. same_key j k || has same_key j c) touch (seen a root)) e
 
 -- each of the boxes that stand is such a one
-items_in : (P : Item → Type 0) (at : BoxKey → Option (Node BoxKey Item)) (up prev : Option BoxKey) (f : Boxes) (first last after : Option BoxKey) (j : BoxKey) (d : Item) → Stands at up prev f first last after → AllItems P f → has same_key j f ≡ true → option_map (λ n. n.item) (at j) ≡ Some d → P d
+items_in : (P : Item → Type 0) (at : BoxKey → Option (Node BoxKey Item)) (up prev : Option BoxKey) (f : BoxForest) (first last after : Option BoxKey) (j : BoxKey) (d : Item) → Stands at up prev f first last after → AllItems P f → has same_key j f ≡ true → option_map (λ n. n.item) (at j) ≡ Some d → P d
 items_in P at up prev empty first last after j d s all m i = absurd (never false m refl)
 items_in P at up prev (tree k e below rest) first last after j d s all m i =
     elim (which (same_key j k) (has same_key j below || has same_key j rest) m) [
@@ -98,8 +98,8 @@ items_in P at up prev (tree k e below rest) first last after j d s all m i =
           ]
     ]
 
-pub shift_sound : {Y S : Type 0} (a b : Arena inner.Node) (root k : BoxKey) (ids : HashMap (String Y) BoxKey S) (dx dy : ℤ) → IsSound a root ids → has same_key k (seen a root) ≡ true → CanShift dx dy k (seen a root) →
-    Relinks a b (on_each (λ j. same_key j k || has same_key j (seen_from a (onward_of (linked a k)).0)) (move_by dx dy) (linked a)) → IsSound b root ids × (seen b root ≡ at_subtree same_key k (move_by dx dy) (seen a root))
+pub shift_sound : {Y S : Type 0} (a b : Arena inner.Node) (root k : BoxKey) (ids : HashMap (String Y) BoxKey S) (dx dy : ℤ) → IsConsistent a root ids → has same_key k (seen a root) ≡ true → CanShift dx dy k (seen a root) →
+    Relinks a b (on_each (λ j. same_key j k || has same_key j (seen_from a (onward_of (linked a k)).0)) (move_by dx dy) (linked a)) → IsConsistent b root ids × (seen b root ≡ at_subtree same_key k (move_by dx dy) (seen a root))
 shift_sound a b root k ids dx dy s m can r =
     let u : Under a root k (onward_of (linked a k)).0 = under_box a root k s.tree m in
     let p : BoxKey → Bool = λ j. same_key j k || has same_key j (seen_from a (onward_of (linked a k)).0) in
@@ -116,7 +116,7 @@ shift_sound a b root k ids dx dy s m can r =
       (s.fits j d i).1,
     ) in (
       each_sound a b root ids p (move_by dx dy) s r (λ d. refl) fit,
-      (each_tree a b root p (move_by dx dy) s.tree r).1 ∙ ap (λ f. each_if (λ j. same_key j k || has same_key j f) (move_by dx dy) (seen a root)) u.told,
+      (each_tree a b root p (move_by dx dy) s.tree r).1 ∙ ap (λ f. map_where (λ j. same_key j k || has same_key j f) (move_by dx dy) (seen a root)) u.told,
     )
 
 -- What is asked before a shift.
@@ -128,8 +128,8 @@ shift_allowed a root k dx dy t m can =
       here None e = tt
       here (Some n) e = of_item a root k k (λ d. FitsRect (shifted dx dy d.rect)) n.item t can.0 (same_key-refl k) (ap (option_map (λ n. n.item)) e)
 
-pub settled_sound : {Y S : Type 0} (a b : Arena inner.Node) (root : BoxKey) (ids : HashMap (String Y) BoxKey S) → IsSound a root ids → Relinks a b (on_each (λ j. has same_key j (seen_from a (Some root))) settled (linked a)) →
-    IsSound b root ids × (seen b root ≡ each_if (λ j. true) settled (seen a root))
+pub settled_sound : {Y S : Type 0} (a b : Arena inner.Node) (root : BoxKey) (ids : HashMap (String Y) BoxKey S) → IsConsistent a root ids → Relinks a b (on_each (λ j. has same_key j (seen_from a (Some root))) settled (linked a)) →
+    IsConsistent b root ids × (seen b root ≡ map_where (λ j. true) settled (seen a root))
 settled_sound a b root ids s r =
     let p : BoxKey → Bool = λ j. has same_key j (seen_from a (Some root)) in (
       each_sound a b root ids p settled s r (λ d. refl) (λ j d i v. s.fits j d i),
@@ -137,7 +137,7 @@ settled_sound a b root ids s r =
     )
 
 -- A change in place and then the touching: what the tree keeps, and what is seen.
-pub still_has : (p : BoxKey → Bool) (g : Item → Item) (k : BoxKey) (f h : Boxes) → h ≡ each_if p g f → has same_key k f ≡ true → has same_key k h ≡ true
+pub still_has : (p : BoxKey → Bool) (g : Item → Item) (k : BoxKey) (f h : BoxForest) → h ≡ map_where p g f → has same_key k f ≡ true → has same_key k h ≡ true
 still_has p g k f h e m = ap (has same_key k) e ∙ (has-each p g same_key k f ∙ m)
 
 -- how far the edit reaches, as the code knows it
@@ -145,11 +145,11 @@ pub reach_of : (a : Arena inner.Node) (root k : BoxKey) (r : Reach) (b : Bool) (
     r ≡ option_map_or (h (same_key k root)) (top (from same_key k (seen a root))) Nothing
 reach_of a root k r b h t e is = is ∙ (ap (λ c. option_map_or (h c) (item_at a k) Nothing) e ∙ ap (λ o. option_map_or (h (same_key k root)) o Nothing) (item_seen a root k t))
 
-rects_fit : (at : BoxKey → Option (Node BoxKey Item)) (up prev : Option BoxKey) (f : Boxes) (first last after : Option BoxKey) → Stands at up prev f first last after → EachFits (λ k. option_map (λ n. n.item) (at k)) → AllItems (λ d. FitsRect d.rect) f
+rects_fit : (at : BoxKey → Option (Node BoxKey Item)) (up prev : Option BoxKey) (f : BoxForest) (first last after : Option BoxKey) → Stands at up prev f first last after → EachFits (λ k. option_map (λ n. n.item) (at k)) → AllItems (λ d. FitsRect d.rect) f
 rects_fit at up prev empty first last after s h = tt
 rects_fit at up prev (tree k d below rest) first last after s h = ((h k d (rw s.4 refl)).0, rects_fit at (Some k) None below s.0 s.1 None s.5 h, rects_fit at up (Some k) rest s.2 last after s.6 h)
 
-pub below_fits : {Y S : Type 0} (a : Arena inner.Node) (root k : BoxKey) (ids : HashMap (String Y) BoxKey S) → IsSound a root ids → has same_key k (seen a root) ≡ true → AllItems (λ d. FitsRect d.rect) (seen_from a (onward_of (linked a k)).0)
+pub below_fits : {Y S : Type 0} (a : Arena inner.Node) (root k : BoxKey) (ids : HashMap (String Y) BoxKey S) → IsConsistent a root ids → has same_key k (seen a root) ≡ true → AllItems (λ d. FitsRect d.rect) (seen_from a (onward_of (linked a k)).0)
 below_fits a root k ids s m =
     let u : Under a root k (onward_of (linked a k)).0 = under_box a root k s.tree m in
     let e : seen a root ≡ s.tree.boxes = seen_is a root s.tree in
@@ -157,7 +157,7 @@ below_fits a root k ids s m =
     stands_children same_key same_key-sound same_key-refl (linked a) None None s.tree.boxes (Some root) (Some root) None k s.tree.is.apart s.tree.is.stands (subst (λ f. has same_key k f ≡ true) e m) in
     subst (λ f. AllItems (λ d. FitsRect d.rect) f) (sym (u.told ∙ ap (children same_key k) e)) (rects_fit (linked a) (Some k) None (children same_key k s.tree.boxes) c.0.first c.0.last None c.2 s.fits)
 
-pub rect_fits : {Y S : Type 0} (a : Arena inner.Node) (root k : BoxKey) (ids : HashMap (String Y) BoxKey S) → IsSound a root ids → FitsAt (linked a k)
+pub rect_fits : {Y S : Type 0} (a : Arena inner.Node) (root k : BoxKey) (ids : HashMap (String Y) BoxKey S) → IsConsistent a root ids → FitsAt (linked a k)
 rect_fits a root k ids s = at (linked a k) refl where
   at : (o : Option (Node BoxKey Item)) → linked a k ≡ o → FitsAt o
   at None e = tt

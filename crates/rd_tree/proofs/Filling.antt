@@ -10,29 +10,29 @@ use Rattle.rd_tree.specs.declared.node.Node as inner
 use Rattle.rd_tree.specs.declared.near.Near.{Near}
 use Rattle.rd_tree.specs.declared.fill.Gathered.{Gathered}
 use Rattle.rd_tree.specs.Forest.{empty, tree, size, has}
-use Rattle.rd_tree.specs.Links.{onward_of}
-use Rattle.rd_tree.specs.Document.{BoxKey, Boxes, AllFit}
-use Rattle.rd_tree.specs.Linked.{linked, IsRead, seen_from}
+use Rattle.rd_tree.specs.Internal.Links.{onward_of}
+use Rattle.rd_tree.specs.Document.{BoxKey, BoxForest, AllFit}
+use Rattle.rd_tree.specs.Internal.Linked.{linked, IsRead, seen_from}
 use Rattle.rd_tree.specs.Near.{near_of, near_at, breadth, touched_in, hull_in, extent}
-use Rattle.rd_tree.specs.Rows.{HasRows, IsFitAt, Puts, extent_under, touched_under}
-use Rattle.rd_tree.specs.Gathers.{Gathers, gathered_in, row_over}
+use Rattle.rd_tree.specs.Internal.Rows.{HasRows, IsFitAt, Puts, extent_under, touched_under}
+use Rattle.rd_tree.specs.Internal.Gathers.{Gathers, gathered_in, row_over}
 use Rattle.rd_tree.proofs.Standing.{from_left, from_right, differs, apart_back}
 use Rattle.rd_tree.proofs.Works.{Here, here, seen_read, flip}
 use Rattle.rd_tree.proofs.Above.{puts_at}
 use Rattle.rd_tree.proofs.Siblings.{nothing_seen}
 
-breadth_size : (f : Boxes) → breadth f ≤ size f
+breadth_size : (f : BoxForest) → breadth f ≤ size f
 breadth_size empty = omega arith
 breadth_size (tree k d below rest) = omega (arith, breadth_size rest)
 
-touched_size : (f : Boxes) → touched_in f ≤ size f
+touched_size : (f : BoxForest) → touched_in f ≤ size f
 touched_size empty = omega arith
 touched_size (tree k d below rest) = one d.touched (touched_size below) (touched_size rest) where
   one : (b : Bool) {x y m n : ℕ} → x ≤ m → y ≤ n → cond b 1 0 + (x + y) ≤ 1 + (m + n)
   one true u v = omega arith
   one false u v = omega arith
 
-hull_in_normal : (f : Boxes) → normal (hull_in f) ≡ hull_in f
+hull_in_normal : (f : BoxForest) → normal (hull_in f) ≡ hull_in f
 hull_in_normal empty = refl
 hull_in_normal (tree k d below rest) = normal_hull (hull_of (extent d) (hull_in below)) (hull_in rest)
 

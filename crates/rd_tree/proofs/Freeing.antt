@@ -9,13 +9,13 @@ use Rattle.std.proofs.lemmas.Map.Text.{hash_map_updates_text}
 use Rattle.rd_keys.specs.Keys.{same_key}
 use Rattle.rd_keys.specs.Arena.{Arena, value, without_value, left}
 use Rattle.rd_keys.proofs.Keys.{same_key-sound, same_key-refl}
-use Rattle.rd_keys.proofs.Calls.{value-without, value-gone, live-without, occupied-without}
+use Rattle.rd_keys.proofs.Calls.{value-without_branch, value-gone, live-without_branch, occupied-without_branch}
 use Rattle.rd_tree.specs.declared.node.Node as inner
 use Rattle.rd_tree.specs.Forest.{Forest, empty, tree, keys, size, ◌▷◌, has, AreApart, IsApart}
-use Rattle.rd_tree.specs.Links.{Node, Stands, read, onward_of}
-use Rattle.rd_tree.specs.Document.{BoxKey, Item, Boxes, Slot, or_else, named, with_left, with_all_left}
-use Rattle.rd_tree.specs.Linked.{plain, linked, mark_of, marks, IsRead, seen_from}
-use Rattle.rd_tree.specs.Frees.{Frees, DropsTexts, topped, branch_at}
+use Rattle.rd_tree.specs.Internal.Links.{Node, Stands, read, onward_of}
+use Rattle.rd_tree.specs.Document.{BoxKey, Item, BoxForest, Slot, or_else, named, with_left, with_all_left}
+use Rattle.rd_tree.specs.Internal.Linked.{plain, linked, mark_of, marks, IsRead, seen_from}
+use Rattle.rd_tree.specs.Internal.Frees.{Frees, DropsTexts, topped, branch_at}
 use Rattle.rd_tree.proofs.Standing.{cases, never, frame, agree_at, differs, apart_back, has-join, join-empty}
 use Rattle.rd_tree.proofs.Under.{size-join}
 use Rattle.rd_tree.proofs.Works.{Here, here, seen_read}
@@ -45,13 +45,13 @@ or_either : (a b : Option BoxKey) → is_some (or_else a b) ≡ (is_some a || is
 or_either None b = refl
 or_either (Some k) b = refl
 
-named_tree : (i : List ℕ) (k : BoxKey) (d : Item) (below rest : Boxes) → is_some (named i (tree k d below rest)) ≡ (bytes_eq d.id i || (is_some (named i below) || is_some (named i rest)))
+named_tree : (i : List ℕ) (k : BoxKey) (d : Item) (below rest : BoxForest) → is_some (named i (tree k d below rest)) ≡ (bytes_eq d.id i || (is_some (named i below) || is_some (named i rest)))
 named_tree i k d below rest = at (bytes_eq d.id i) where
   at : (b : Bool) → is_some (cond b (Some k) (or_else (named i below) (named i rest))) ≡ (b || (is_some (named i below) || is_some (named i rest)))
   at true = refl
   at false = or_either (named i below) (named i rest)
 
-named-join : (i : List ℕ) (f g : Boxes) → is_some (named i (f ▷ g)) ≡ (is_some (named i f) || is_some (named i g))
+named-join : (i : List ℕ) (f g : BoxForest) → is_some (named i (f ▷ g)) ≡ (is_some (named i f) || is_some (named i g))
 named-join i empty g = refl
 named-join i (tree k d below rest) g =
     named_tree i k d below (rest ▷ g) ∙ (ap (λ b. bytes_eq d.id i || (is_some (named i below) || b)) (named-join i rest g)
@@ -68,22 +68,22 @@ mark-left g = at (g == 4294967295) where
   at true = refl
   at false = refl
 
-marks-without : (a : Arena inner.Node) (k : BoxKey) → marks (without_value a k.slot k.generation) ≡ with_left (marks a) k
-marks-without a k = map-set mark_of a.slots k.slot (left k.generation) ∙ ap (slice_set (marks a) k.slot) (mark-left k.generation)
+marks-without_branch : (a : Arena inner.Node) (k : BoxKey) → marks (without_value a k.slot k.generation) ≡ with_left (marks a) k
+marks-without_branch a k = map-set mark_of a.slots k.slot (left k.generation) ∙ ap (slice_set (marks a) k.slot) (mark-left k.generation)
 
 -- A box goes whose key is live.
 gone_one : (a : Arena inner.Node) (k : BoxKey) (x : inner.Node) → value a k.slot k.generation ≡ Some x → Frees a (without_value a k.slot k.generation) (tree k x.item empty empty)
 gone_one a k x v = record {
   links = λ j. at j (cases (same_key j k));
-  slots = marks-without a k;
-  counted = omega (arith, live-without a k.slot k.generation x v);
-  most = occupied-without a k.slot k.generation x v;
+  slots = marks-without_branch a k;
+  counted = omega (arith, live-without_branch a k.slot k.generation x v);
+  most = occupied-without_branch a k.slot k.generation x v;
   limit = refl;
   first = refl;
 } where
   at : (j : BoxKey) → (same_key j k ≡ true) ⊎ (same_key j k ≡ false) → linked (without_value a k.slot k.generation) j ≡ cond (same_key j k || (false || false)) None (linked a j)
   at j (inl e) = rw e (ap (option_map plain) (ap (λ i. value (without_value a k.slot k.generation) i.slot i.generation) (same_key-sound j k e) ∙ value-gone a k.slot k.generation x v))
-  at j (inr e) = rw e (ap (option_map plain) (value-without a k.slot k.generation x v j.slot j.generation (λ p. never (same_key j k) (rw (p.0, p.1) (same_key-refl k)) e)))
+  at j (inr e) = rw e (ap (option_map plain) (value-without_branch a k.slot k.generation x v j.slot j.generation (λ p. never (same_key j k) (rw (p.0, p.1) (same_key-refl k)) e)))
 
 -- The same, as the code knows it.
 pub freed_one : (a b : Arena inner.Node) (k : BoxKey) (x : inner.Node) → Some x ≡ value a k.slot k.generation → b ≡ without_value a k.slot k.generation → Frees a b (topped k (linked a k) empty)
@@ -108,7 +108,7 @@ twice true false n o = refl
 twice false c n o = refl
 
 -- Where some boxes go and then others, all of them go.
-gone_both : (a b c : Arena inner.Node) (f g h : Boxes) → ((j : BoxKey) → has same_key j h ≡ (has same_key j f || has same_key j g)) → keys h ≡ keys f ++ keys g → size h ≡ size f + size g → Frees a b f → Frees b c g → Frees a c h
+gone_both : (a b c : Arena inner.Node) (f g h : BoxForest) → ((j : BoxKey) → has same_key j h ≡ (has same_key j f || has same_key j g)) → keys h ≡ keys f ++ keys g → size h ≡ size f + size g → Frees a b f → Frees b c g → Frees a c h
 gone_both a b c f g h holds ks n r s = record {
   links = λ j. s.links j ∙ (ap (λ o. cond (has same_key j g) None o) (r.links j) ∙ (twice (has same_key j f) (has same_key j g) None (linked a j) ∙ ap (λ t. cond t None (linked a j)) (sym (holds j))));
   slots = s.slots ∙ (ap (λ m. with_all_left m (keys g)) r.slots ∙ (sym (left_append (marks a) (keys f) (keys g)) ∙ ap (with_all_left (marks a)) (sym ks)));
@@ -118,19 +118,19 @@ gone_both a b c f g h holds ks n r s = record {
   first = s.first ∙ r.first;
 }
 
-drop_both : {Y S : Type 0} (f g h : Boxes) (ids0 ids1 ids2 : HashMap (String Y) BoxKey S) → ((i : List ℕ) → is_some (named i h) ≡ (is_some (named i f) || is_some (named i g))) → DropsTexts f ids0 ids1 → DropsTexts g ids1 ids2 → DropsTexts h ids0 ids2
+drop_both : {Y S : Type 0} (f g h : BoxForest) (ids0 ids1 ids2 : HashMap (String Y) BoxKey S) → ((i : List ℕ) → is_some (named i h) ≡ (is_some (named i f) || is_some (named i g))) → DropsTexts f ids0 ids1 → DropsTexts g ids1 ids2 → DropsTexts h ids0 ids2
 drop_both f g h ids0 ids1 ids2 holds r s i =
     s i ∙ (ap (λ o. cond (is_some (named i g)) None o) (r i) ∙ (twice (is_some (named i f)) (is_some (named i g)) None (get_by_text ids0 i) ∙ ap (λ t. cond t None (get_by_text ids0 i)) (sym (holds i))))
 
 -- siblings, and then later ones
-gone_join : (a b c : Arena inner.Node) (f g : Boxes) → Frees a b f → Frees b c g → Frees a c (f ▷ g)
+gone_join : (a b c : Arena inner.Node) (f g : BoxForest) → Frees a b f → Frees b c g → Frees a c (f ▷ g)
 gone_join a b c f g = gone_both a b c f g (f ▷ g) (λ j. has-join same_key same_key-sound same_key-refl j f g) (keys-join f g) (size-join f g)
 
-drop_join : {Y S : Type 0} (f g : Boxes) (ids0 ids1 ids2 : HashMap (String Y) BoxKey S) → DropsTexts f ids0 ids1 → DropsTexts g ids1 ids2 → DropsTexts (f ▷ g) ids0 ids2
+drop_join : {Y S : Type 0} (f g : BoxForest) (ids0 ids1 ids2 : HashMap (String Y) BoxKey S) → DropsTexts f ids0 ids1 → DropsTexts g ids1 ids2 → DropsTexts (f ▷ g) ids0 ids2
 drop_join f g ids0 ids1 ids2 = drop_both f g (f ▷ g) ids0 ids1 ids2 (λ i. named-join i f g)
 
 -- a box, and then those below it
-module _ (k : BoxKey) (d : Item) (low : Boxes) where
+module _ (k : BoxKey) (d : Item) (low : BoxForest) where
   regroup : (b c : Bool) → (b || (c || false)) ≡ ((b || (false || false)) || c)
   regroup true c = refl
   regroup false true = refl
@@ -144,7 +144,7 @@ module _ (k : BoxKey) (d : Item) (low : Boxes) where
       (λ i. named_tree i k d low empty ∙ (regroup (bytes_eq d.id i) (is_some (named i low)) ∙ ap (λ b. b || is_some (named i low)) (sym (named_tree i k d empty empty))))
 
 -- Boxes that are apart from those that go are told as before.
-still_read : (a b : Arena inner.Node) (gone f : Boxes) (up prev first last : Option BoxKey) → Frees a b gone → AreApart same_key f gone → IsApart same_key f → size f ≤ a.limit → Stands (linked a) up prev f first last None →
+still_read : (a b : Arena inner.Node) (gone f : BoxForest) (up prev first last : Option BoxKey) → Frees a b gone → AreApart same_key f gone → IsApart same_key f → size f ≤ a.limit → Stands (linked a) up prev f first last None →
     (r : IsRead b first) × (seen_from b first ≡ f)
 still_read a b gone f up prev first last r away apart small s =
     let t : IsRead b first = record {
@@ -160,7 +160,7 @@ still_read a b gone f up prev first last r away apart small s =
 
 -- The loop has freed some siblings, and those that are told from here on are all the others.
 pub record Freed {Y S : Type 0} (a0 : Arena inner.Node) (first : Option BoxKey) (ids0 : HashMap (String Y) BoxKey S) (a : Arena inner.Node) (ids : HashMap (String Y) BoxKey S) (at : Option BoxKey) : Type 0 where
-  pub gone : Boxes
+  pub gone : BoxForest
   pub freed : Frees a0 a gone
   pub dropped : DropsTexts gone ids0 ids
   pub whole : gone ▷ seen_from a at ≡ seen_from a0 first
@@ -188,7 +188,7 @@ freed_step a0 a a1 first ids0 ids ids1 at k o w0 is r1 t1 e =
     let text : DropsTexts (tree k h.item empty empty) ids ids1 = subst (λ q. DropsTexts (topped k q empty) ids ids1) h.found t1 in
     let away : AreApart same_key h.below (tree k h.item empty empty) = λ j m. let n : same_key j k ≡ false = differs same_key same_key-sound same_key-refl h.below j k m h.apart.0 in rw n refl in
     let low : (r : IsRead a1 h.x) × (seen_from a1 h.x ≡ h.below) = still_read a a1 (tree k h.item empty empty) h.below (Some k) None h.x h.y one away h.apart.3 (omega (arith, h.small)) h.low in
-    let part : Boxes = tree k h.item h.below empty in
+    let part : BoxForest = tree k h.item h.below empty in
     let whole : (w.gone ▷ part) ▷ h.rest ≡ seen_from a0 first = join_assoc w.gone part h.rest ∙ (ap (λ f. w.gone ▷ f) (sym h.seen) ∙ w.whole) in
     let all : size (seen_from a0 first) ≡ size w.gone + size (seen_from a (Some k)) = ap size (sym w.whole) ∙ size-join w.gone (seen_from a (Some k)) in
     let n : size (seen_from a (Some k)) ≡ 1 + (size h.below + size h.rest) = ap size h.seen in
@@ -220,7 +220,7 @@ freed_step a0 a a1 first ids0 ids ids1 at k o w0 is r1 t1 e =
 
 -- A box goes, and then all below it.
 module _ (a a1 : Arena inner.Node) (k : BoxKey) (o : Option BoxKey × Option BoxKey) (e : o ≡ onward_of (linked a k)) where
-  abbrev low : Boxes
+  abbrev low : BoxForest
   low = seen_from a (onward_of (linked a k)).0
 
   pub below_read : Frees a a1 (topped k (linked a k) empty) → IsRead a (onward_of (linked a k)).0 → has same_key k low ≡ false → (r : IsRead a1 o.0) × (seen_from a1 o.0 ≡ low)

@@ -8,29 +8,29 @@ use Rattle.rd_tree.specs.declared.node.Node as inner
 use Rattle.rd_tree.specs.declared.near.Near.{Near}
 use Rattle.rd_tree.specs.declared.whole.Whole.{Whole}
 use Rattle.rd_tree.specs.Forest.{has, children, in_subtree, size}
-use Rattle.rd_tree.specs.Document.{BoxKey, Boxes}
-use Rattle.rd_tree.specs.Linked.{linked}
+use Rattle.rd_tree.specs.Document.{BoxKey, BoxForest}
+use Rattle.rd_tree.specs.Internal.Linked.{linked}
 use Rattle.rd_tree.specs.Near.{near_of, near_at}
-use Rattle.rd_tree.specs.Rows.{Puts, IsStanding, IsSwapping, IsGaining, IsLosing, CanClimb, CanSwap, nothing, joined, more, with_children}
+use Rattle.rd_tree.specs.Internal.Rows.{Puts, IsStanding, IsSwapping, IsGaining, IsLosing, CanClimb, CanSwap, nothing, joined, more, with_child_count}
 use Rattle.rd_tree.proofs.Standing.{cases, never, from_left}
 use Rattle.rd_tree.proofs.Above.{is_live, puts_at}
 use Rattle.rd_tree.proofs.NearBranch.{hull_near-unit}
 use Rattle.rd_tree.proofs.Swapping.{children_most, same_row}
 
 -- p is not among those that are not above it
-off : (p k : BoxKey) (f : Boxes) → in_subtree same_key p k f ≡ false → same_key p k ≡ false
+off : (p k : BoxKey) (f : BoxForest) → in_subtree same_key p k f ≡ false → same_key p k ≡ false
 off p k f h = elim (cases (same_key p k)) [ inl e ↦ absurd (never (in_subtree same_key p k f) (from_left (same_key p k) (has same_key p (children same_key k f)) e) h) | inr e ↦ e ]
 
-module _ (a : Arena inner.Node) (rows next : List Near) (root p : BoxKey) (f : Boxes) (is : IsStanding a root f) (there : has same_key p f ≡ true) where
+module _ (a : Arena inner.Node) (rows next : List Near) (root p : BoxKey) (f : BoxForest) (is : IsStanding a root f) (there : has same_key p f ≡ true) where
   -- the row of p is another, and all others are as they were
   one_row : (row : Near) → Puts rows next p row → (k : BoxKey) → has same_key k f ≡ true → near_at next k ≡ cond (same_key p k) row (near_at rows k)
   one_row row put k h = puts_at a rows next p row put (is_live a root f is p there) k (is_live a root f is k h)
 
   -- the row of a box above p once p has c children
-  above_row : (c : ℕ) (k : BoxKey) → Puts rows next p (with_children c (near_at rows p)) → has same_key k f ≡ true → near_at next k ≡ with_children (cond (same_key p k) c (near_at rows k).children) (near_at rows k)
-  above_row c k put h = one_row (with_children c (near_at rows p)) put k h ∙ at (same_key p k) refl where
-    at : (b : Bool) → same_key p k ≡ b → cond b (with_children c (near_at rows p)) (near_at rows k) ≡ with_children (cond b c (near_at rows k).children) (near_at rows k)
-    at true e = ap (λ i. with_children c (near_at rows i)) (same_key-sound p k e)
+  above_row : (c : ℕ) (k : BoxKey) → Puts rows next p (with_child_count c (near_at rows p)) → has same_key k f ≡ true → near_at next k ≡ with_child_count (cond (same_key p k) c (near_at rows k).children) (near_at rows k)
+  above_row c k put h = one_row (with_child_count c (near_at rows p)) put k h ∙ at (same_key p k) refl where
+    at : (b : Bool) → same_key p k ≡ b → cond b (with_child_count c (near_at rows p)) (near_at rows k) ≡ with_child_count (cond b c (near_at rows k).children) (near_at rows k)
+    at true e = ap (λ i. with_child_count c (near_at rows i)) (same_key-sound p k e)
     at false e = refl
 
   pub others_row : (row : Near) (k : BoxKey) → Puts rows next p row → is_some (linked a k) ≡ true → in_subtree same_key p k f ≡ false → near_at next k ≡ near_at rows k
@@ -38,18 +38,18 @@ module _ (a : Arena inner.Node) (rows next : List Near) (root p : BoxKey) (f : B
 
   -- ---- a branch comes
 
-  pub gaining : (w : Whole) → Puts rows next p (with_children ((near_at rows p).children + 1) (near_at rows p)) → IsGaining rows f p w → IsSwapping next f (Some p) nothing w
+  pub gaining : (w : Whole) → Puts rows next p (with_child_count ((near_at rows p).children + 1) (near_at rows p)) → IsGaining rows f p w → IsSwapping next f (Some p) nothing w
   gaining w put g = record {
-    rest = λ k. with_children ((g.rest k).children + cond (same_key p k) 1 0) (g.rest k);
+    rest = λ k. with_child_count ((g.rest k).children + cond (same_key p k) 1 0) (g.rest k);
     was = λ k h u. above_row ((near_at rows p).children + 1) k put h ∙ came k h u;
     is = λ k h u. g.is k h u;
-    others = λ k h u. others_row (with_children ((near_at rows p).children + 1) (near_at rows p)) k put (is_live a root f is k h) u ∙ g.others k h u;
+    others = λ k h u. others_row (with_child_count ((near_at rows p).children + 1) (near_at rows p)) k put (is_live a root f is k h) u ∙ g.others k h u;
   } where
     came : (k : BoxKey) → has same_key k f ≡ true → in_subtree same_key p k f ≡ true →
-        with_children (cond (same_key p k) ((near_at rows p).children + 1) (near_at rows k).children) (near_at rows k) ≡ joined (with_children ((g.rest k).children + cond (same_key p k) 1 0) (g.rest k)) nothing
+        with_child_count (cond (same_key p k) ((near_at rows p).children + 1) (near_at rows k).children) (near_at rows k) ≡ joined (with_child_count ((g.rest k).children + cond (same_key p k) 1 0) (g.rest k)) nothing
     came k h u =
         let r : near_at rows k ≡ g.rest k = g.was k h u in
-        same_row (with_children (cond (same_key p k) ((near_at rows p).children + 1) (near_at rows k).children) (near_at rows k)) (joined (with_children ((g.rest k).children + cond (same_key p k) 1 0) (g.rest k)) nothing)
+        same_row (with_child_count (cond (same_key p k) ((near_at rows p).children + 1) (near_at rows k).children) (near_at rows k)) (joined (with_child_count ((g.rest k).children + cond (same_key p k) 1 0) (g.rest k)) nothing)
         (at (same_key p k) refl) (let t : (near_at rows k).touched ≡ (g.rest k).touched = ap (λ n. n.touched) r in omega (arith, t)) (ap (λ n. n.hull) r ∙ sym (g.plain k)) where
           at : (b : Bool) → same_key p k ≡ b → cond b ((near_at rows p).children + 1) (near_at rows k).children ≡ (g.rest k).children + cond b 1 0
           at true e = ap (λ n. n.children + 1) (ap (near_at rows) (same_key-sound p k e) ∙ g.was k h u)
@@ -57,18 +57,18 @@ module _ (a : Arena inner.Node) (rows next : List Near) (root p : BoxKey) (f : B
 
   -- ---- a branch goes
 
-  pub losing : (w : Whole) → Puts rows next p (with_children ((near_at rows p).children - 1) (near_at rows p)) → IsLosing rows f p w → IsSwapping next f (Some p) w nothing
+  pub losing : (w : Whole) → Puts rows next p (with_child_count ((near_at rows p).children - 1) (near_at rows p)) → IsLosing rows f p w → IsSwapping next f (Some p) w nothing
   losing w put g = record {
     rest = λ k. near_of k f;
     was = λ k h u. above_row ((near_at rows p).children - 1) k put h ∙ went k h u;
     is = λ k h u. same_row (near_of k f) (joined (near_of k f) nothing) refl (omega arith) (sym (hull_near-unit k f));
-    others = λ k h u. others_row (with_children ((near_at rows p).children - 1) (near_at rows p)) k put (is_live a root f is k h) u ∙ g.others k h u;
+    others = λ k h u. others_row (with_child_count ((near_at rows p).children - 1) (near_at rows p)) k put (is_live a root f is k h) u ∙ g.others k h u;
   } where
     went : (k : BoxKey) → has same_key k f ≡ true → in_subtree same_key p k f ≡ true →
-        with_children (cond (same_key p k) ((near_at rows p).children - 1) (near_at rows k).children) (near_at rows k) ≡ joined (near_of k f) w
+        with_child_count (cond (same_key p k) ((near_at rows p).children - 1) (near_at rows k).children) (near_at rows k) ≡ joined (near_of k f) w
     went k h u =
         let r : near_at rows k ≡ more (same_key p k) (near_of k f) w = g.was k h u in
-        same_row (with_children (cond (same_key p k) ((near_at rows p).children - 1) (near_at rows k).children) (near_at rows k)) (joined (near_of k f) w)
+        same_row (with_child_count (cond (same_key p k) ((near_at rows p).children - 1) (near_at rows k).children) (near_at rows k)) (joined (near_of k f) w)
         (at (same_key p k) refl) (ap (λ n. n.touched) r) (ap (λ n. n.hull) r) where
           at : (b : Bool) → same_key p k ≡ b → cond b ((near_at rows p).children - 1) (near_at rows k).children ≡ (near_of k f).children
           at true e =
@@ -80,7 +80,7 @@ module _ (a : Arena inner.Node) (rows next : List Near) (root p : BoxKey) (f : B
               omega (arith, c)
 
 -- p is above itself
-self_above : (p : BoxKey) (f : Boxes) → in_subtree same_key p p f ≡ true
+self_above : (p : BoxKey) (f : BoxForest) → in_subtree same_key p p f ≡ true
 self_above p f = from_left (same_key p p) (has same_key p (children same_key p f)) (same_key-refl p)
 
 -- The count of children can rise.
@@ -100,5 +100,5 @@ can_lose a rows p w c =
     omega (arith, x)
 
 -- Once the count is set, one branch can be swapped for another.
-pub can_swap : (a : Arena inner.Node) (rows next : List Near) (p : BoxKey) (Q : Boxes → Type 0) (old new : Whole) → (c : CanClimb a rows p Q) → length next ≡ length rows → IsSwapping next c.boxes (Some p) old new → CanSwap a next (Some p) old new
+pub can_swap : (a : Arena inner.Node) (rows next : List Near) (p : BoxKey) (Q : BoxForest → Type 0) (old new : Whole) → (c : CanClimb a rows p Q) → length next ≡ length rows → IsSwapping next c.boxes (Some p) old new → CanSwap a next (Some p) old new
 can_swap a rows next p Q old new c len s = record { root = c.root; boxes = c.boxes; is = c.is; there = c.there; has_rows = λ k h. let l = c.has_rows k h in omega (arith, l, len); fits = c.fits; few = c.few; swapping = s }

@@ -7,24 +7,24 @@ use Rattle.rd_keys.specs.Arena.{Arena}
 use Rattle.rd_keys.proofs.Keys.{same_key-sound}
 use Rattle.rd_tree.specs.declared.node.Node as inner
 use Rattle.rd_tree.specs.declared.near.Near.{Near}
-use Rattle.rd_tree.specs.Links.{up_of, onward_of}
-use Rattle.rd_tree.specs.Document.{BoxKey, Boxes}
-use Rattle.rd_tree.specs.Linked.{linked, IsRead, seen_from}
+use Rattle.rd_tree.specs.Internal.Links.{up_of, onward_of}
+use Rattle.rd_tree.specs.Document.{BoxKey, BoxForest}
+use Rattle.rd_tree.specs.Internal.Linked.{linked, IsRead, seen_from}
 use Rattle.rd_tree.specs.Near.{near_at, near_of, is_above}
-use Rattle.rd_tree.specs.Rows.{IsStanding, IsIn, IsFitAt, HasRows, CanMove, IsMoving, HasHulls, KeepsCounts, KeepsOthers, Puts, with_hull, hull_anew_of}
+use Rattle.rd_tree.specs.Internal.Rows.{IsStanding, IsIn, IsFitAt, HasRows, CanMove, IsMoving, HasHulls, KeepsCounts, KeepsOthers, Puts, with_hull, hull_anew_of}
 use Rattle.rd_tree.proofs.Standing.{cases, never, from_right}
 use Rattle.rd_tree.proofs.Above.{puts_at, is_live, above_up, off_above, above_self, in_up}
 use Rattle.rd_tree.proofs.Nearby.{fit_at, below_read, below_rows, anew_is}
 
 -- The hulls are moved from the one box up to the other, this one not.
-pub record MovedTo (a : Arena inner.Node) (f : Boxes) (old new : List Near) (from at : Option BoxKey) (lost gained : Rectangle) : Type 0 where
+pub record MovedTo (a : Arena inner.Node) (f : BoxForest) (old new : List Near) (from at : Option BoxKey) (lost gained : Rectangle) : Type 0 where
   pub there : IsIn at f
   pub above : (k : BoxKey) → is_above at k f ≡ true → is_above from k f ≡ true
   pub others : KeepsOthers a f old new from
   pub moving : IsMoving old f from lost gained → IsMoving new f at lost gained
 
 pub record Hulling (a : Arena inner.Node) (old new : List Near) (from at : Option BoxKey) (lost gained : Rectangle) : Type 0 where
-  pub each : (root : BoxKey) (f : Boxes) → IsStanding a root f → IsIn from f → MovedTo a f old new from at lost gained
+  pub each : (root : BoxKey) (f : BoxForest) → IsStanding a root f → IsIn from f → MovedTo a f old new from at lost gained
   pub counts : KeepsCounts old new
   pub same_length : length new ≡ length old
 
@@ -36,7 +36,7 @@ hulling_begun a old from lost gained = record {
 }
 
 pub hulling_ended : (a : Arena inner.Node) (old new : List Near) (from : Option BoxKey) (lost gained : Rectangle) → Hulling a old new from None lost gained →
-    (root : BoxKey) (f : Boxes) → IsStanding a root f → IsIn from f → IsMoving old f from lost gained → HasHulls new f
+    (root : BoxKey) (f : BoxForest) → IsStanding a root f → IsIn from f → IsMoving old f from lost gained → HasHulls new f
 hulling_ended a old new from lost gained w root f is i m k u = ((w.each root f is i).moving m).others k u refl
 
 -- What is asked before a box's hull is moved.

@@ -4,9 +4,9 @@ use Rattle.std.specs.Prelude.{Option, Some, None, option_map}
 use Rattle.rd_keys.specs.Keys.{same_key}
 use Rattle.rd_keys.specs.Arena.{Arena, Enters}
 use Rattle.rd_tree.specs.declared.node.Node as inner
-use Rattle.rd_tree.specs.Links.{Node, edit, edit_if, with_next, with_prev, with_ends, but, grafted}
+use Rattle.rd_tree.specs.Internal.Links.{Node, edit, edit_if, with_next, with_prev, with_ends, but, grafted}
 use Rattle.rd_tree.specs.Document.{BoxKey, Item}
-use Rattle.rd_tree.specs.Linked.{plain, linked, Relinks, item_at}
+use Rattle.rd_tree.specs.Internal.Linked.{plain, linked, Relinks, item_at}
 use Rattle.rd_tree.proofs.Grow.{linked_put}
 
 module _ {K D : Type 0} (same : K → K → Bool) where

@@ -6,22 +6,22 @@ use Rattle.rd_keys.specs.Arena.{Arena}
 use Rattle.rd_keys.proofs.Keys.{same_key-sound}
 use Rattle.rd_tree.specs.declared.node.Node as inner
 use Rattle.rd_tree.specs.declared.near.Near.{Near}
-use Rattle.rd_tree.specs.Links.{up_of}
-use Rattle.rd_tree.specs.Document.{BoxKey, Boxes}
-use Rattle.rd_tree.specs.Linked.{linked}
+use Rattle.rd_tree.specs.Internal.Links.{up_of}
+use Rattle.rd_tree.specs.Document.{BoxKey, BoxForest}
+use Rattle.rd_tree.specs.Internal.Linked.{linked}
 use Rattle.rd_tree.specs.Near.{near_at, is_above}
-use Rattle.rd_tree.specs.Rows.{IsStanding, IsIn, IsMarkable, CanMark, MarksUp, Puts, marked}
+use Rattle.rd_tree.specs.Internal.Rows.{IsStanding, IsIn, IsMarkable, CanMark, MarksUp, Puts, marked}
 use Rattle.rd_tree.proofs.Standing.{cases, from_right}
 use Rattle.rd_tree.proofs.Above.{puts_at, is_live, above_up, off_above, above_self, in_up}
 
 -- The rows are marked from the one box up to the other, this one not.
-pub record MarkedTo (a : Arena inner.Node) (f : Boxes) (old new : List Near) (from at : Option BoxKey) (less more : ℕ) : Type 0 where
+pub record MarkedTo (a : Arena inner.Node) (f : BoxForest) (old new : List Near) (from at : Option BoxKey) (less more : ℕ) : Type 0 where
   pub there : IsIn at f
   pub above : (k : BoxKey) → is_above at k f ≡ true → is_above from k f ≡ true
   pub rows : (k : BoxKey) → is_some (linked a k) ≡ true → near_at new k ≡ cond (is_above from k f && not (is_above at k f)) (marked less more (near_at old k)) (near_at old k)
 
 pub record Marking (a : Arena inner.Node) (old new : List Near) (from at : Option BoxKey) (less more : ℕ) : Type 0 where
-  pub each : (root : BoxKey) (f : Boxes) → IsStanding a root f → IsIn from f → MarkedTo a f old new from at less more
+  pub each : (root : BoxKey) (f : BoxForest) → IsStanding a root f → IsIn from f → MarkedTo a f old new from at less more
   pub same_length : length new ≡ length old
 
 pub marking_begun : (a : Arena inner.Node) (old : List Near) (from : Option BoxKey) (less more : ℕ) → Marking a old old from from less more
@@ -34,7 +34,7 @@ marking_begun a old from less more = record {
   none false x y = refl
 
 pub marking_ended : (a : Arena inner.Node) (old new : List Near) (from : Option BoxKey) (less more : ℕ) → Marking a old new from None less more →
-    (root : BoxKey) (f : Boxes) → IsStanding a root f → IsIn from f → MarksUp a f old new from less more
+    (root : BoxKey) (f : BoxForest) → IsStanding a root f → IsIn from f → MarksUp a f old new from less more
 marking_ended a old new from less more w root f is i k u = (w.each root f is i).rows k u ∙ all (is_above from k f) (marked less more (near_at old k)) (near_at old k) where
   all : {A : Type 0} (b : Bool) (x y : A) → cond (b && not false) x y ≡ cond b x y
   all true x y = refl
@@ -42,7 +42,7 @@ marking_ended a old new from less more w root f is i k u = (w.each root f is i).
 
 module _ (a : Arena inner.Node) (old new : List Near) (from : Option BoxKey) (k : BoxKey) (less more : ℕ) (w : Marking a old new from (Some k) less more) where
   -- the row of the next box is as it was
-  row_still : (root : BoxKey) (f : Boxes) → IsStanding a root f → IsIn from f → near_at new k ≡ near_at old k
+  row_still : (root : BoxKey) (f : BoxForest) → IsStanding a root f → IsIn from f → near_at new k ≡ near_at old k
   row_still root f is i =
       let t : MarkedTo a f old new from (Some k) less more = w.each root f is i in
       t.rows k (is_live a root f is k t.there) ∙ ap (λ b. cond (is_above from k f && not b) (marked less more (near_at old k)) (near_at old k)) (above_self a root f is k t.there) ∙ none (is_above from k f) (marked less more (near_at old k)) (near_at old k) where

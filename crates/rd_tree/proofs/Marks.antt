@@ -11,8 +11,8 @@ use Rattle.rd_keys.proofs.Keys.{same_key-sound}
 use Rattle.rd_keys.proofs.Calls.{taken-live, live-with_value, value-with_value}
 use Rattle.rd_tree.specs.declared.node.Node as inner
 use Rattle.rd_tree.specs.Document.{BoxKey, Item, Slot, Document, with_taken, IsNext, IsUsed}
-use Rattle.rd_tree.specs.Links.{Node, edit}
-use Rattle.rd_tree.specs.Linked.{mark_of, marks, plain, linked, Relinks}
+use Rattle.rd_tree.specs.Internal.Links.{Node, edit}
+use Rattle.rd_tree.specs.Internal.Linked.{mark_of, marks, plain, linked, Relinks}
 
 count-map : {A B : Type 0} (p : B → Bool) (f : A → B) (xs : List A) → count_by p (map f xs) ≡ count_by (λ x. p (f x)) xs
 count-map p f [] = refl

@@ -6,17 +6,17 @@ use Rattle.rd_keys.specs.Keys.{same_key}
 use Rattle.rd_keys.specs.Arena.{Arena, live, occupied}
 use Rattle.rd_keys.proofs.Keys.{same_key-sound, same_key-refl}
 use Rattle.rd_tree.specs.declared.node.Node as inner
-use Rattle.rd_tree.specs.Forest.{Forest, empty, tree, size, ◌▷◌, has, children, under, amid, without, in_subtree, each_if, IsPlaceIn, AreApart, IsApart}
-use Rattle.rd_tree.specs.Links.{Node, node, with_prev, with_next, with_ends, with_place, Stands, on_each, edit, edit_if, but, grafted, onward_of, ends_of, left_of, unlinked}
-use Rattle.rd_tree.specs.Document.{BoxKey, Item, Boxes}
-use Rattle.rd_tree.specs.Linked.{linked, marks, Relinks, IsTree, seen, seen_from, item_at, IsIndexed, IsSound}
+use Rattle.rd_tree.specs.Forest.{Forest, empty, tree, size, ◌▷◌, has, children, with_children, insert_among, without_branch, in_subtree, map_where, IsPlaceIn, AreApart, IsApart}
+use Rattle.rd_tree.specs.Internal.Links.{Node, node, with_prev, with_next, with_ends, with_place, Stands, on_each, edit, edit_if, but, grafted, onward_of, ends_of, left_of, unlinked}
+use Rattle.rd_tree.specs.Document.{BoxKey, Item, BoxForest}
+use Rattle.rd_tree.specs.Internal.Linked.{linked, marks, Relinks, IsTree, seen, seen_from, item_at, IsIndexed, IsConsistent}
 use Rattle.rd_tree.specs.declared.reach.Reach.TheVariants.{Subtree}
 use Rattle.rd_tree.specs.Works.{touch}
-use Rattle.rd_tree.specs.WorksAt.{reached}
+use Rattle.rd_tree.specs.Internal.WorksAt.{reached}
 use Rattle.rd_tree.specs.Edits.{put_elsewhere, moved}
 use Rattle.rd_tree.proofs.Standing.{either, frame, agree_at, agree_edit, has-join, out_of_children, differs_back}
 use Rattle.rd_tree.proofs.Children.{stands_children}
-use Rattle.rd_tree.proofs.Under.{in_under_new, in_under_old, size-under, apart_under}
+use Rattle.rd_tree.proofs.Under.{in_under_new, in_under_old, size-with_children, apart_under}
 use Rattle.rd_tree.proofs.Cutting.{in_children, gone}
 use Rattle.rd_tree.proofs.Grafting.{stands_grafted}
 use Rattle.rd_tree.proofs.Placing.{Gap, gap, Joined, joined}
@@ -33,7 +33,7 @@ module _ {K D : Type 0} (same : K → K → Bool) (sound : (a b : K) → same a 
   stands_put_branch : (at : K → Option (Node K D)) (up prev : Option K) (g : Forest K D) (first last after : Option K) (q k : K) (x y : Node K D) (below : Forest K D) (before v : Option K) →
       IsApart same g → Stands at up prev g first last after → has same q g ≡ true → at q ≡ Some y → (w : Gap same sound reflexive at q y.first y.last (children same q g) before v) → has same k g ≡ false →
       at k ≡ Some x → Stands at (Some k) None below x.first x.last None → has same k below ≡ false → AreApart same g (tree k x.item below empty) →
-      Stands (grafted same q k v before y.first y.last (edit same k (with_place (Some q) v before) at)) up prev (under same q (w.xs ▷ tree k x.item below w.ys) g) first last after
+      Stands (grafted same q k v before y.first y.last (edit same k (with_place (Some q) v before) at)) up prev (with_children same q (w.xs ▷ tree k x.item below w.ys) g) first last after
   stands_put_branch at up prev g first last after q k x y below before v a s m found w n at_k low alone strange =
       let e : Node K D → Node K D = with_place (Some q) v before in
       let at2 : K → Option (Node K D) = edit same k e at in
@@ -55,7 +55,7 @@ pub move_tree : (a0 a1 a2 a3 : Arena inner.Node) (root k q : BoxKey) (before v :
     Relinks a1 a2 (edit same_key k (with_place (Some q) v before) (linked a1)) → Relinks a2 a3 (grafted same_key q k v before ends.0 ends.1 (linked a2)) →
     (t : IsTree a3 root) × (seen a3 root ≡ put_elsewhere k q before (seen a0 root))
 move_tree a0 a1 a2 a3 root k q before v ends t0 m not_root q_in outside place other r1 ends_is v_is r2 r3 = (is, sees) where
-  f : Boxes
+  f : BoxForest
   f = seen a0 root
 
   fa : IsApart same_key f
@@ -64,10 +64,10 @@ move_tree a0 a1 a2 a3 root k q before v ends t0 m not_root q_in outside place ot
   u : Unlinked a0 a1 root k f
   u = cut_out a0 a1 root k t0 m not_root r1
 
-  g : Boxes
-  g = without same_key k f
+  g : BoxForest
+  g = without_branch same_key k f
 
-  one : Boxes
+  one : BoxForest
   one = tree k u.node.item u.below empty
 
   out : (same_key q k ≡ false) × (has same_key q (children same_key k f) ≡ false)
@@ -79,7 +79,7 @@ move_tree a0 a1 a2 a3 root k q before v ends t0 m not_root q_in outside place ot
   k_gone : has same_key k g ≡ false
   k_gone = gone same_key same_key-sound same_key-refl k f fa
 
-  c : Boxes
+  c : BoxForest
   c = children same_key q g
 
   low : (y : Node BoxKey Item) × (linked a1 q ≡ Some y) × Stands (linked a1) (Some q) None c y.first y.last None × IsApart same_key c × (has same_key q c ≡ false)
@@ -95,7 +95,7 @@ move_tree a0 a1 a2 a3 root k q before v ends t0 m not_root q_in outside place ot
   w = subst (λ o. Gap same_key same_key-sound same_key-refl (linked a1) q y.first y.last c before o) (sym (v_is ∙ ap (λ o. left_of (linked a1) o.1 before) ends_are))
       (gap same_key same_key-sound same_key-refl (linked a1) q y.first y.last c before low.3 low.2 (place_stays same_key same_key-sound same_key-refl before q k f fa out.0 out.1 other place))
 
-  h : Boxes
+  h : BoxForest
   h = w.xs ▷ tree k u.node.item u.below w.ys
 
   at2 : BoxKey → Option (Node BoxKey Item)
@@ -114,8 +114,8 @@ move_tree a0 a1 a2 a3 root k q before v ends t0 m not_root q_in outside place ot
       (edit_if-as same_key before (with_prev (Some k)) (edit_if same_key v (with_next (Some k)) (linked a2)) (edit_if same_key v (with_next (Some k)) at2) j
       (edit_if-as same_key v (with_next (Some k)) (linked a2) at2 j (r2.links j)))
 
-  new : Boxes
-  new = under same_key q h g
+  new : BoxForest
+  new = with_children same_key q h g
 
   stands : Stands (linked a3) None None new (Some root) (Some root) None
   stands = frame at3 (linked a3) None None new (Some root) (Some root) None (agree_at same_key same_key-sound same_key-refl at3 (linked a3) new (λ j _. links j))
@@ -144,7 +144,7 @@ move_tree a0 a1 a2 a3 root k q before v ends t0 m not_root q_in outside place ot
 
   counted : size new ≡ live a3
   counted =
-      let s : size new + size c ≡ size g + size h = size-under same_key same_key-sound same_key-refl q h g u.apart q_stays in
+      let s : size new + size c ≡ size g + size h = size-with_children same_key same_key-sound same_key-refl q h g u.apart q_stays in
       omega (arith, s, j1.size_is, u.counted, r1.same_live, r2.same_live, r3.same_live)
 
   most : occupied a3 ≤ a3.limit
@@ -154,7 +154,7 @@ move_tree a0 a1 a2 a3 root k q before v ends t0 m not_root q_in outside place ot
   is = record { boxes = new; is = record { stands = stands; apart = apart; inside = inside; counted = counted }; most = most }
 
   sees : seen a3 root ≡ put_elsewhere k q before f
-  sees = seen_is a3 root is ∙ (ap (λ z. under same_key q z g) (sym (w.amid_is one)) ∙ ap (λ z. under same_key q (amid same_key before z c) g) (sym u.is))
+  sees = seen_is a3 root is ∙ (ap (λ z. with_children same_key q z g) (sym (w.amid_is one)) ∙ ap (λ z. with_children same_key q (insert_among same_key before z c) g) (sym u.is))
 
 -- the items once a box is moved
 items_moved : (a0 a1 a2 a3 : Arena inner.Node) (k q : BoxKey) (before v first last : Option BoxKey) →
@@ -168,11 +168,11 @@ indexed_same : {Y S : Type 0} (at bt : BoxKey → Option Item) (ids : HashMap (S
 indexed_same at bt ids same x = record { named = λ k d h. x.named k d (sym (same k) ∙ h); live = λ i k h. ap (option_map (λ d. d.id)) (same k) ∙ x.live i k h }
 
 pub move_sound : {Y S : Type 0} (a0 a1 a2 a3 : Arena inner.Node) (root k q : BoxKey) (before v : Option BoxKey) (ends : Option BoxKey × Option BoxKey) (ids : HashMap (String Y) BoxKey S) →
-    IsSound a0 root ids → has same_key k (seen a0 root) ≡ true → same_key k root ≡ false → has same_key q (seen a0 root) ≡ true → in_subtree same_key q k (seen a0 root) ≡ false →
+    IsConsistent a0 root ids → has same_key k (seen a0 root) ≡ true → same_key k root ≡ false → has same_key q (seen a0 root) ≡ true → in_subtree same_key q k (seen a0 root) ≡ false →
     IsPlaceIn same_key before (children same_key q (seen a0 root)) → (before ≡ Some k → ⊥) →
     Relinks a0 a1 (unlinked same_key k (linked a0)) → ends ≡ ends_of (linked a1 q) → v ≡ left_of (linked a1) ends.1 before →
     Relinks a1 a2 (edit same_key k (with_place (Some q) v before) (linked a1)) → Relinks a2 a3 (grafted same_key q k v before ends.0 ends.1 (linked a2)) →
-    IsSound a3 root ids × (seen a3 root ≡ put_elsewhere k q before (seen a0 root))
+    IsConsistent a3 root ids × (seen a3 root ≡ put_elsewhere k q before (seen a0 root))
 move_sound a0 a1 a2 a3 root k q before v ends ids s m not_root q_in outside place other r1 ends_is v_is r2 r3 =
     let t : (t : IsTree a3 root) × (seen a3 root ≡ put_elsewhere k q before (seen a0 root)) = move_tree a0 a1 a2 a3 root k q before v ends s.tree m not_root q_in outside place other r1 ends_is v_is r2 r3 in
     let same : (j : BoxKey) → item_at a3 j ≡ item_at a0 j = items_moved a0 a1 a2 a3 k q before v ends.0 ends.1 r1 r2 r3 in (
@@ -188,20 +188,20 @@ move_sound a0 a1 a2 a3 root k q before v ends ids s m not_root q_in outside plac
 
 -- A box and all below it were touched and then moved.
 pub relink_sound : {Y S : Type 0} (a0 a1 a2 a3 a4 : Arena inner.Node) (root k q : BoxKey) (before v : Option BoxKey) (ends : Option BoxKey × Option BoxKey) (ids : HashMap (String Y) BoxKey S) →
-    IsSound a0 root ids → has same_key k (seen a0 root) ≡ true → same_key k root ≡ false → has same_key q (seen a0 root) ≡ true → in_subtree same_key q k (seen a0 root) ≡ false →
+    IsConsistent a0 root ids → has same_key k (seen a0 root) ≡ true → same_key k root ≡ false → has same_key q (seen a0 root) ≡ true → in_subtree same_key q k (seen a0 root) ≡ false →
     IsPlaceIn same_key before (children same_key q (seen a0 root)) → (before ≡ Some k → ⊥) →
     Relinks a0 a1 (on_each (reached Subtree k (seen_from a0 (onward_of (linked a0 k)).0)) touch (linked a0)) →
     Relinks a1 a2 (unlinked same_key k (linked a1)) → ends ≡ ends_of (linked a2 q) → v ≡ left_of (linked a2) ends.1 before →
     Relinks a2 a3 (edit same_key k (with_place (Some q) v before) (linked a2)) → Relinks a3 a4 (grafted same_key q k v before ends.0 ends.1 (linked a3)) →
-    IsSound a4 root ids × (seen a4 root ≡ moved k q before (seen a0 root)) × (marks a4 ≡ marks a0)
+    IsConsistent a4 root ids × (seen a4 root ≡ moved k q before (seen a0 root)) × (marks a4 ≡ marks a0)
 relink_sound a0 a1 a2 a3 a4 root k q before v ends ids s m not_root q_in outside place other r0 r1 ends_is v_is r2 r3 =
-    let f : Boxes = seen a0 root in
+    let f : BoxForest = seen a0 root in
     let p : BoxKey → Bool = λ j. in_subtree same_key j k f in
-    let s1 : IsSound a1 root ids × (seen a1 root ≡ each_if p touch f) = touched_sound a0 a1 root k ids Subtree s m r0 in
+    let s1 : IsConsistent a1 root ids × (seen a1 root ≡ map_where p touch f) = touched_sound a0 a1 root k ids Subtree s m r0 in
     let m1 : has same_key k (seen a1 root) ≡ true = still_has p touch k f (seen a1 root) s1.1 m in
     let q1 : has same_key q (seen a1 root) ≡ true = still_has p touch q f (seen a1 root) s1.1 q_in in
-    let below1 : has same_key q (children same_key k (each_if p touch f)) ≡ has same_key q (children same_key k f) = ap (has same_key q) (children-each p touch same_key k f) ∙ has-each p touch same_key q (children same_key k f) in
+    let below1 : has same_key q (children same_key k (map_where p touch f)) ≡ has same_key q (children same_key k f) = ap (has same_key q) (children-each p touch same_key k f) ∙ has-each p touch same_key q (children same_key k f) in
     let outside1 : in_subtree same_key q k (seen a1 root) ≡ false = ap (in_subtree same_key q k) s1.1 ∙ (ap (λ b. same_key q k || b) below1 ∙ outside) in
     let place1 : IsPlaceIn same_key before (children same_key q (seen a1 root)) = subst (λ h. IsPlaceIn same_key before h) (sym (ap (children same_key q) s1.1 ∙ children-each p touch same_key q f)) (place_each p touch same_key before (children same_key q f) place) in
-    let t : IsSound a4 root ids × (seen a4 root ≡ put_elsewhere k q before (seen a1 root)) = move_sound a1 a2 a3 a4 root k q before v ends ids s1.0 m1 not_root q1 outside1 place1 other r1 ends_is v_is r2 r3 in
+    let t : IsConsistent a4 root ids × (seen a4 root ≡ put_elsewhere k q before (seen a1 root)) = move_sound a1 a2 a3 a4 root k q before v ends ids s1.0 m1 not_root q1 outside1 place1 other r1 ends_is v_is r2 r3 in
     (t.0, t.1 ∙ ap (put_elsewhere k q before) s1.1, r3.same_slots ∙ (r2.same_slots ∙ (r1.same_slots ∙ r0.same_slots)))

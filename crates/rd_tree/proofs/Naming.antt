@@ -10,10 +10,10 @@ use Rattle.rd_keys.specs.Arena.{Arena, value}
 use Rattle.rd_keys.proofs.Keys.{same_key-sound, same_key-refl}
 use Rattle.rd_tree.specs.declared.node.Node as inner
 use Rattle.rd_tree.specs.Forest.{empty, tree, has, from, top, children, IsApart}
-use Rattle.rd_tree.specs.Links.{Node, Stands}
+use Rattle.rd_tree.specs.Internal.Links.{Node, Stands}
 use Rattle.rd_style.specs.Limits.{FitsRect, Fits}
-use Rattle.rd_tree.specs.Document.{BoxKey, Item, Boxes, or_else, named, AllFit}
-use Rattle.rd_tree.specs.Linked.{linked, IsLinked, IsTree, seen, item_at, IsIndexed, EachFits, IsSound}
+use Rattle.rd_tree.specs.Document.{BoxKey, Item, BoxForest, or_else, named, AllFit}
+use Rattle.rd_tree.specs.Internal.Linked.{linked, IsLinked, IsTree, seen, item_at, IsIndexed, EachFits, IsConsistent}
 use Rattle.rd_tree.proofs.Standing.{cases, never, refute, from_left, from_right}
 use Rattle.rd_tree.proofs.Children.{stands_children}
 use Rattle.rd_tree.proofs.Under.{which}
@@ -36,7 +36,7 @@ or_none None b h = (refl, h)
 or_none (Some j) b h = cc
 
 -- a box that is named is one of them
-pub named_there : (i : List ℕ) (k : BoxKey) (f : Boxes) → named i f ≡ Some k → has same_key k f ≡ true
+pub named_there : (i : List ℕ) (k : BoxKey) (f : BoxForest) → named i f ≡ Some k → has same_key k f ≡ true
 named_there i k empty h = cc
 named_there i k (tree j d below rest) h =
     elim (cases (bytes_eq d.id i)) [
@@ -55,7 +55,7 @@ named_there i k (tree j d below rest) h =
 abbrev pub id_at : (BoxKey → Option (Node BoxKey Item)) → BoxKey → Option (List ℕ)
 id_at at k = option_map (λ d. d.id) (option_map (λ n. n.item) (at k))
 
-pub named_some : (i : List ℕ) (at : BoxKey → Option (Node BoxKey Item)) (up prev : Option BoxKey) (f : Boxes) (first last after : Option BoxKey) (k : BoxKey) → Stands at up prev f first last after → named i f ≡ Some k → id_at at k ≡ Some i
+pub named_some : (i : List ℕ) (at : BoxKey → Option (Node BoxKey Item)) (up prev : Option BoxKey) (f : BoxForest) (first last after : Option BoxKey) (k : BoxKey) → Stands at up prev f first last after → named i f ≡ Some k → id_at at k ≡ Some i
 named_some i at up prev empty first last after k s h = cc
 named_some i at up prev (tree j d below rest) first last after k s h =
     elim (cases (bytes_eq d.id i)) [
@@ -71,7 +71,7 @@ named_some i at up prev (tree j d below rest) first last after k s h =
           ]
     ]
 
-pub named_none : (i : List ℕ) (at : BoxKey → Option (Node BoxKey Item)) (up prev : Option BoxKey) (f : Boxes) (first last after : Option BoxKey) (k : BoxKey) → Stands at up prev f first last after → named i f ≡ None → has same_key k f ≡ true → id_at at k ≡ Some i → ⊥
+pub named_none : (i : List ℕ) (at : BoxKey → Option (Node BoxKey Item)) (up prev : Option BoxKey) (f : BoxForest) (first last after : Option BoxKey) (k : BoxKey) → Stands at up prev f first last after → named i f ≡ None → has same_key k f ≡ true → id_at at k ≡ Some i → ⊥
 named_none i at up prev empty first last after k s h m found = never false m refl
 named_none i at up prev (tree j d below rest) first last after k s h m found =
     elim (cases (bytes_eq d.id i)) [
@@ -104,7 +104,7 @@ pub item_with_id : (o : Option Item) (i : List ℕ) → option_map (λ d. d.id) 
 item_with_id None i h = cc
 item_with_id (Some d) i h = (d, refl, cc)
 
-pub named_is : {Y S : Type 0} (a : Arena inner.Node) (root : BoxKey) (f : Boxes) (ids : HashMap (String Y) BoxKey S) (i : List ℕ) → IsLinked a root f → IsIndexed (item_at a) ids → named i f ≡ get_by_text ids i
+pub named_is : {Y S : Type 0} (a : Arena inner.Node) (root : BoxKey) (f : BoxForest) (ids : HashMap (String Y) BoxKey S) (i : List ℕ) → IsLinked a root f → IsIndexed (item_at a) ids → named i f ≡ get_by_text ids i
 named_is a root f ids i l x = at (named i f) (get_by_text ids i) refl refl where
   at : (o q : Option BoxKey) → named i f ≡ o → get_by_text ids i ≡ q → o ≡ q
   at (Some k) q h g =
@@ -117,7 +117,7 @@ named_is a root f ids i l x = at (named i f) (get_by_text ids i) refl refl where
   at None None h g = refl
 
 -- the item under a key
-pub item_is : (a : Arena inner.Node) (root : BoxKey) (f : Boxes) (k : BoxKey) → IsLinked a root f → top (from same_key k f) ≡ item_at a k
+pub item_is : (a : Arena inner.Node) (root : BoxKey) (f : BoxForest) (k : BoxKey) → IsLinked a root f → top (from same_key k f) ≡ item_at a k
 item_is a root f k l = at (linked a k) refl where
   at : (o : Option (Node BoxKey Item)) → linked a k ≡ o → top (from same_key k f) ≡ option_map (λ n. n.item) o
   at None h =
@@ -130,20 +130,20 @@ item_is a root f k l = at (linked a k) refl where
       let b : Begins k x (from same_key k f) = begins same_key same_key-sound same_key-refl (linked a) None None f (Some root) (Some root) k x l.apart l.stands (l.inside k (rw h refl)) h in
       rw b.is refl
 
-all_fit : (at : BoxKey → Option (Node BoxKey Item)) (up prev : Option BoxKey) (f : Boxes) (first last after : Option BoxKey) → Stands at up prev f first last after → EachFits (λ k. option_map (λ n. n.item) (at k)) → AllFit f
+all_fit : (at : BoxKey → Option (Node BoxKey Item)) (up prev : Option BoxKey) (f : BoxForest) (first last after : Option BoxKey) → Stands at up prev f first last after → EachFits (λ k. option_map (λ n. n.item) (at k)) → AllFit f
 all_fit at up prev empty first last after s h = tt
 all_fit at up prev (tree k d below rest) first last after s h =
     let t : FitsRect d.rect × Fits d.style = h k d (rw s.4 refl) in
     (t.0, t.1, all_fit at (Some k) None below s.0 s.1 None s.5 h, all_fit at up (Some k) rest s.2 last after s.6 h)
 
 -- What the fields of a tree say of the boxes that are seen.
-pub named_seen : {Y S : Type 0} (a : Arena inner.Node) (root : BoxKey) (ids : HashMap (String Y) BoxKey S) (i : List ℕ) → IsSound a root ids → get_by_text ids i ≡ named i (seen a root)
+pub named_seen : {Y S : Type 0} (a : Arena inner.Node) (root : BoxKey) (ids : HashMap (String Y) BoxKey S) (i : List ℕ) → IsConsistent a root ids → get_by_text ids i ≡ named i (seen a root)
 named_seen a root ids i s = sym (ap (named i) (seen_is a root s.tree) ∙ named_is a root s.tree.boxes ids i s.tree.is s.indexed)
 
 pub item_seen : (a : Arena inner.Node) (root k : BoxKey) → IsTree a root → item_at a k ≡ top (from same_key k (seen a root))
 item_seen a root k t = sym (ap (λ f. top (from same_key k f)) (seen_is a root t) ∙ item_is a root t.boxes k t.is)
 
-pub fits_seen : {Y S : Type 0} (a : Arena inner.Node) (root : BoxKey) (ids : HashMap (String Y) BoxKey S) → IsSound a root ids → AllFit (seen a root)
+pub fits_seen : {Y S : Type 0} (a : Arena inner.Node) (root : BoxKey) (ids : HashMap (String Y) BoxKey S) → IsConsistent a root ids → AllFit (seen a root)
 fits_seen a root ids s = subst AllFit (sym (seen_is a root s.tree)) (all_fit (linked a) None None s.tree.boxes (Some root) (Some root) None s.tree.is.stands s.fits)
 
 -- What a node tells of its item.

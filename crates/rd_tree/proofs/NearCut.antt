@@ -2,8 +2,8 @@
 use Rattle.std.proofs.Common.{◌≡◌, refl, ap, ◌∙◌, sym, subst, true, false, ◌||◌, cond}
 use Rattle.rd_keys.specs.Keys.{same_key}
 use Rattle.rd_keys.proofs.Keys.{same_key-sound, same_key-refl}
-use Rattle.rd_tree.specs.Forest.{empty, tree, ◌▷◌, has, children, in_subtree, without, branch, IsApart}
-use Rattle.rd_tree.specs.Document.{BoxKey, Item, Boxes}
+use Rattle.rd_tree.specs.Forest.{empty, tree, ◌▷◌, has, children, in_subtree, without_branch, branch, IsApart}
+use Rattle.rd_tree.specs.Document.{BoxKey, Item, BoxForest}
 use Rattle.rd_tree.specs.Near.{near_of}
 use Rattle.rd_tree.proofs.Standing.{never, refute, from_left, from_right, join-empty, out_of_children}
 use Rattle.rd_tree.proofs.Cutting.{Among, among-in, apart_right, in_children}
@@ -11,11 +11,11 @@ use Rattle.rd_tree.proofs.Without.{flipped, stays}
 use Rattle.rd_tree.proofs.Restoring.{Restored, restored, branch_there, apart_children}
 use Rattle.rd_tree.proofs.NearPut.{more_near, near-put, near-put_new, below-put_new, subtree-put_new}
 
-module _ (p k : BoxKey) (f : Boxes) (w : Among k (children same_key p f)) (a : IsApart same_key f) (m : has same_key p f ≡ true) where
-  abbrev g : Boxes
-  g = without same_key k f
+module _ (p k : BoxKey) (f : BoxForest) (w : Among k (children same_key p f)) (a : IsApart same_key f) (m : has same_key p f ≡ true) where
+  abbrev g : BoxForest
+  g = without_branch same_key k f
 
-  abbrev one : Boxes
+  abbrev one : BoxForest
   one = tree k w.item w.below empty
 
   back : Restored same_key same_key-sound same_key-refl p k f w

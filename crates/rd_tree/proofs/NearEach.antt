@@ -4,49 +4,49 @@ use Rattle.rd_geom.specs.Plane.{hull_of}
 use Rattle.rd_keys.specs.Keys.{same_key}
 use Rattle.rd_keys.proofs.Keys.{same_key-sound, same_key-refl}
 use Rattle.rd_tree.specs.declared.near.Near.{Near}
-use Rattle.rd_tree.specs.Forest.{has, children, in_subtree, without, branch, each_if, IsApart}
-use Rattle.rd_tree.specs.Document.{BoxKey, Item, Boxes}
+use Rattle.rd_tree.specs.Forest.{has, children, in_subtree, without_branch, branch, map_where, IsApart}
+use Rattle.rd_tree.specs.Document.{BoxKey, Item, BoxForest}
 use Rattle.rd_tree.specs.Near.{touched_in, hull_in, near_of}
 use Rattle.rd_tree.proofs.Standing.{either}
 use Rattle.rd_tree.proofs.Without.{stays}
 use Rattle.rd_tree.proofs.Each.{has-each, apart_each, children-each}
 use Rattle.rd_tree.proofs.Cutting.{Among}
-use Rattle.rd_tree.proofs.EachBranch.{each_none, among_each, IsWithin, without-within}
+use Rattle.rd_tree.proofs.EachBranch.{each_none, among_each, IsWithin, without_branch-within}
 use Rattle.rd_tree.proofs.NearPut.{more_near}
 use Rattle.rd_tree.proofs.NearCut.{near-cut, subtree-cut_above, above_stays}
 
 -- what is told of a box above a branch: how many children it has, and without the branch r is told of it
-abbrev pub joined_near : ℕ → Near → Boxes → Near
+abbrev pub joined_near : ℕ → Near → BoxForest → Near
 joined_near c r b = record { children = c; touched = r.touched + touched_in b; hull = hull_of r.hull (hull_in b) }
 
 -- The boxes g are the boxes f but for the branch of k, which stands below the same parent.
-pub record Replaced (p k : BoxKey) (f g : Boxes) : Type 0 where
+pub record Replaced (p k : BoxKey) (f g : BoxForest) : Type 0 where
   pub apart : IsApart same_key g
   pub there : has same_key p g ≡ true
   pub child : Among k (children same_key p g)
-  pub same : without same_key k g ≡ without same_key k f
+  pub same : without_branch same_key k g ≡ without_branch same_key k f
 
 -- Items change in the branch alone.
-pub replaced_each : (t : BoxKey → Bool) (h : Item → Item) (p k : BoxKey) (f : Boxes) → IsApart same_key f → has same_key p f ≡ true → Among k (children same_key p f) → IsWithin same_key t k f → Replaced p k f (each_if t h f)
+pub replaced_each : (t : BoxKey → Bool) (h : Item → Item) (p k : BoxKey) (f : BoxForest) → IsApart same_key f → has same_key p f ≡ true → Among k (children same_key p f) → IsWithin same_key t k f → Replaced p k f (map_where t h f)
 replaced_each t h p k f a m w q = record {
   apart = apart_each t h same_key f a;
   there = has-each t h same_key p f ∙ m;
   child = among_each t h same_key k p f w;
-  same = without-within same_key same_key-sound same_key-refl t h k f a q;
+  same = without_branch-within same_key same_key-sound same_key-refl t h k f a q;
 }
 
-pub replaced_then : (p k : BoxKey) (f g h : Boxes) → Replaced p k f g → Replaced p k g h → Replaced p k f h
+pub replaced_then : (p k : BoxKey) (f g h : BoxForest) → Replaced p k f g → Replaced p k g h → Replaced p k f h
 replaced_then p k f g h r s = record { apart = s.apart; there = s.there; child = s.child; same = s.same ∙ r.same }
 
 -- what is told of a box above the branch of k before and after that
-pub record InPlace (j k : BoxKey) (f g : Boxes) : Type 0 where
+pub record InPlace (j k : BoxKey) (f g : BoxForest) : Type 0 where
   pub count : ℕ
-  pub before : near_of j f ≡ joined_near count (near_of j (without same_key k f)) (branch same_key k f)
-  pub after : near_of j g ≡ joined_near count (near_of j (without same_key k f)) (branch same_key k g)
+  pub before : near_of j f ≡ joined_near count (near_of j (without_branch same_key k f)) (branch same_key k f)
+  pub after : near_of j g ≡ joined_near count (near_of j (without_branch same_key k f)) (branch same_key k g)
 
-module _ (p k : BoxKey) (f g : Boxes) (a : IsApart same_key f) (m : has same_key p f ≡ true) (w : Among k (children same_key p f)) (r : Replaced p k f g) where
-  abbrev less : Boxes
-  less = without same_key k f
+module _ (p k : BoxKey) (f g : BoxForest) (a : IsApart same_key f) (m : has same_key p f ≡ true) (w : Among k (children same_key p f)) (r : Replaced p k f g) where
+  abbrev less : BoxForest
+  less = without_branch same_key k f
 
   cut_replaced : (j : BoxKey) → has same_key j less ≡ true → near_of j g ≡ cond (in_subtree same_key p j less) (more_near (same_key p j) (branch same_key k g) (near_of j less)) (near_of j less)
   cut_replaced j u =
@@ -74,5 +74,5 @@ module _ (p k : BoxKey) (f g : Boxes) (a : IsApart same_key f) (m : has same_key
       ∙ (ap (λ b. cond b (more_near (same_key p j) (branch same_key k f) (near_of j less)) (near_of j less)) (sym off) ∙ sym (near-cut p k f w a m j s)))
 
 -- What is below a box stays where the items below it stay.
-pub children_kept : (t : BoxKey → Bool) (h : Item → Item) (k : BoxKey) (f : Boxes) → ((j : BoxKey) → has same_key j (children same_key k f) ≡ true → t j ≡ false) → children same_key k (each_if t h f) ≡ children same_key k f
+pub children_kept : (t : BoxKey → Bool) (h : Item → Item) (k : BoxKey) (f : BoxForest) → ((j : BoxKey) → has same_key j (children same_key k f) ≡ true → t j ≡ false) → children same_key k (map_where t h f) ≡ children same_key k f
 children_kept t h k f o = children-each t h same_key k f ∙ each_none t h same_key same_key-refl (children same_key k f) o

@@ -10,10 +10,10 @@ use Rattle.rd_tree.specs.declared.node.Node as inner
 use Rattle.rd_tree.specs.declared.near.Near.{Near}
 use Rattle.rd_tree.specs.declared.whole.Whole.{Whole}
 use Rattle.rd_tree.specs.Forest.{empty, tree, has, children, in_subtree, IsApart, IsPlaceIn}
-use Rattle.rd_tree.specs.Document.{BoxKey, Item, Boxes, with_child}
-use Rattle.rd_tree.specs.Linked.{linked, IsTree, IsSound, seen}
+use Rattle.rd_tree.specs.Document.{BoxKey, Item, BoxForest, with_child}
+use Rattle.rd_tree.specs.Internal.Linked.{linked, IsTree, IsConsistent, seen}
 use Rattle.rd_tree.specs.Near.{near_of, near_at, extent}
-use Rattle.rd_tree.specs.Rows.{Puts, IsStanding, IsGaining, IsRight, IsNear, CanClimb, alone, touched_box, whole_in}
+use Rattle.rd_tree.specs.Internal.Rows.{Puts, IsStanding, IsGaining, IsRight, IsNear, CanClimb, alone, touched_box, whole_in}
 use Rattle.rd_tree.proofs.Standing.{cases, never, differs_back}
 use Rattle.rd_tree.proofs.Under.{which}
 use Rattle.rd_tree.proofs.Above.{puts_at, is_live}
@@ -25,12 +25,12 @@ use Rattle.rd_tree.proofs.NearBranch.{hull_near-unit}
 use Rattle.rd_tree.proofs.NearPut.{more_near}
 use Rattle.rd_tree.proofs.NearPlaced.{near-with_child, near-child, subtree-with_child, has-with_child, not_above_child}
 
-module _ (a : Arena inner.Node) (p k : BoxKey) (before : Option BoxKey) (d : Item) (g : Boxes) (rows next : List Near) (apart : IsApart same_key g) (there : has same_key p g ≡ true)
+module _ (a : Arena inner.Node) (p k : BoxKey) (before : Option BoxKey) (d : Item) (g : BoxForest) (rows next : List Near) (apart : IsApart same_key g) (there : has same_key p g ≡ true)
     (place : IsPlaceIn same_key before (children same_key p g)) (out : has same_key k g ≡ false) where
-  abbrev f : Boxes
+  abbrev f : BoxForest
   f = with_child p before k d g
 
-  abbrev one : Boxes
+  abbrev one : BoxForest
   one = tree k d empty empty
 
   pub grown_gains : ((j : BoxKey) → has same_key j f ≡ true → is_some (linked a j) ≡ true) → IsRight rows g → Puts rows next k (alone (hull_of (extent d) no_pixels)) → IsGaining next f p (whole_in one)
@@ -77,7 +77,7 @@ module _ (a : Arena inner.Node) (p k : BoxKey) (before : Option BoxKey) (d : Ite
 
 -- The table of a tree with a new box.
 module _ {Y S : Type 0} (a0 a2 : Arena inner.Node) (root p k : BoxKey) (before : Option BoxKey) (d : Item) (ids : HashMap (String Y) BoxKey S) (rows next : List Near) (w : Whole)
-    (t0 : IsTree a0 root) (s2 : IsSound a2 root ids) (g : GrownTree a0 a2 root p k before d) (there : has same_key p (seen a0 root) ≡ true) (place : IsPlaceIn same_key before (children same_key p (seen a0 root)))
+    (t0 : IsTree a0 root) (s2 : IsConsistent a2 root ids) (g : GrownTree a0 a2 root p k before d) (there : has same_key p (seen a0 root) ≡ true) (place : IsPlaceIn same_key before (children same_key p (seen a0 root)))
     (near : IsNear a0 rows (seen a0 root)) (most : length a2.slots ≤ length next) (put : Puts rows next k (alone (hull_of (extent d) no_pixels))) (t : d.touched ≡ true) (e : w ≡ touched_box (hull_of (extent d) no_pixels)) where
   apart0 : IsApart same_key (seen a0 root)
   apart0 = apart_seen a0 root t0
@@ -96,5 +96,5 @@ module _ {Y S : Type 0} (a0 a2 : Arena inner.Node) (root p k : BoxKey) (before :
   pub insert_climbs : CanClimb a2 next p (λ f. IsGaining next f p w)
   insert_climbs = tree_climbs a2 root p ids next (λ f. IsGaining next f p w) s2 most is_in insert_gains
 
-  pub insert_near : (last : List Near) → ((r : BoxKey) (f : Boxes) → IsStanding a2 r f → has same_key p f ≡ true → IsGaining next f p w → IsRight last f) → length last ≡ length next → IsNear a2 last (seen a2 root)
+  pub insert_near : (last : List Near) → ((r : BoxKey) (f : BoxForest) → IsStanding a2 r f → has same_key p f ≡ true → IsGaining next f p w → IsRight last f) → length last ≡ length next → IsNear a2 last (seen a2 root)
   insert_near last right len = record { all_rows = omega (arith, most, len); right = right root (seen a2 root) (seen_stands a2 root s2.tree) is_in insert_gains }

@@ -9,11 +9,11 @@ use Rattle.rd_keys.specs.Arena.{Arena, with_slot, Enters}
 use Rattle.rd_keys.proofs.Keys.{same_key-sound, same_key-refl}
 use Rattle.rd_tree.specs.declared.node.Node as inner
 use Rattle.rd_tree.specs.declared.near.Near.{Near}
-use Rattle.rd_tree.specs.Forest.{empty, tree, has, each_if}
+use Rattle.rd_tree.specs.Forest.{empty, tree, has, map_where}
 use Rattle.rd_tree.specs.Document.{BoxKey, Item}
-use Rattle.rd_tree.specs.Linked.{seen, marks, mark_of}
+use Rattle.rd_tree.specs.Internal.Linked.{seen, marks, mark_of}
 use Rattle.rd_tree.specs.Near.{near_of, near_at, extent}
-use Rattle.rd_tree.specs.Rows.{IsNear, Puts, alone, unmarked}
+use Rattle.rd_tree.specs.Internal.Rows.{IsNear, Puts, alone, unmarked}
 use Rattle.rd_tree.specs.Works.{settled}
 use Rattle.rd_tree.proofs.Standing.{cases, never}
 use Rattle.rd_tree.proofs.Each.{has-each}
@@ -53,7 +53,7 @@ pub same_slots : (a b : Arena inner.Node) → marks b ≡ marks a → length b.s
 same_slots a b e = sym (length-map b.slots mark_of) ∙ (ap length e ∙ length-map a.slots mark_of)
 
 -- No box is touched any more.
-pub settled_near : (a b : Arena inner.Node) (root : BoxKey) (old new : List Near) → marks b ≡ marks a → seen b root ≡ each_if (λ _. true) settled (seen a root) →
+pub settled_near : (a b : Arena inner.Node) (root : BoxKey) (old new : List Near) → marks b ≡ marks a → seen b root ≡ map_where (λ _. true) settled (seen a root) →
     new ≡ map unmarked old → IsNear a old (seen a root) → IsNear b new (seen b root)
 settled_near a b root old new slots sees rows n = subst (λ f. IsNear b new f) (sym sees) (record {
   all_rows = let m : length b.slots ≡ length a.slots = same_slots a b slots in let l : length new ≡ length old = ap length rows ∙ length-map old unmarked in omega (arith, m, l, n.all_rows);

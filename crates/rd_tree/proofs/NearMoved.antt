@@ -10,22 +10,22 @@ use Rattle.rd_tree.specs.declared.near.Near.{Near}
 use Rattle.rd_tree.specs.declared.whole.Whole.{Whole}
 use Rattle.rd_tree.specs.declared.reach.Reach.TheVariants.{Subtree}
 use Rattle.rd_tree.specs.declared.renew.Stale.TheVariants.{Branch}
-use Rattle.rd_tree.specs.Forest.{empty, tree, has, children, in_subtree, without, branch, each_if, IsApart, IsPlaceIn}
-use Rattle.rd_tree.specs.Links.{Node, on_each, onward_of, unlinked}
-use Rattle.rd_tree.specs.Document.{BoxKey, Item, Boxes}
-use Rattle.rd_tree.specs.Linked.{linked, marks, Relinks, IsSound, seen, seen_from}
+use Rattle.rd_tree.specs.Forest.{empty, tree, has, children, in_subtree, without_branch, branch, map_where, IsApart, IsPlaceIn}
+use Rattle.rd_tree.specs.Internal.Links.{Node, on_each, onward_of, unlinked}
+use Rattle.rd_tree.specs.Document.{BoxKey, Item, BoxForest}
+use Rattle.rd_tree.specs.Internal.Linked.{linked, marks, Relinks, IsConsistent, seen, seen_from}
 use Rattle.rd_tree.specs.Near.{near_of, near_at}
-use Rattle.rd_tree.specs.Rows.{IsStanding, IsNear, IsGaining, IsLosing, IsRight, KeepsOthers, CanClimb, whole_in}
-use Rattle.rd_tree.specs.Renews.{IsRightIn, IsStale, KeepsOutside}
+use Rattle.rd_tree.specs.Internal.Rows.{IsStanding, IsNear, IsGaining, IsLosing, IsRight, KeepsOthers, CanClimb, whole_in}
+use Rattle.rd_tree.specs.Internal.Renews.{IsRightIn, IsStale, KeepsOutside}
 use Rattle.rd_tree.specs.Works.{touch}
-use Rattle.rd_tree.specs.WorksAt.{reached}
+use Rattle.rd_tree.specs.Internal.WorksAt.{reached}
 use Rattle.rd_tree.specs.Edits.{put_elsewhere, moved}
 use Rattle.rd_tree.proofs.Standing.{cases, never, either}
 use Rattle.rd_tree.proofs.Under.{which}
 use Rattle.rd_tree.proofs.Cutting.{in_children}
 use Rattle.rd_tree.proofs.Without.{stays, stays_out, in_without}
 use Rattle.rd_tree.proofs.Each.{has-each, children-each, place_each}
-use Rattle.rd_tree.proofs.EachBranch.{among_each, without-within, within_subtree}
+use Rattle.rd_tree.proofs.EachBranch.{among_each, without_branch-within, within_subtree}
 use Rattle.rd_tree.proofs.Editing.{touched_sound, still_has}
 use Rattle.rd_tree.proofs.Restoring.{branch_there, branch_off}
 use Rattle.rd_tree.proofs.Unlinking.{items_unlinked}
@@ -39,13 +39,13 @@ use Rattle.rd_tree.proofs.NearRemoved.{IsParent, IsLeft, loses, cut_left}
 use Rattle.rd_tree.proofs.TreeRows.{seen_stands, tree_climbs}
 
 -- From the new parent up, the rows lack the branch that came there.
-module _ (k q : BoxKey) (before : Option BoxKey) (h : Boxes) (a : IsApart same_key h) (m : has same_key k h ≡ true) (there : has same_key q h ≡ true) (outside : in_subtree same_key q k h ≡ false)
+module _ (k q : BoxKey) (before : Option BoxKey) (h : BoxForest) (a : IsApart same_key h) (m : has same_key k h ≡ true) (there : has same_key q h ≡ true) (outside : in_subtree same_key q k h ≡ false)
     (place : IsPlaceIn same_key before (children same_key q h)) (other : before ≡ Some k → ⊥) (rows : List Near) where
-  abbrev new : Boxes
+  abbrev new : BoxForest
   new = put_elsewhere k q before h
 
-  abbrev g : Boxes
-  g = without same_key k h
+  abbrev g : BoxForest
+  g = without_branch same_key k h
 
   q_stays : has same_key q g ≡ true
   q_stays = let o : (same_key q k ≡ false) × (has same_key q (children same_key k h) ≡ false) = either (same_key q k) (has same_key q (children same_key k h)) outside in stays same_key same_key-sound same_key-refl q k h there o.0 o.1
@@ -81,7 +81,7 @@ module _ (k q : BoxKey) (before : Option BoxKey) (h : Boxes) (a : IsApart same_k
   }
 
 -- a box of a branch is its top or below that
-in_branch : (j k : BoxKey) (f : Boxes) → IsApart same_key f → has same_key k f ≡ true → has same_key j (branch same_key k f) ≡ true → in_subtree same_key j k f ≡ true
+in_branch : (j k : BoxKey) (f : BoxForest) → IsApart same_key f → has same_key k f ≡ true → has same_key j (branch same_key k f) ≡ true → in_subtree same_key j k f ≡ true
 in_branch j k f a m u =
     let t : (d : Item) × (branch same_key k f ≡ tree k d (children same_key k f) empty) = branch_there same_key same_key-sound same_key-refl k f a m in
     at (same_key j k) (has same_key j (children same_key k f)) (ap (has same_key j) (sym t.1) ∙ u) where
@@ -102,18 +102,18 @@ pub record IsLanded (a : Arena inner.Node) (root q : BoxKey) (rows : List Near) 
   pub climbs : CanClimb a rows q (λ h. IsGaining rows h q w)
   pub near : (final : List Near) → length final ≡ length rows → IsRight final (seen a root) → IsNear a final (seen a root)
 
-module _ {Y S : Type 0} (a0 a1 : Arena inner.Node) (root k p : BoxKey) (ids : HashMap (String Y) BoxKey S) (rows : List Near) (s : IsSound a0 root ids) (m : has same_key k (seen a0 root) ≡ true) (not_root : same_key k root ≡ false)
+module _ {Y S : Type 0} (a0 a1 : Arena inner.Node) (root k p : BoxKey) (ids : HashMap (String Y) BoxKey S) (rows : List Near) (s : IsConsistent a0 root ids) (m : has same_key k (seen a0 root) ≡ true) (not_root : same_key k root ≡ false)
     (r0 : Relinks a0 a1 (on_each (reached Subtree k (seen_from a0 (onward_of (linked a0 k)).0)) touch (linked a0))) (near : IsNear a0 rows (seen a0 root)) (up : IsParent p k (seen a0 root)) where
-  abbrev f : Boxes
+  abbrev f : BoxForest
   f = seen a0 root
 
-  abbrev touched : Boxes
+  abbrev touched : BoxForest
   touched = seen a1 root
 
-  abbrev stay : Boxes
-  stay = without same_key k touched
+  abbrev stay : BoxForest
+  stay = without_branch same_key k touched
 
-  s1 : IsSound a1 root ids × (touched ≡ each_if (λ j. in_subtree same_key j k f) touch f)
+  s1 : IsConsistent a1 root ids × (touched ≡ map_where (λ j. in_subtree same_key j k f) touch f)
   s1 = touched_sound a0 a1 root k ids Subtree s m r0
 
   pub touched_limit : a1.limit ≡ 20000
@@ -134,15 +134,15 @@ module _ {Y S : Type 0} (a0 a1 : Arena inner.Node) (root k p : BoxKey) (ids : Ha
   pub still_parent : IsParent p k touched
   still_parent = subst (λ h. IsParent p k h) (sym s1.1) (record { there = has-each (λ j. in_subtree same_key j k f) touch same_key p f ∙ up.there; child = among_each (λ j. in_subtree same_key j k f) touch same_key k p f up.child })
 
-  stay_is : stay ≡ without same_key k f
-  stay_is = ap (without same_key k) s1.1 ∙ without-within same_key same_key-sound same_key-refl (λ j. in_subtree same_key j k f) touch k f (seen_stands a0 root s.tree).apart (within_subtree same_key k f)
+  stay_is : stay ≡ without_branch same_key k f
+  stay_is = ap (without_branch same_key k) s1.1 ∙ without_branch-within same_key same_key-sound same_key-refl (λ j. in_subtree same_key j k f) touch k f (seen_stands a0 root s.tree).apart (within_subtree same_key k f)
 
   -- The rows of the branch were worked out anew, and the branch was cut out.
   module _ (a2 : Arena inner.Node) (next : List Near) (r1 : Relinks a1 a2 (unlinked same_key k (linked a1))) (within : IsRightIn next touched k) (outer : KeepsOutside a1 touched rows next k) (same : length next ≡ length rows) where
     next_rows : length a1.slots ≤ length next
     next_rows = omega (arith, touched_rows, same)
 
-    as_before : (j : BoxKey) → has same_key j (without same_key k f) ≡ true → near_at next j ≡ near_of j f
+    as_before : (j : BoxKey) → has same_key j (without_branch same_key k f) ≡ true → near_at next j ≡ near_of j f
     as_before j i =
         let v : has same_key j stay ≡ true = subst (λ h. has same_key j h ≡ true) (sym stay_is) i in
         let o : (same_key j k ≡ false) × (has same_key j (children same_key k touched) ≡ false) = stays_out same_key same_key-sound same_key-refl j k touched touched_stands.apart v in
@@ -175,7 +175,7 @@ module _ {Y S : Type 0} (a0 a1 : Arena inner.Node) (root k p : BoxKey) (ids : Ha
 
     -- The branch came below another box.
     module _ (q : BoxKey) (before : Option BoxKey) (q_in : has same_key q f ≡ true) (outside : in_subtree same_key q k f ≡ false) (place : IsPlaceIn same_key before (children same_key q f)) (other : before ≡ Some k → ⊥)
-        (a4 : Arena inner.Node) (last : List Near) (parent_stays : has same_key p stay ≡ true) (right : IsRight last stay) (others : KeepsOthers a2 stay next last (Some p)) (length_same : length last ≡ length next) (s4 : IsSound a4 root ids) (sees : seen a4 root ≡ moved k q before f) (slots : marks a4 ≡ marks a0) where
+        (a4 : Arena inner.Node) (last : List Near) (parent_stays : has same_key p stay ≡ true) (right : IsRight last stay) (others : KeepsOthers a2 stay next last (Some p)) (length_same : length last ≡ length next) (s4 : IsConsistent a4 root ids) (sees : seen a4 root ≡ moved k q before f) (slots : marks a4 ≡ marks a0) where
       q_still : has same_key q touched ≡ true
       q_still = still_has (λ j. in_subtree same_key j k f) touch q f touched s1.1 q_in
 

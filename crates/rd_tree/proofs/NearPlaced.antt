@@ -4,8 +4,8 @@ use Rattle.std.specs.Prelude.{Option, Some, None}
 use Rattle.rd_geom.specs.Plane.{no_pixels, hull_of}
 use Rattle.rd_keys.specs.Keys.{same_key}
 use Rattle.rd_keys.proofs.Keys.{same_key-sound, same_key-refl}
-use Rattle.rd_tree.specs.Forest.{Forest, empty, tree, ◌▷◌, has, children, in_subtree, under, amid, without, branch, IsPlaceIn, AreApart, IsApart}
-use Rattle.rd_tree.specs.Document.{BoxKey, Item, Boxes, with_child}
+use Rattle.rd_tree.specs.Forest.{Forest, empty, tree, ◌▷◌, has, children, in_subtree, with_children, insert_among, without_branch, branch, IsPlaceIn, AreApart, IsApart}
+use Rattle.rd_tree.specs.Document.{BoxKey, Item, BoxForest, with_child}
 use Rattle.rd_tree.specs.Edits.{put_elsewhere}
 use Rattle.rd_tree.specs.Near.{extent, near_of}
 use Rattle.rd_tree.proofs.Standing.{cases, either, join-empty, differs, from_left}
@@ -20,7 +20,7 @@ module _ {K D : Type 0} (same : K → K → Bool) (sound : (a b : K) → same a 
     pub xs : Forest K D
     pub ys : Forest K D
     pub is : c ≡ xs ▷ ys
-    pub amid_is : (g : Forest K D) → amid same before g c ≡ xs ▷ (g ▷ ys)
+    pub amid_is : (g : Forest K D) → insert_among same before g c ≡ xs ▷ (g ▷ ys)
 
   pub divided : (before : Option K) (c : Forest K D) → Divided before c
   divided None c = record { xs = c; ys = empty; is = sym (join-empty c); amid_is = λ g. ap (λ z. c ▷ z) (sym (join-empty g)) }
@@ -33,18 +33,18 @@ module _ {K D : Type 0} (same : K → K → Bool) (sound : (a b : K) → same a 
             record { xs = tree m e below s.xs; ys = s.ys; is = ap (tree m e below) s.is; amid_is = λ g. rw h (ap (tree m e below) (s.amid_is g)) }
       ]
 
-module _ (p : BoxKey) (before : Option BoxKey) (k : BoxKey) (d : Item) (below g : Boxes) (a : IsApart same_key g) (m : has same_key p g ≡ true) (place : IsPlaceIn same_key before (children same_key p g)) (w : AreApart same_key g (tree k d below empty)) where
-  abbrev one : Boxes
+module _ (p : BoxKey) (before : Option BoxKey) (k : BoxKey) (d : Item) (below g : BoxForest) (a : IsApart same_key g) (m : has same_key p g ≡ true) (place : IsPlaceIn same_key before (children same_key p g)) (w : AreApart same_key g (tree k d below empty)) where
+  abbrev one : BoxForest
   one = tree k d below empty
 
-  abbrev placed : Boxes
-  placed = under same_key p (amid same_key before one (children same_key p g)) g
+  abbrev placed : BoxForest
+  placed = with_children same_key p (insert_among same_key before one (children same_key p g)) g
 
   v : Divided same_key same_key-sound same_key-refl before (children same_key p g)
   v = divided same_key same_key-sound same_key-refl before (children same_key p g)
 
-  placed_is : placed ≡ under same_key p (v.xs ▷ tree k d below v.ys) g
-  placed_is = ap (λ z. under same_key p z g) (v.amid_is one)
+  placed_is : placed ≡ with_children same_key p (v.xs ▷ tree k d below v.ys) g
+  placed_is = ap (λ z. with_children same_key p z g) (v.amid_is one)
 
   pub near-placed : (j : BoxKey) → has same_key j g ≡ true → near_of j placed ≡ cond (in_subtree same_key p j g) (more_near (same_key p j) one (near_of j g)) (near_of j g)
   near-placed j u = ap (near_of j) placed_is ∙ near-put k d below v.xs v.ys p g a m v.is w j u
@@ -62,7 +62,7 @@ module _ (p : BoxKey) (before : Option BoxKey) (k : BoxKey) (d : Item) (below g 
   not_above_placed q j u i = ap (in_subtree same_key q j) placed_is ∙ not_above_old k d below v.xs v.ys p g a m v.is w j q u i
 
 -- a new box
-module _ (p : BoxKey) (before : Option BoxKey) (k : BoxKey) (d : Item) (g : Boxes) (a : IsApart same_key g) (m : has same_key p g ≡ true) (place : IsPlaceIn same_key before (children same_key p g)) (n : has same_key k g ≡ false) where
+module _ (p : BoxKey) (before : Option BoxKey) (k : BoxKey) (d : Item) (g : BoxForest) (a : IsApart same_key g) (m : has same_key p g ≡ true) (place : IsPlaceIn same_key before (children same_key p g)) (n : has same_key k g ≡ false) where
   strange : AreApart same_key g (tree k d empty empty)
   strange j u = rw (differs same_key same_key-sound same_key-refl g j k u n) refl
 
@@ -85,10 +85,10 @@ module _ (p : BoxKey) (before : Option BoxKey) (k : BoxKey) (d : Item) (g : Boxe
   not_above_child q i = not_above_placed p before k d empty g a m place strange q k (from_left (same_key k k) false (same_key-refl k)) i
 
 -- a branch that is moved below q
-module _ (k q : BoxKey) (before : Option BoxKey) (f : Boxes) (a : IsApart same_key f) (m : has same_key k f ≡ true) (there : has same_key q f ≡ true) (outside : in_subtree same_key q k f ≡ false)
+module _ (k q : BoxKey) (before : Option BoxKey) (f : BoxForest) (a : IsApart same_key f) (m : has same_key k f ≡ true) (there : has same_key q f ≡ true) (outside : in_subtree same_key q k f ≡ false)
     (place : IsPlaceIn same_key before (children same_key q f)) (other : before ≡ Some k → ⊥) where
-  abbrev g : Boxes
-  g = without same_key k f
+  abbrev g : BoxForest
+  g = without_branch same_key k f
 
   out : (same_key q k ≡ false) × (has same_key q (children same_key k f) ≡ false)
   out = either (same_key q k) (has same_key q (children same_key k f)) outside
@@ -110,25 +110,25 @@ module _ (k q : BoxKey) (before : Option BoxKey) (f : Boxes) (a : IsApart same_k
 
   pub near-elsewhere : (j : BoxKey) → has same_key j g ≡ true → near_of j (put_elsewhere k q before f) ≡ cond (in_subtree same_key q j g) (more_near (same_key q j) (branch same_key k f) (near_of j g)) (near_of j g)
   near-elsewhere j u =
-      subst (λ b. near_of j (under same_key q (amid same_key before b (children same_key q g)) g) ≡ cond (in_subtree same_key q j g) (more_near (same_key q j) b (near_of j g)) (near_of j g)) (sym t.1)
+      subst (λ b. near_of j (with_children same_key q (insert_among same_key before b (children same_key q g)) g) ≡ cond (in_subtree same_key q j g) (more_near (same_key q j) b (near_of j g)) (near_of j g)) (sym t.1)
       (near-placed q before k t.0 (children same_key k f) g ga gq gplace off j u)
 
   pub near-elsewhere_branch : (j : BoxKey) → has same_key j (branch same_key k f) ≡ true → near_of j (put_elsewhere k q before f) ≡ near_of j (branch same_key k f)
   near-elsewhere_branch j u =
-      subst (λ b. near_of j (under same_key q (amid same_key before b (children same_key q g)) g) ≡ near_of j b) (sym t.1)
+      subst (λ b. near_of j (with_children same_key q (insert_among same_key before b (children same_key q g)) g) ≡ near_of j b) (sym t.1)
       (near-placed_new q before k t.0 (children same_key k f) g ga gq gplace off j (subst (λ b. has same_key j b ≡ true) t.1 u))
 
   pub subtree-elsewhere : (i j : BoxKey) → has same_key j g ≡ true → has same_key i (branch same_key k f) ≡ false → in_subtree same_key i j (put_elsewhere k q before f) ≡ in_subtree same_key i j g
   subtree-elsewhere i j u o =
-      subst (λ b. in_subtree same_key i j (under same_key q (amid same_key before b (children same_key q g)) g) ≡ in_subtree same_key i j g) (sym t.1)
+      subst (λ b. in_subtree same_key i j (with_children same_key q (insert_among same_key before b (children same_key q g)) g) ≡ in_subtree same_key i j g) (sym t.1)
       (subtree-placed q before k t.0 (children same_key k f) g ga gq gplace off i j u (subst (λ b. has same_key i b ≡ false) t.1 o))
 
   pub has-elsewhere : (j : BoxKey) → has same_key j (put_elsewhere k q before f) ≡ (has same_key j g || has same_key j (branch same_key k f))
   has-elsewhere j =
-      subst (λ b. has same_key j (under same_key q (amid same_key before b (children same_key q g)) g) ≡ (has same_key j g || has same_key j b)) (sym t.1)
+      subst (λ b. has same_key j (with_children same_key q (insert_among same_key before b (children same_key q g)) g) ≡ (has same_key j g || has same_key j b)) (sym t.1)
       (has-placed q before k t.0 (children same_key k f) g ga gq gplace off j)
 
   pub not_above_elsewhere : (i j : BoxKey) → has same_key j (branch same_key k f) ≡ true → has same_key i g ≡ true → in_subtree same_key i j (put_elsewhere k q before f) ≡ false
   not_above_elsewhere i j u o =
-      subst (λ b. in_subtree same_key i j (under same_key q (amid same_key before b (children same_key q g)) g) ≡ false) (sym t.1)
+      subst (λ b. in_subtree same_key i j (with_children same_key q (insert_among same_key before b (children same_key q g)) g) ≡ false) (sym t.1)
       (not_above_placed q before k t.0 (children same_key k f) g ga gq gplace off i j (subst (λ b. has same_key j b ≡ true) t.1 u) o)

@@ -4,8 +4,8 @@ use Rattle.rd_geom.specs.Plane.{Rectangle, hull_of}
 use Rattle.rd_keys.specs.Keys.{same_key}
 use Rattle.rd_keys.proofs.Keys.{same_key-sound, same_key-refl}
 use Rattle.rd_tree.specs.declared.near.Near.{Near}
-use Rattle.rd_tree.specs.Forest.{empty, tree, ◌▷◌, has, children, in_subtree, under, AreApart, IsApart}
-use Rattle.rd_tree.specs.Document.{BoxKey, Item, Boxes}
+use Rattle.rd_tree.specs.Forest.{empty, tree, ◌▷◌, has, children, in_subtree, with_children, AreApart, IsApart}
+use Rattle.rd_tree.specs.Document.{BoxKey, Item, BoxForest}
 use Rattle.rd_tree.specs.Near.{breadth, touched_in, extent, hull_in, near_first, near_of}
 use Rattle.rd_tree.proofs.Standing.{either, out_of_children, differs_back, apart_back}
 use Rattle.rd_tree.proofs.Subtrees.{not_in_subtree, has_inner, has_later, children-past, children-one}
@@ -20,10 +20,10 @@ same_near : (c t c2 t2 : ℕ) (h h2 : Rectangle) → c ≡ c2 → t ≡ t2 → h
 same_near c t c2 t2 h h2 p q r = rw (p, q, r) refl
 
 -- once b stands below it, as its own child or deeper
-abbrev pub more_near : Bool → Boxes → Near → Near
+abbrev pub more_near : Bool → BoxForest → Near → Near
 more_near own b n = record { children = n.children + (cond own 1 0); touched = n.touched + touched_in b; hull = hull_of n.hull (hull_in b) }
 
-more_first : (own : Bool) (b : Boxes) (i : BoxKey) (c : Item) (low more : Boxes) → breadth more ≡ breadth low + cond own 1 0 → touched_in more ≡ touched_in low + touched_in b → hull_in more ≡ hull_of (hull_in low) (hull_in b) →
+more_first : (own : Bool) (b : BoxForest) (i : BoxKey) (c : Item) (low more : BoxForest) → breadth more ≡ breadth low + cond own 1 0 → touched_in more ≡ touched_in low + touched_in b → hull_in more ≡ hull_of (hull_in low) (hull_in b) →
     near_first (tree i c more empty) ≡ more_near own b (near_first (tree i c low empty))
 more_first own b i c low more p q r = same_near (breadth more) (touched_in more) (breadth low + cond own 1 0) (touched_in low + touched_in b) (hull_of (extent c) (hull_in more)) (hull_of (hull_of (extent c) (hull_in low)) (hull_in b))
     p q (ap (hull_of (extent c)) r ∙ hull-later (extent c) (hull_in low) (hull_in b))
@@ -31,11 +31,11 @@ more_first own b i c low more p q r = same_near (breadth more) (touched_in more)
 none_more : (n : ℕ) → n ≡ n + 0
 none_more n = omega arith
 
-module _ (k : BoxKey) (d : Item) (below xs ys : Boxes) (p : BoxKey) where
-  abbrev one : Boxes
+module _ (k : BoxKey) (d : Item) (below xs ys : BoxForest) (p : BoxKey) where
+  abbrev one : BoxForest
   one = tree k d below empty
 
-  abbrev new : Boxes
+  abbrev new : BoxForest
   new = xs ▷ tree k d below ys
 
   near_tells : Tells k d below xs ys near_of p (λ j. more_near (same_key p j) one)
@@ -66,24 +66,24 @@ module _ (k : BoxKey) (d : Item) (below xs ys : Boxes) (p : BoxKey) where
     up = λ j i c low more e v r. rw v (r.has_is q);
   }
 
-  module _ (g : Boxes) (a : IsApart same_key g) (m : has same_key p g ≡ true) (is : children same_key p g ≡ xs ▷ ys) (w : AreApart same_key g one) (j : BoxKey) where
-    pub near-put : has same_key j g ≡ true → near_of j (under same_key p new g) ≡ cond (in_subtree same_key p j g) (more_near (same_key p j) one (near_of j g)) (near_of j g)
+  module _ (g : BoxForest) (a : IsApart same_key g) (m : has same_key p g ≡ true) (is : children same_key p g ≡ xs ▷ ys) (w : AreApart same_key g one) (j : BoxKey) where
+    pub near-put : has same_key j g ≡ true → near_of j (with_children same_key p new g) ≡ cond (in_subtree same_key p j g) (more_near (same_key p j) one (near_of j g)) (near_of j g)
     near-put u = told_put k d below xs ys near_of p (λ i. more_near (same_key p i) one) near_tells g a m is w j u
 
-    pub near-put_new : has same_key j one ≡ true → near_of j (under same_key p new g) ≡ near_of j one
+    pub near-put_new : has same_key j one ≡ true → near_of j (with_children same_key p new g) ≡ near_of j one
     near-put_new u = told_new k d below xs ys near_of p (λ i. more_near (same_key p i) one) near_tells g a m is w j u
 
-    below-put : (q : BoxKey) → has same_key j g ≡ true → has same_key q (children same_key j (under same_key p new g)) ≡ cond (in_subtree same_key p j g) (has same_key q (children same_key j g) || has same_key q one) (has same_key q (children same_key j g))
+    below-put : (q : BoxKey) → has same_key j g ≡ true → has same_key q (children same_key j (with_children same_key p new g)) ≡ cond (in_subtree same_key p j g) (has same_key q (children same_key j g) || has same_key q one) (has same_key q (children same_key j g))
     below-put q u = told_put k d below xs ys (λ i f. has same_key q (children same_key i f)) p (λ i b. b || has same_key q one) (below_tells q) g a m is w j u
 
-    pub has-put : has same_key j (under same_key p new g) ≡ (has same_key j g || has same_key j one)
+    pub has-put : has same_key j (with_children same_key p new g) ≡ (has same_key j g || has same_key j one)
     has-put = (sums_put k d below xs ys p g a m is).has_is j
 
-    pub below-put_new : (q : BoxKey) → has same_key j one ≡ true → has same_key q (children same_key j (under same_key p new g)) ≡ has same_key q (children same_key j one)
+    pub below-put_new : (q : BoxKey) → has same_key j one ≡ true → has same_key q (children same_key j (with_children same_key p new g)) ≡ has same_key q (children same_key j one)
     below-put_new q u = told_new k d below xs ys (λ i f. has same_key q (children same_key i f)) p (λ i b. b || has same_key q one) (below_tells q) g a m is w j u
 
     -- What was there is below the same boxes.
-    pub subtree-put : (q : BoxKey) → has same_key j g ≡ true → has same_key q one ≡ false → in_subtree same_key q j (under same_key p new g) ≡ in_subtree same_key q j g
+    pub subtree-put : (q : BoxKey) → has same_key j g ≡ true → has same_key q one ≡ false → in_subtree same_key q j (with_children same_key p new g) ≡ in_subtree same_key q j g
     subtree-put q u o = ap (λ b. same_key q j || b) (below-put q u ∙ (ap (λ b. cond (in_subtree same_key p j g) (has same_key q (children same_key j g) || b) (has same_key q (children same_key j g))) o ∙ either_way (in_subtree same_key p j g) (has same_key q (children same_key j g)))) where
       either_way : (b c : Bool) → cond b (c || false) c ≡ c
       either_way true true = refl
@@ -91,23 +91,23 @@ module _ (k : BoxKey) (d : Item) (below xs ys : Boxes) (p : BoxKey) where
       either_way false c = refl
 
     -- What is new is below p and the boxes above it.
-    pub subtree-put_new : (q : BoxKey) → has same_key j g ≡ true → has same_key q one ≡ true → in_subtree same_key q j (under same_key p new g) ≡ in_subtree same_key p j g
+    pub subtree-put_new : (q : BoxKey) → has same_key j g ≡ true → has same_key q one ≡ true → in_subtree same_key q j (with_children same_key p new g) ≡ in_subtree same_key p j g
     subtree-put_new q u i =
         let o : has same_key q g ≡ false = apart_back same_key same_key-sound same_key-refl g one w q i in
         let qj : same_key q j ≡ false = differs_back same_key same_key-sound same_key-refl g q j o u in
         let qc : has same_key q (children same_key j g) ≡ false = out_of_children same_key same_key-sound same_key-refl q j g o in
-        ap (λ b. b || has same_key q (children same_key j (under same_key p new g))) qj
+        ap (λ b. b || has same_key q (children same_key j (with_children same_key p new g))) qj
         ∙ (below-put q u ∙ (ap (λ b. cond (in_subtree same_key p j g) (b || has same_key q one) b) qc ∙ (ap (λ b. cond (in_subtree same_key p j g) b false) i ∙ itself (in_subtree same_key p j g)))) where
           itself : (b : Bool) → cond b true false ≡ b
           itself true = refl
           itself false = refl
 
     -- A new box is above those below it alone.
-    pub subtree-put_within : (q : BoxKey) → has same_key j one ≡ true → in_subtree same_key q j (under same_key p new g) ≡ in_subtree same_key q j one
+    pub subtree-put_within : (q : BoxKey) → has same_key j one ≡ true → in_subtree same_key q j (with_children same_key p new g) ≡ in_subtree same_key q j one
     subtree-put_within q u = ap (λ b. same_key q j || b) (below-put_new q u)
 
     -- It is not above what was there.
-    pub not_above_old : (q : BoxKey) → has same_key j one ≡ true → has same_key q g ≡ true → in_subtree same_key q j (under same_key p new g) ≡ false
+    pub not_above_old : (q : BoxKey) → has same_key j one ≡ true → has same_key q g ≡ true → in_subtree same_key q j (with_children same_key p new g) ≡ false
     not_above_old q u i =
         let o : has same_key q one ≡ false = w q i in
         subtree-put_within q u ∙ not_in_subtree same_key same_key-sound same_key-refl q j one (differs_back same_key same_key-sound same_key-refl one q j o u) o

@@ -10,12 +10,12 @@ use Rattle.rd_keys.proofs.Calls.{live_occupied}
 use Rattle.rd_tree.specs.declared.node.Node as inner
 use Rattle.rd_tree.specs.declared.near.Near.{Near}
 use Rattle.rd_tree.specs.declared.whole.Whole.{Whole}
-use Rattle.rd_tree.specs.Forest.{empty, tree, has, children, without, branch, IsApart}
-use Rattle.rd_tree.specs.Links.{Node, Stands, up_of, unlinked}
-use Rattle.rd_tree.specs.Document.{BoxKey, Item, Boxes, Slot, AllFit, with_left, with_all_left}
-use Rattle.rd_tree.specs.Linked.{linked, marks, mark_of, Relinks, IsTree, IsSound, seen}
+use Rattle.rd_tree.specs.Forest.{empty, tree, has, children, without_branch, branch, IsApart}
+use Rattle.rd_tree.specs.Internal.Links.{Node, Stands, up_of, unlinked}
+use Rattle.rd_tree.specs.Document.{BoxKey, Item, BoxForest, Slot, AllFit, with_left, with_all_left}
+use Rattle.rd_tree.specs.Internal.Linked.{linked, marks, mark_of, Relinks, IsTree, IsConsistent, seen}
 use Rattle.rd_tree.specs.Near.{near_of, near_at}
-use Rattle.rd_tree.specs.Rows.{IsStanding, IsNear, IsLosing, IsRight, CanClimb, whole_in}
+use Rattle.rd_tree.specs.Internal.Rows.{IsStanding, IsNear, IsLosing, IsRight, CanClimb, whole_in}
 use Rattle.rd_tree.proofs.Standing.{cases, never}
 use Rattle.rd_tree.proofs.Children.{stands_children}
 use Rattle.rd_tree.proofs.Cutting.{Among, place}
@@ -30,12 +30,12 @@ use Rattle.rd_tree.proofs.NearCut.{near-cut}
 use Rattle.rd_tree.proofs.TreeRows.{seen_stands, each_has_row}
 
 -- The box k is a child of p.
-pub record IsParent (p k : BoxKey) (f : Boxes) : Type 0 where
+pub record IsParent (p k : BoxKey) (f : BoxForest) : Type 0 where
   pub there : has same_key p f ≡ true
   pub child : Among k (children same_key p f)
 
 -- Each box but the root has a parent.
-pub record HasParent (a : Arena inner.Node) (k : BoxKey) (f : Boxes) : Type 0 where
+pub record HasParent (a : Arena inner.Node) (k : BoxKey) (f : BoxForest) : Type 0 where
   pub key : BoxKey
   pub up_is : up_of (linked a k) ≡ Some key
   pub is : IsParent key k f
@@ -54,7 +54,7 @@ parent_above a root k t m not_root = subst (λ f. HasParent a k f) (sym e) here 
   here : HasParent a k t.boxes
   here = elim (place same_key same_key-sound same_key-refl (linked a) None None t.boxes (Some root) (Some root) None k b.0 t.is.apart t.is.stands mk b.1) [
     | inl u ↦
-        let s : (d : Item) × (below : Boxes) × (t.boxes ≡ tree root d below empty) = alone_stands same_key same_key-sound same_key-refl (linked a) None None t.boxes root t.is.apart t.is.stands in
+        let s : (d : Item) × (below : BoxForest) × (t.boxes ≡ tree root d below empty) = alone_stands same_key same_key-sound same_key-refl (linked a) None None t.boxes root t.is.apart t.is.stands in
         let n : k ≡ root = sole same_key same_key-sound same_key-refl root k s.0 u.0.item s.1 u.0.before u.0.below u.0.after (sym s.2 ∙ u.0.is) in
         absurd (never (same_key k root) (subst (λ i. same_key k i ≡ true) n (same_key-refl k)) not_root)
     | inr u ↦ record { key = u.0; up_is = ap up_of b.1 ∙ u.1; is = record { there = u.2; child = u.3.0 } }
@@ -68,7 +68,7 @@ is_parent a root k p t m not_root e =
 
 -- ---- the rows once a branch is cut out
 
-fit_without : (k : BoxKey) (f : Boxes) → AllFit f → AllFit (without same_key k f)
+fit_without : (k : BoxKey) (f : BoxForest) → AllFit f → AllFit (without_branch same_key k f)
 fit_without k empty h = tt
 fit_without k (tree j d below rest) h = elim (cases (same_key k j)) [ inl e ↦ rw e h.3 | inr e ↦ rw e (h.0, h.1, fit_without k below h.2, fit_without k rest h.3) ]
 
@@ -77,29 +77,29 @@ length-left m [] = refl
 length-left m (k ∷ ks) = length-left (with_left m k) ks ∙ length-set m k.slot _
 
 -- The rows above the parent of a branch have it too many.
-pub loses : (p k : BoxKey) (f : Boxes) (rows : List Near) → IsApart same_key f → has same_key p f ≡ true → Among k (children same_key p f) →
-    ((j : BoxKey) → has same_key j (without same_key k f) ≡ true → near_at rows j ≡ near_of j f) → IsLosing rows (without same_key k f) p (whole_in (branch same_key k f))
+pub loses : (p k : BoxKey) (f : BoxForest) (rows : List Near) → IsApart same_key f → has same_key p f ≡ true → Among k (children same_key p f) →
+    ((j : BoxKey) → has same_key j (without_branch same_key k f) ≡ true → near_at rows j ≡ near_of j f) → IsLosing rows (without_branch same_key k f) p (whole_in (branch same_key k f))
 loses p k f rows apart there child right =
-    let g : Boxes = without same_key k f in
+    let g : BoxForest = without_branch same_key k f in
     record {
       was = λ j h u. right j h ∙ (near-cut p k f child apart there j h ∙ ap (λ b. cond b (more_near (same_key p j) (branch same_key k f) (near_of j g)) (near_of j g)) u);
       others = λ j h u. right j h ∙ (near-cut p k f child apart there j h ∙ ap (λ b. cond b (more_near (same_key p j) (branch same_key k f) (near_of j g)) (near_of j g)) u);
     }
 
 -- The links stand for the boxes g without a branch, which is w and was a child of p.
-pub record IsLeft (a : Arena inner.Node) (root p : BoxKey) (g : Boxes) (rows : List Near) (w : Whole) : Type 0 where
+pub record IsLeft (a : Arena inner.Node) (root p : BoxKey) (g : BoxForest) (rows : List Near) (w : Whole) : Type 0 where
   pub stands : IsStanding a root g
   pub there : has same_key p g ≡ true
   pub loses : IsLosing rows g p w
   pub climbs : CanClimb a rows p (λ h. IsLosing rows h p w)
 
-module _ {Y S : Type 0} (a0 a1 : Arena inner.Node) (root k p : BoxKey) (ids : HashMap (String Y) BoxKey S) (rows : List Near) (s : IsSound a0 root ids) (m : has same_key k (seen a0 root) ≡ true) (not_root : same_key k root ≡ false)
+module _ {Y S : Type 0} (a0 a1 : Arena inner.Node) (root k p : BoxKey) (ids : HashMap (String Y) BoxKey S) (rows : List Near) (s : IsConsistent a0 root ids) (m : has same_key k (seen a0 root) ≡ true) (not_root : same_key k root ≡ false)
     (r : Relinks a0 a1 (unlinked same_key k (linked a0))) (most : length a0.slots ≤ length rows) (q : IsParent p k (seen a0 root)) where
-  abbrev f : Boxes
+  abbrev f : BoxForest
   f = seen a0 root
 
-  abbrev g : Boxes
-  g = without same_key k f
+  abbrev g : BoxForest
+  g = without_branch same_key k f
 
   before : IsStanding a0 root f
   before = seen_stands a0 root s.tree
@@ -135,7 +135,7 @@ module _ {Y S : Type 0} (a0 a1 : Arena inner.Node) (root k p : BoxKey) (ids : Ha
   left_by right w e = cut_left w (subst (λ v. IsLosing rows g p v) (sym e) (loses p k f rows before.apart q.there q.child (λ j h. right j (in_without same_key same_key-sound same_key-refl j k f h))))
 
 -- The table once the branch is gone.
-pub removed_near : (a0 a2 : Arena inner.Node) (root : BoxKey) (g : Boxes) (ks : List BoxKey) (rows new : List Near) → length a0.slots ≤ length rows → length new ≡ length rows → seen a2 root ≡ g → marks a2 ≡ with_all_left (marks a0) ks →
+pub removed_near : (a0 a2 : Arena inner.Node) (root : BoxKey) (g : BoxForest) (ks : List BoxKey) (rows new : List Near) → length a0.slots ≤ length rows → length new ≡ length rows → seen a2 root ≡ g → marks a2 ≡ with_all_left (marks a0) ks →
     IsRight new g → IsNear a2 new (seen a2 root)
 removed_near a0 a2 root g ks rows new most same sees slots right = subst (λ f. IsNear a2 new f) (sym sees) (record { all_rows = all; right = right }) where
   all : length a2.slots ≤ length new

@@ -3,33 +3,33 @@ use Rattle.std.proofs.Common.{◌≡◌, refl, ap, ◌∙◌, ◌+◌, Bool, tru
 use Rattle.rd_geom.specs.Plane.{hull_of}
 use Rattle.rd_keys.specs.Keys.{same_key}
 use Rattle.rd_tree.specs.declared.near.Near.{Near}
-use Rattle.rd_tree.specs.Forest.{Forest, empty, tree, from, each_if}
-use Rattle.rd_tree.specs.Document.{BoxKey, Boxes}
+use Rattle.rd_tree.specs.Forest.{Forest, empty, tree, from, map_where}
+use Rattle.rd_tree.specs.Document.{BoxKey, BoxForest}
 use Rattle.rd_tree.specs.Works.{settled}
 use Rattle.rd_tree.specs.Near.{breadth, touched_in, extent, hull_in, near_first, near_of}
 use Rattle.rd_tree.proofs.EachBranch.{from-each}
 
-abbrev all_settled : Boxes → Boxes
-all_settled f = each_if (λ _. true) settled f
+abbrev all_settled : BoxForest → BoxForest
+all_settled f = map_where (λ _. true) settled f
 
-pub breadth-each : {K D : Type 0} (t : K → Bool) (h : D → D) (f : Forest K D) → breadth (each_if t h f) ≡ breadth f
+pub breadth-each : {K D : Type 0} (t : K → Bool) (h : D → D) (f : Forest K D) → breadth (map_where t h f) ≡ breadth f
 breadth-each t h empty = refl
 breadth-each t h (tree k d below rest) = ap (λ n. 1 + n) (breadth-each t h rest)
 
-touched-settled : (f : Boxes) → touched_in (all_settled f) ≡ 0
+touched-settled : (f : BoxForest) → touched_in (all_settled f) ≡ 0
 touched-settled empty = refl
 touched-settled (tree k d below rest) = omega (arith, touched-settled below, touched-settled rest)
 
-hull-settled : (f : Boxes) → hull_in (all_settled f) ≡ hull_in f
+hull-settled : (f : BoxForest) → hull_in (all_settled f) ≡ hull_in f
 hull-settled empty = refl
 hull-settled (tree k d below rest) = ap (λ h. hull_of (hull_of (extent d) h) (hull_in (all_settled rest))) (hull-settled below) ∙ ap (hull_of (hull_of (extent d) (hull_in below))) (hull-settled rest)
 
 abbrev untouched : Near → Near
 untouched n = record n { touched = 0 }
 
-first-settled : (f : Boxes) → near_first (all_settled f) ≡ untouched (near_first f)
+first-settled : (f : BoxForest) → near_first (all_settled f) ≡ untouched (near_first f)
 first-settled empty = refl
 first-settled (tree k d below rest) = rw (breadth-each (λ _. true) settled below, touched-settled below, hull-settled below) refl
 
-pub near-settled : (j : BoxKey) (f : Boxes) → near_of j (each_if (λ _. true) settled f) ≡ record (near_of j f) { touched = 0 }
+pub near-settled : (j : BoxKey) (f : BoxForest) → near_of j (map_where (λ _. true) settled f) ≡ record (near_of j f) { touched = 0 }
 near-settled j f = ap near_first (from-each (λ _. true) settled same_key j f) ∙ first-settled (from same_key j f)

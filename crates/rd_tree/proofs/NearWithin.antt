@@ -3,7 +3,7 @@ use Rattle.std.proofs.Common.{◌≡◌, refl, ap, ◌∙◌, sym, subst, Bool, 
 use Rattle.rd_keys.specs.Keys.{same_key}
 use Rattle.rd_keys.proofs.Keys.{same_key-sound, same_key-refl}
 use Rattle.rd_tree.specs.Forest.{Forest, empty, tree, has, children, branch, IsApart}
-use Rattle.rd_tree.specs.Document.{BoxKey, Boxes}
+use Rattle.rd_tree.specs.Document.{BoxKey, BoxForest}
 use Rattle.rd_tree.specs.Near.{near_first, near_of}
 use Rattle.rd_tree.proofs.Standing.{cases, never, either, has-join, differs, apart_back}
 use Rattle.rd_tree.proofs.Under.{which}
@@ -34,7 +34,7 @@ module _ {K D : Type 0} (same : K → K → Bool) (sound : (a b : K) → same a 
   pub in_branch : (j k : K) (f : Forest K D) → has same j (branch same k f) ≡ true → has same j f ≡ true
   in_branch j k f h = elim (cases (has same j f)) [ inl e ↦ e | inr e ↦ absurd (never (has same j (branch same k f)) h (out_of_branch j k f e)) ]
 
-pub near-branch : (j k : BoxKey) (f : Boxes) → IsApart same_key f → has same_key j (branch same_key k f) ≡ true → near_of j f ≡ near_of j (branch same_key k f)
+pub near-branch : (j k : BoxKey) (f : BoxForest) → IsApart same_key f → has same_key j (branch same_key k f) ≡ true → near_of j f ≡ near_of j (branch same_key k f)
 near-branch j k empty a m = refl
 near-branch j k (tree i d low rest) a m =
     elim (cases (same_key k i)) [
@@ -60,5 +60,5 @@ near-branch j k (tree i d low rest) a m =
     ]
 
 -- the same of a box that is strictly below
-pub near-children : (j k : BoxKey) (f : Boxes) → IsApart same_key f → has same_key j (children same_key k f) ≡ true → near_of j f ≡ near_of j (children same_key k f)
+pub near-children : (j k : BoxKey) (f : BoxForest) → IsApart same_key f → has same_key j (children same_key k f) ≡ true → near_of j f ≡ near_of j (children same_key k f)
 near-children j k f a u = ap near_first (from-children same_key same_key-sound same_key-refl j k f a u)

@@ -8,11 +8,11 @@ use Rattle.rd_keys.proofs.Keys.{same_key-sound, same_key-refl}
 use Rattle.rd_tree.specs.declared.node.Node as inner
 use Rattle.rd_tree.specs.declared.near.Near.{Near}
 use Rattle.rd_tree.specs.Forest.{Forest, empty, tree, has, from, children, IsApart}
-use Rattle.rd_tree.specs.Links.{Node, Stands, onward_of}
-use Rattle.rd_tree.specs.Document.{BoxKey, Item, Boxes, AllFit}
-use Rattle.rd_tree.specs.Linked.{linked, IsRead, seen_from}
+use Rattle.rd_tree.specs.Internal.Links.{Node, Stands, onward_of}
+use Rattle.rd_tree.specs.Document.{BoxKey, Item, BoxForest, AllFit}
+use Rattle.rd_tree.specs.Internal.Linked.{linked, IsRead, seen_from}
 use Rattle.rd_tree.specs.Near.{near_first, near_of, near_at, is_above, extent, hull_in}
-use Rattle.rd_tree.specs.Rows.{IsStanding, IsFitAt, HasRows, extent_under, hulls_by, hull_anew_of}
+use Rattle.rd_tree.specs.Internal.Rows.{IsStanding, IsFitAt, HasRows, extent_under, hulls_by, hull_anew_of}
 use Rattle.rd_tree.proofs.Standing.{cases, never, from_left, from_right, has-join, join-empty, out_of_children, no_children, differs, apart_back, read-stands}
 use Rattle.rd_tree.proofs.Children.{stands_children}
 use Rattle.rd_tree.proofs.Under.{size-children, which}
@@ -72,7 +72,7 @@ module _ {K D : Type 0} (same : K → K → Bool) (sound : (a b : K) → same a 
       ap (has same k) e ∙ out_of_children same sound reflexive k j (children same k f) n
 
 -- The hull of some siblings by their rows is right where the rows are.
-pub hulls_right : (rows : List Near) (g : Boxes) → IsApart same_key g → ((j : BoxKey) → has same_key j g ≡ true → (near_at rows j).hull ≡ (near_of j g).hull) → hulls_by rows g ≡ hull_in g
+pub hulls_right : (rows : List Near) (g : BoxForest) → IsApart same_key g → ((j : BoxKey) → has same_key j g ≡ true → (near_at rows j).hull ≡ (near_of j g).hull) → hulls_by rows g ≡ hull_in g
 hulls_right rows empty h w = refl
 hulls_right rows (tree k d below rest) h w =
     let here : (near_at rows k).hull ≡ hull_of (extent d) (hull_in below) =
@@ -85,7 +85,7 @@ hulls_right rows (tree k d below rest) h w =
     ∙ ap (λ b. (near_first (cond b (from same_key j below) (from same_key j rest))).hull) o)) in
     ap (λ r. hull_of r (hulls_by rows rest)) here ∙ ap (hull_of (hull_of (extent d) (hull_in below))) later
 
-fit_stands : (at : BoxKey → Option (Node BoxKey Item)) (up prev : Option BoxKey) (f : Boxes) (first last after : Option BoxKey) (k : BoxKey) → AllFit f → Stands at up prev f first last after → has same_key k f ≡ true → IsFitAt (at k)
+fit_stands : (at : BoxKey → Option (Node BoxKey Item)) (up prev : Option BoxKey) (f : BoxForest) (first last after : Option BoxKey) (k : BoxKey) → AllFit f → Stands at up prev f first last after → has same_key k f ≡ true → IsFitAt (at k)
 fit_stands at up prev empty first last after k h s m = absurd (never false m refl)
 fit_stands at up prev (tree j d below rest) first last after k h s m =
     elim (which (same_key k j) (has same_key k below || has same_key k rest) m) [
@@ -96,7 +96,7 @@ fit_stands at up prev (tree j d below rest) first last after k h s m =
       ]
     ]
 
-module _ (a : Arena inner.Node) (root : BoxKey) (f : Boxes) (is : IsStanding a root f) (k : BoxKey) (m : has same_key k f ≡ true) where
+module _ (a : Arena inner.Node) (root : BoxKey) (f : BoxForest) (is : IsStanding a root f) (k : BoxKey) (m : has same_key k f ≡ true) where
   node_of : (y : Node BoxKey Item) × (linked a k ≡ Some y) × Stands (linked a) (Some k) None (children same_key k f) y.first y.last None × IsApart same_key (children same_key k f) × (has same_key k (children same_key k f) ≡ false)
   node_of = stands_children same_key same_key-sound same_key-refl (linked a) None None f (Some root) (Some root) None k is.apart is.stands m
 

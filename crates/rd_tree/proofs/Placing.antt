@@ -1,8 +1,8 @@
 -- A new box at a place among the children of another.
 use Rattle.std.proofs.Common.{◌≡◌, refl, ap, ◌∙◌, sym, subst, ◌+◌, Bool, true, false, ◌||◌, arith, inl, inr}
 use Rattle.std.specs.Prelude.{Option, Some, None}
-use Rattle.rd_tree.specs.Forest.{Forest, empty, tree, size, ◌▷◌, has, children, under, is_among, ahead, amid, IsPlaceIn, AreApart, IsApart}
-use Rattle.rd_tree.specs.Links.{Node, node, Stands, put, grafted, prev_of, left_of}
+use Rattle.rd_tree.specs.Forest.{Forest, empty, tree, size, ◌▷◌, has, children, with_children, is_among, insert_before, insert_among, IsPlaceIn, AreApart, IsApart}
+use Rattle.rd_tree.specs.Internal.Links.{Node, node, Stands, put, grafted, prev_of, left_of}
 use Rattle.rd_tree.proofs.Standing.{cases, never, either, from_left, from_right, frame, split, agree_put, join-empty, has-join, out_of_children, differs, differs_back, apart_back}
 use Rattle.rd_tree.proofs.Under.{which, size-join, apart_join}
 use Rattle.rd_tree.proofs.Cutting.{Among, apart_left, apart_right, apart_between}
@@ -19,19 +19,19 @@ module _ {K D : Type 0} (same : K → K → Bool) (sound : (a b : K) → same a 
             record { item = w.item; before = tree k d below w.before; below = w.below; after = w.after; is = ap (tree k d below) w.is }
       ]
 
-  pub ahead-among : (b : K) (d : D) (g xs below ys : Forest K D) → IsApart same (xs ▷ tree b d below ys) → ahead same b g (xs ▷ tree b d below ys) ≡ xs ▷ (g ▷ tree b d below ys)
-  ahead-among b d g empty below ys a = rw (reflexive b) refl
-  ahead-among b d g (tree k e low rest) below ys a =
+  pub insert_before-among : (b : K) (d : D) (g xs below ys : Forest K D) → IsApart same (xs ▷ tree b d below ys) → insert_before same b g (xs ▷ tree b d below ys) ≡ xs ▷ (g ▷ tree b d below ys)
+  insert_before-among b d g empty below ys a = rw (reflexive b) refl
+  insert_before-among b d g (tree k e low rest) below ys a =
       let b_in : has same b (rest ▷ tree b d below ys) ≡ true = has-join same sound reflexive b rest (tree b d below ys) ∙ from_right (has same b rest) (has same b (tree b d below ys)) (from_left (same b b) (has same b below || has same b ys) (reflexive b)) in
       let n : same b k ≡ false = differs same sound reflexive (rest ▷ tree b d below ys) b k b_in a.1 in
-      rw n (ap (tree k e low) (ahead-among b d g rest below ys a.4))
+      rw n (ap (tree k e low) (insert_before-among b d g rest below ys a.4))
 
   -- A place among the children of p, right of v.
   pub record Gap (at : K → Option (Node K D)) (p : K) (first last : Option K) (c : Forest K D) (before v : Option K) : Type 0 where
     pub xs : Forest K D
     pub ys : Forest K D
     pub is : c ≡ xs ▷ ys
-    pub amid_is : (g : Forest K D) → amid same before g c ≡ xs ▷ (g ▷ ys)
+    pub amid_is : (g : Forest K D) → insert_among same before g c ≡ xs ▷ (g ▷ ys)
     pub left : Stands at (Some p) None xs first v before
     pub right : Stands at (Some p) v ys before last None
 
@@ -50,7 +50,7 @@ module _ {K D : Type 0} (same : K → K → Bool) (sound : (a b : K) → same a 
         xs = w.before;
         ys = one;
         is = w.is;
-        amid_is = λ g. ap (ahead same b g) w.is ∙ ahead-among b w.item g w.before w.below w.after ac;
+        amid_is = λ g. ap (insert_before same b g) w.is ∙ insert_before-among b w.item g w.before w.below w.after ac;
         left = subst (λ v. Stands at (Some p) None w.before first v (Some b)) e (subst (λ m. Stands at (Some p) None w.before first t.0 m) t.3.3 t.2);
         right = subst (λ v. Stands at (Some p) v one (Some b) last None) e (subst (λ m. Stands at (Some p) t.0 one m last None) t.3.3 t.3);
       }
@@ -87,7 +87,7 @@ module _ {K D : Type 0} (same : K → K → Bool) (sound : (a b : K) → same a 
   -- Once the links say so, the new box k stands at its place below p.
   pub stands_put : (at : K → Option (Node K D)) (up prev : Option K) (f : Forest K D) (first last after : Option K) (p k : K) (d : D) (y : Node K D) (before v : Option K) →
       IsApart same f → Stands at up prev f first last after → has same p f ≡ true → at p ≡ Some y → (g : Gap at p y.first y.last (children same p f) before v) → has same k f ≡ false →
-      Stands (grafted same p k v before y.first y.last (put same k (node d (Some p) v None None before) at)) up prev (under same p (g.xs ▷ tree k d empty g.ys) f) first last after
+      Stands (grafted same p k v before y.first y.last (put same k (node d (Some p) v None None before) at)) up prev (with_children same p (g.xs ▷ tree k d empty g.ys) f) first last after
   stands_put at up prev f first last after p k d y before v a s m found g n =
       let new : Node K D = node d (Some p) v None None before in
       let at2 : K → Option (Node K D) = put same k new at in

@@ -4,9 +4,9 @@ use Rattle.std.specs.Prelude.{Option, Some, None}
 use Rattle.rd_keys.specs.Keys.{same_key}
 use Rattle.rd_keys.specs.Arena.{Arena}
 use Rattle.rd_tree.specs.declared.node.Node as inner
-use Rattle.rd_tree.specs.Links.{Node, with_prev, with_next, with_ends, edit, edit_if, but, cut_from, cut_node, ends_of, place_of, unlinked}
+use Rattle.rd_tree.specs.Internal.Links.{Node, with_prev, with_next, with_ends, edit, edit_if, but, cut_from, cut_node, ends_of, place_of, unlinked}
 use Rattle.rd_tree.specs.Document.{BoxKey, Item}
-use Rattle.rd_tree.specs.Linked.{linked, Relinks}
+use Rattle.rd_tree.specs.Internal.Linked.{linked, Relinks}
 use Rattle.rd_tree.proofs.Grow.{edit_if-as}
 
 -- Three steps cut a box out from below its parent.

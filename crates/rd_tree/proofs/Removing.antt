@@ -7,11 +7,11 @@ use Rattle.rd_keys.specs.Arena.{Arena, occupied}
 use Rattle.rd_keys.proofs.Keys.{same_key-sound, same_key-refl}
 use Rattle.rd_keys.proofs.Calls.{live_occupied}
 use Rattle.rd_tree.specs.declared.node.Node as inner
-use Rattle.rd_tree.specs.Forest.{empty, tree, keys, has, without, branch}
-use Rattle.rd_tree.specs.Links.{Node, Stands, onward_of, unlinked}
-use Rattle.rd_tree.specs.Document.{BoxKey, Item, Boxes, named, with_all_left}
-use Rattle.rd_tree.specs.Linked.{linked, marks, Relinks, IsTree, IsRead, IsSound, IsIndexed, EachFits, item_at, seen, seen_from}
-use Rattle.rd_tree.specs.Frees.{Frees, DropsTexts, topped, branch_at}
+use Rattle.rd_tree.specs.Forest.{empty, tree, keys, has, without_branch, branch}
+use Rattle.rd_tree.specs.Internal.Links.{Node, Stands, onward_of, unlinked}
+use Rattle.rd_tree.specs.Document.{BoxKey, Item, BoxForest, named, with_all_left}
+use Rattle.rd_tree.specs.Internal.Linked.{linked, marks, Relinks, IsTree, IsRead, IsConsistent, IsIndexed, EachFits, item_at, seen, seen_from}
+use Rattle.rd_tree.specs.Internal.Frees.{Frees, DropsTexts, topped, branch_at}
 use Rattle.rd_tree.proofs.Standing.{cases, never, refute, frame, agree_at}
 use Rattle.rd_tree.proofs.Grow.{same_occupied, seen_is}
 use Rattle.rd_tree.proofs.Naming.{named_there, named_some, named_none, item_with_id}
@@ -19,21 +19,21 @@ use Rattle.rd_tree.proofs.Works.{seen_read}
 use Rattle.rd_tree.proofs.Unlinking.{Unlinked, cut_out, items_unlinked}
 
 -- Where the items of some boxes are gone, and all others are as before.
-abbrev DropsItems : Boxes → (BoxKey → Option Item) → (BoxKey → Option Item) → Type 0
+abbrev DropsItems : BoxForest → (BoxKey → Option Item) → (BoxKey → Option Item) → Type 0
 DropsItems gone old new = (j : BoxKey) → new j ≡ cond (has same_key j gone) None (old j)
 
 -- what is there is none of those that are gone
-kept_item : (gone : Boxes) (old new : BoxKey → Option Item) (j : BoxKey) (d : Item) → DropsItems gone old new → new j ≡ Some d → (has same_key j gone ≡ false) × (old j ≡ Some d)
+kept_item : (gone : BoxForest) (old new : BoxKey → Option Item) (j : BoxKey) (d : Item) → DropsItems gone old new → new j ≡ Some d → (has same_key j gone ≡ false) × (old j ≡ Some d)
 kept_item gone old new j d less h = at (has same_key j gone) (sym (less j) ∙ h) where
   at : (b : Bool) → cond b None (old j) ≡ Some d → (b ≡ false) × (old j ≡ Some d)
   at true e = cc (e)
   at false e = (refl, e)
 
-fits_dropped : (gone : Boxes) (old new : BoxKey → Option Item) → DropsItems gone old new → EachFits old → EachFits new
+fits_dropped : (gone : BoxForest) (old new : BoxKey → Option Item) → DropsItems gone old new → EachFits old → EachFits new
 fits_dropped gone old new less h j d e = h j d (kept_item gone old new j d less e).1
 
 -- The index without the ids of the boxes that go, which stand in links.
-indexed_dropped : {Y S : Type 0} (at : BoxKey → Option (Node BoxKey Item)) (up prev first last after : Option BoxKey) (gone : Boxes) (old new : BoxKey → Option Item) (ids0 ids1 : HashMap (String Y) BoxKey S) →
+indexed_dropped : {Y S : Type 0} (at : BoxKey → Option (Node BoxKey Item)) (up prev first last after : Option BoxKey) (gone : BoxForest) (old new : BoxKey → Option Item) (ids0 ids1 : HashMap (String Y) BoxKey S) →
     Stands at up prev gone first last after → ((j : BoxKey) → option_map (λ n. n.item) (at j) ≡ old j) → DropsItems gone old new → DropsTexts gone ids0 ids1 → IsIndexed old ids0 → IsIndexed new ids1
 indexed_dropped at up prev first last after gone old new ids0 ids1 s same less drops x = record {
   named = λ j d e. let t : (has same_key j gone ≡ false) × (old j ≡ Some d) = kept_item gone old new j d less e in named_in j d t.0 t.1 (named d.id gone) refl;
@@ -57,7 +57,7 @@ indexed_dropped at up prev first last after gone old new ids0 ids1 s same less d
       ap (option_map (λ y. y.id)) (less j) ∙ rw out o
 
 -- What a box that was cut out has below it.
-pub record Ready (a1 : Arena inner.Node) (k : BoxKey) (gone : Boxes) : Type 0 where
+pub record Ready (a1 : Arena inner.Node) (k : BoxKey) (gone : BoxForest) : Type 0 where
   pub read : IsRead a1 (onward_of (linked a1 k)).0
   pub out : has same_key k (seen_from a1 (onward_of (linked a1 k)).0) ≡ false
   pub told : branch_at a1 k ≡ gone
@@ -84,13 +84,13 @@ ready a0 a1 root k t m off r =
 
 -- A box was cut out, and then it went with all below it.
 pub removed : {Y S : Type 0} (a0 a1 a2 : Arena inner.Node) (root k : BoxKey) (ids0 ids1 : HashMap (String Y) BoxKey S) →
-    IsSound a0 root ids0 → has same_key k (seen a0 root) ≡ true → same_key k root ≡ false → Relinks a0 a1 (unlinked same_key k (linked a0)) → Frees a1 a2 (branch_at a1 k) → DropsTexts (branch_at a1 k) ids0 ids1 →
-    IsSound a2 root ids1 × (seen a2 root ≡ without same_key k (seen a0 root)) × (marks a2 ≡ with_all_left (marks a0) (keys (branch same_key k (seen a0 root))))
+    IsConsistent a0 root ids0 → has same_key k (seen a0 root) ≡ true → same_key k root ≡ false → Relinks a0 a1 (unlinked same_key k (linked a0)) → Frees a1 a2 (branch_at a1 k) → DropsTexts (branch_at a1 k) ids0 ids1 →
+    IsConsistent a2 root ids1 × (seen a2 root ≡ without_branch same_key k (seen a0 root)) × (marks a2 ≡ with_all_left (marks a0) (keys (branch same_key k (seen a0 root))))
 removed a0 a1 a2 root k ids0 ids1 s m off r1 r2 drops =
     let u : Unlinked a0 a1 root k (seen a0 root) = cut_out a0 a1 root k s.tree m off r1 in
     let told : branch_at a1 k ≡ branch same_key k (seen a0 root) = (ready a0 a1 root k s.tree m off r1).told in
-    let gone : Boxes = tree k u.node.item u.below empty in
-    let g : Boxes = without same_key k (seen a0 root) in
+    let gone : BoxForest = tree k u.node.item u.below empty in
+    let g : BoxForest = without_branch same_key k (seen a0 root) in
     let frees : Frees a1 a2 gone = subst (λ f. Frees a1 a2 f) (told ∙ u.is) r2 in
     let texts : DropsTexts gone ids0 ids1 = subst (λ f. DropsTexts f ids0 ids1) (told ∙ u.is) drops in
     let kept : (j : BoxKey) → has same_key j g ≡ true → linked a2 j ≡ linked a1 j = λ j i. let o : has same_key j gone ≡ false = u.between j i in frees.links j ∙ rw o refl in
@@ -118,7 +118,7 @@ removed a0 a1 a2 root k ids0 ids1 s m off r1 r2 drops =
       seen_is a2 root t2,
       frees.slots ∙ (ap (λ l. with_all_left l (keys gone)) r1.same_slots ∙ ap (λ f. with_all_left (marks a0) (keys f)) (sym u.is)),
     ) where
-      at : (g gone : Boxes) (o : Option (Node BoxKey Item)) (j : BoxKey) → (is_some o ≡ true → (has same_key j g ≡ true) ⊎ (has same_key j gone ≡ true)) → is_some (cond (has same_key j gone) None o) ≡ true → has same_key j g ≡ true
+      at : (g gone : BoxForest) (o : Option (Node BoxKey Item)) (j : BoxKey) → (is_some o ≡ true → (has same_key j g ≡ true) ⊎ (has same_key j gone ≡ true)) → is_some (cond (has same_key j gone) None o) ≡ true → has same_key j g ≡ true
       at g gone o j in_one i = elim (cases (has same_key j gone)) [
         | inl e ↦ let n : false ≡ true = rw e at i in cc (n)
         | inr e ↦ elim (in_one (rw e at i)) [ inl v ↦ v | inr v ↦ absurd (never (has same_key j gone) v e) ]

@@ -12,12 +12,12 @@ use Rattle.rd_tree.specs.declared.reach.Reach.TheVariants.{Subtree}
 use Rattle.rd_tree.specs.declared.renew.Stale.{Stale}
 use Rattle.rd_tree.specs.declared.renew.Stale.TheVariants as left
 use Rattle.rd_tree.specs.Forest.{has, children, in_subtree, at_box, at_subtree}
-use Rattle.rd_tree.specs.Document.{BoxKey, Item, Boxes}
-use Rattle.rd_tree.specs.Linked.{linked, marks, seen, IsSound}
+use Rattle.rd_tree.specs.Document.{BoxKey, Item, BoxForest}
+use Rattle.rd_tree.specs.Internal.Linked.{linked, marks, seen, IsConsistent}
 use Rattle.rd_tree.specs.Edits.{touched_by}
 use Rattle.rd_tree.specs.Near.{near_at}
-use Rattle.rd_tree.specs.Rows.{IsStanding, IsRight, IsNear, IsFitAt, CanClimb, extent_under, touched_under}
-use Rattle.rd_tree.specs.Renews.{whole_at, IsStale, IsRenewing}
+use Rattle.rd_tree.specs.Internal.Rows.{IsStanding, IsRight, IsNear, IsFitAt, CanClimb, extent_under, touched_under}
+use Rattle.rd_tree.specs.Internal.Renews.{whole_at, IsStale, IsRenewing}
 use Rattle.rd_tree.proofs.Looking.{apart_seen}
 use Rattle.rd_tree.proofs.Naming.{fits_seen}
 use Rattle.rd_tree.proofs.Nearby.{fit_at}
@@ -29,7 +29,7 @@ use Rattle.rd_tree.proofs.Renewing.{whole_is, few_touched}
 use Rattle.rd_tree.proofs.OneBranch.{Edited, edited_each, edited_then, edited_reach, round, low_kept, stale_left}
 
 -- What a tree tells of a box before an edit.
-module _ {Y S : Type 0} (a : Arena inner.Node) (root k : BoxKey) (ids : HashMap (String Y) BoxKey S) (s : IsSound a root ids) (m : has same_key k (seen a root) ≡ true) where
+module _ {Y S : Type 0} (a : Arena inner.Node) (root k : BoxKey) (ids : HashMap (String Y) BoxKey S) (s : IsConsistent a root ids) (m : has same_key k (seen a root) ≡ true) where
   pub fit_here : IsFitAt (linked a k)
   fit_here = fit_at a root (seen a root) (seen_stands a root s.tree) k m (fits_seen a root ids s)
 
@@ -40,7 +40,7 @@ module _ {Y S : Type 0} (a : Arena inner.Node) (root k : BoxKey) (ids : HashMap 
   few_here rows near = few_touched a root (seen a root) (seen_stands a root s.tree) k m rows (near.right k m) s.limit
 
 -- From a to c the items of the branch of k change, and so many rows are stale.
-module _ {Y S : Type 0} (a c : Arena inner.Node) (root k : BoxKey) (ids : HashMap (String Y) BoxKey S) (rows : List Near) (stale : Stale) (old : Whole) (sa : IsSound a root ids) (sc : IsSound c root ids) (slots : marks c ≡ marks a)
+module _ {Y S : Type 0} (a c : Arena inner.Node) (root k : BoxKey) (ids : HashMap (String Y) BoxKey S) (rows : List Near) (stale : Stale) (old : Whole) (sa : IsConsistent a root ids) (sc : IsConsistent c root ids) (slots : marks c ≡ marks a)
     (near : IsNear a rows (seen a root)) (m : has same_key k (seen a root) ≡ true) (e : Edited k (seen a root) (seen c root)) (o : old ≡ whole_at a rows k) (st : IsStale stale rows (seen c root) k) where
   there : has same_key k (seen c root) ≡ true
   there = e.has_same k ∙ m
@@ -56,14 +56,14 @@ module _ {Y S : Type 0} (a c : Arena inner.Node) (root k : BoxKey) (ids : HashMa
   pub renews : CanClimb c rows k (λ f. IsRenewing rows f k stale old)
   renews = tree_climbs c root k ids rows (λ f. IsRenewing rows f k stale old) sc (let l = same_slots a c slots in omega (arith, l, near.all_rows)) there ready
 
-  pub renewed : (new : List Near) → ((r : BoxKey) (f : Boxes) → IsStanding c r f → has same_key k f ≡ true → IsRenewing rows f k stale old → IsRight new f) → length new ≡ length rows → IsNear c new (seen c root)
+  pub renewed : (new : List Near) → ((r : BoxKey) (f : BoxForest) → IsStanding c r f → has same_key k f ≡ true → IsRenewing rows f k stale old → IsRight new f) → length new ≡ length rows → IsNear c new (seen c root)
   renewed new right len = record {
     all_rows = let l = same_slots a c slots in omega (arith, l, len, near.all_rows);
     right = right root (seen c root) (seen_stands c root sc.tree) there ready;
   }
 
 -- From a to c the item of k changes, and then as many boxes are touched as that reaches.
-module _ {Y S : Type 0} (a b c : Arena inner.Node) (root k : BoxKey) (ids : HashMap (String Y) BoxKey S) (rows : List Near) (h : Item → Item) (reach : Reach) (stale : Stale) (sa : IsSound a root ids) (sc : IsSound c root ids)
+module _ {Y S : Type 0} (a b c : Arena inner.Node) (root k : BoxKey) (ids : HashMap (String Y) BoxKey S) (rows : List Near) (h : Item → Item) (reach : Reach) (stale : Stale) (sa : IsConsistent a root ids) (sc : IsConsistent c root ids)
     (first : seen b root ≡ at_box same_key k h (seen a root)) (then : seen c root ≡ touched_by reach k (seen b root)) (near : IsNear a rows (seen a root)) (m : has same_key k (seen a root) ≡ true) where
   sees : seen c root ≡ touched_by reach k (at_box same_key k h (seen a root))
   sees = then ∙ ap (touched_by reach k) first

@@ -10,13 +10,13 @@ use Rattle.rd_tree.specs.declared.near.Near.{Near}
 use Rattle.rd_tree.specs.declared.whole.Whole.{Whole}
 use Rattle.rd_tree.specs.declared.fill.Gathered.{Gathered}
 use Rattle.rd_tree.specs.Forest.{empty, tree, top, has, from, children, item_of, in_subtree, branch, IsApart}
-use Rattle.rd_tree.specs.Links.{Node, Stands, onward_of, up_of}
-use Rattle.rd_tree.specs.Document.{BoxKey, Item, Boxes, AllFit}
-use Rattle.rd_tree.specs.Linked.{linked, seen_from}
+use Rattle.rd_tree.specs.Internal.Links.{Node, Stands, onward_of, up_of}
+use Rattle.rd_tree.specs.Document.{BoxKey, Item, BoxForest, AllFit}
+use Rattle.rd_tree.specs.Internal.Linked.{linked, seen_from}
 use Rattle.rd_tree.specs.Near.{breadth, touched_in, hull_in, extent, near_of, near_at, is_above}
-use Rattle.rd_tree.specs.Rows.{IsStanding, Puts, IsSwapping, extent_under, touched_under, with_hull, hull_anew_of, whole_in, joined}
-use Rattle.rd_tree.specs.Gathers.{Gathers, gathered_in, row_over}
-use Rattle.rd_tree.specs.Renews.{whole_at, IsRightBelow, IsRightIn, KeepsOutside, IsRound}
+use Rattle.rd_tree.specs.Internal.Rows.{IsStanding, Puts, IsSwapping, extent_under, touched_under, with_hull, hull_anew_of, whole_in, joined}
+use Rattle.rd_tree.specs.Internal.Gathers.{Gathers, gathered_in, row_over}
+use Rattle.rd_tree.specs.Internal.Renews.{whole_at, IsRightBelow, IsRightIn, KeepsOutside, IsRound}
 use Rattle.rd_tree.proofs.Standing.{cases, never, refute, either, from_left, from_right, differs}
 use Rattle.rd_tree.proofs.Children.{stands_children}
 use Rattle.rd_tree.proofs.Under.{which}
@@ -41,13 +41,13 @@ at_most_one (Some n) = one n.item.touched where
   one false = omega arith
 
 -- All below a box are within the limits where all are.
-pub fit_children : (k : BoxKey) (f : Boxes) → IsApart same_key f → has same_key k f ≡ true → AllFit f → AllFit (children same_key k f)
+pub fit_children : (k : BoxKey) (f : BoxForest) → IsApart same_key f → has same_key k f ≡ true → AllFit f → AllFit (children same_key k f)
 fit_children k f a m h = subst AllFit (sym (children-from same_key same_key-sound same_key-refl k f a m)) (low (from same_key k f) (fit_from k f h)) where
-  low : (g : Boxes) → AllFit g → AllFit (below_first g)
+  low : (g : BoxForest) → AllFit g → AllFit (below_first g)
   low empty u = tt
   low (tree j d below rest) u = u.2
 
-module _ (a : Arena inner.Node) (root : BoxKey) (f : Boxes) (is : IsStanding a root f) (k : BoxKey) (m : has same_key k f ≡ true) where
+module _ (a : Arena inner.Node) (root : BoxKey) (f : BoxForest) (is : IsStanding a root f) (k : BoxKey) (m : has same_key k f ≡ true) where
   -- what the links have under a box
   found : (n : Node BoxKey Item) × (linked a k ≡ Some n) × (item_of same_key k f ≡ Some n.item)
   found =

@@ -6,9 +6,9 @@ use Rattle.rd_keys.specs.Arena.{Arena}
 use Rattle.rd_keys.proofs.Keys.{same_key-sound, same_key-refl}
 use Rattle.rd_tree.specs.declared.node.Node as inner
 use Rattle.rd_tree.specs.Forest.{Forest, empty, tree, has, IsApart}
-use Rattle.rd_tree.specs.Links.{Node, Stands}
-use Rattle.rd_tree.specs.Document.{BoxKey, Item, Boxes}
-use Rattle.rd_tree.specs.Linked.{linked, IsTree, seen}
+use Rattle.rd_tree.specs.Internal.Links.{Node, Stands}
+use Rattle.rd_tree.specs.Document.{BoxKey, Item, BoxForest}
+use Rattle.rd_tree.specs.Internal.Linked.{linked, IsTree, seen}
 use Rattle.rd_tree.proofs.Standing.{never, last_of}
 use Rattle.rd_tree.proofs.Grow.{seen_is}
 
@@ -26,7 +26,7 @@ module _ {K D : Type 0} (same : K → K → Bool) (sound : (a b : K) → same a 
       let n : t.0 ≡ j = cc (t.1, e) in
       absurd (never (has same j (tree i c b r)) (subst (λ x. has same x (tree i c b r) ≡ true) n t.2) a.1)
 
-pub rooted_seen : (a : Arena inner.Node) (root : BoxKey) → IsTree a root → (d : Item) × (below : Boxes) × (seen a root ≡ tree root d below empty)
+pub rooted_seen : (a : Arena inner.Node) (root : BoxKey) → IsTree a root → (d : Item) × (below : BoxForest) × (seen a root ≡ tree root d below empty)
 rooted_seen a root t =
-    let r : (d : Item) × (below : Boxes) × (t.boxes ≡ tree root d below empty) = alone_stands same_key same_key-sound same_key-refl (linked a) None None t.boxes root t.is.apart t.is.stands in
+    let r : (d : Item) × (below : BoxForest) × (t.boxes ≡ tree root d below empty) = alone_stands same_key same_key-sound same_key-refl (linked a) None None t.boxes root t.is.apart t.is.stands in
     (r.0, r.1, seen_is a root t ∙ r.2)

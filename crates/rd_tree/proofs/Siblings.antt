@@ -9,11 +9,11 @@ use Rattle.rd_keys.proofs.Keys.{same_key-refl}
 use Rattle.rd_tree.specs.declared.node.Node as inner
 use Rattle.rd_tree.specs.declared.near.Near.{Near}
 use Rattle.rd_tree.specs.Forest.{empty, tree, size, has}
-use Rattle.rd_tree.specs.Links.{read, onward_of}
-use Rattle.rd_tree.specs.Document.{BoxKey, Boxes}
-use Rattle.rd_tree.specs.Linked.{linked, IsRead, seen_from}
+use Rattle.rd_tree.specs.Internal.Links.{read, onward_of}
+use Rattle.rd_tree.specs.Document.{BoxKey, BoxForest}
+use Rattle.rd_tree.specs.Internal.Linked.{linked, IsRead, seen_from}
 use Rattle.rd_tree.specs.Near.{near_at}
-use Rattle.rd_tree.specs.Rows.{HasRows, hulls_by}
+use Rattle.rd_tree.specs.Internal.Rows.{HasRows, hulls_by}
 use Rattle.rd_tree.proofs.Standing.{from_left, from_right}
 use Rattle.rd_tree.proofs.Works.{Here, here, seen_read}
 
@@ -24,7 +24,7 @@ pub record Joined (rows : List Near) (a : Arena inner.Node) (first at : Option B
   pub hull : normal all ≡ all
   pub has_rows : HasRows rows (seen_from a at)
 
-hulls_normal : (rows : List Near) (f : Boxes) → normal (hulls_by rows f) ≡ hulls_by rows f
+hulls_normal : (rows : List Near) (f : BoxForest) → normal (hulls_by rows f) ≡ hulls_by rows f
 hulls_normal rows empty = refl
 hulls_normal rows (tree k d below rest) = normal_hull (near_at rows k).hull (hulls_by rows rest)
 

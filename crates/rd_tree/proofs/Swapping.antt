@@ -7,10 +7,10 @@ use Rattle.rd_tree.specs.declared.node.Node as inner
 use Rattle.rd_tree.specs.declared.near.Near.{Near}
 use Rattle.rd_tree.specs.declared.whole.Whole.{Whole}
 use Rattle.rd_tree.specs.Forest.{empty, tree, has, from, size}
-use Rattle.rd_tree.specs.Document.{BoxKey, Boxes}
-use Rattle.rd_tree.specs.Linked.{linked}
+use Rattle.rd_tree.specs.Document.{BoxKey, BoxForest}
+use Rattle.rd_tree.specs.Internal.Linked.{linked}
 use Rattle.rd_tree.specs.Near.{near_first, near_of, near_at, is_above}
-use Rattle.rd_tree.specs.Rows.{CanMark, MarksUp, IsMoving, HasHulls, KeepsCounts, IsSwapping, IsRight, CanSwap, joined, marked, with_hull}
+use Rattle.rd_tree.specs.Internal.Rows.{CanMark, MarksUp, IsMoving, HasHulls, KeepsCounts, IsSwapping, IsRight, CanSwap, joined, marked, with_hull}
 use Rattle.rd_tree.proofs.Standing.{cases}
 use Rattle.rd_tree.proofs.Above.{above_in}
 use Rattle.rd_tree.proofs.NearSums.{touched_small, breadth_small}
@@ -19,7 +19,7 @@ use Rattle.rd_tree.proofs.NearSums.{touched_small, breadth_small}
 pub same_row : (a b : Near) → a.children ≡ b.children → a.touched ≡ b.touched → a.hull ≡ b.hull → a ≡ b
 same_row a b p q r = rw (sym p, sym q, sym r) refl
 
-size-from : (k : BoxKey) (f : Boxes) → size (from same_key k f) ≤ size f
+size-from : (k : BoxKey) (f : BoxForest) → size (from same_key k f) ≤ size f
 size-from k empty = omega arith
 size-from k (tree j d below rest) =
     elim (cases (same_key k j)) [
@@ -30,20 +30,20 @@ size-from k (tree j d below rest) =
       ]
     ]
 
-first_small : (f : Boxes) → (near_first f).touched ≤ size f
+first_small : (f : BoxForest) → (near_first f).touched ≤ size f
 first_small empty = omega arith
 first_small (tree k d below rest) = let s = touched_small below in omega (arith, s)
 
-first_breadth : (f : Boxes) → (near_first f).children ≤ size f
+first_breadth : (f : BoxForest) → (near_first f).children ≤ size f
 first_breadth empty = omega arith
 first_breadth (tree k d below rest) = let s = breadth_small below in omega (arith, s)
 
 -- a box has no more children than there are boxes
-pub children_most : (k : BoxKey) (f : Boxes) → (near_of k f).children ≤ size f
+pub children_most : (k : BoxKey) (f : BoxForest) → (near_of k f).children ≤ size f
 children_most k f = let a = first_breadth (from same_key k f) in let b = size-from k f in omega (arith, a, b)
 
 -- no more boxes are touched below one than there are
-pub touched_most : (k : BoxKey) (f : Boxes) → (near_of k f).touched ≤ size f
+pub touched_most : (k : BoxKey) (f : BoxForest) → (near_of k f).touched ≤ size f
 touched_most k f = let a = first_small (from same_key k f) in let b = size-from k f in omega (arith, a, b)
 
 -- The counts above can be marked.
@@ -67,7 +67,7 @@ marked_hull : (b : Bool) (less more : ℕ) (row : Near) → (cond b (marked less
 marked_hull true less more row = refl
 marked_hull false less more row = refl
 
-module _ (a : Arena inner.Node) (rows marked_rows : List Near) (from : Option BoxKey) (old new : Whole) (root : BoxKey) (f : Boxes)
+module _ (a : Arena inner.Node) (rows marked_rows : List Near) (from : Option BoxKey) (old new : Whole) (root : BoxKey) (f : BoxForest)
     (live : (k : BoxKey) → has same_key k f ≡ true → is_some (linked a k) ≡ true)
     (marks : MarksUp a f rows marked_rows from old.touched new.touched) (swap : IsSwapping rows f from old new) where
   hull_kept : (k : BoxKey) → has same_key k f ≡ true → (near_at marked_rows k).hull ≡ (near_at rows k).hull

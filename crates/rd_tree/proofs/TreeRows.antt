@@ -10,9 +10,9 @@ use Rattle.std.proofs.Math.ListN.{get_or-map}
 use Rattle.rd_tree.specs.declared.node.Node as inner
 use Rattle.rd_tree.specs.declared.near.Near.{Near}
 use Rattle.rd_tree.specs.Forest.{has}
-use Rattle.rd_tree.specs.Document.{BoxKey, Boxes, Slot}
-use Rattle.rd_tree.specs.Linked.{plain, linked, marks, mark_of, IsTree, IsSound, seen}
-use Rattle.rd_tree.specs.Rows.{IsStanding, HasRows, CanClimb}
+use Rattle.rd_tree.specs.Document.{BoxKey, BoxForest, Slot}
+use Rattle.rd_tree.specs.Internal.Linked.{plain, linked, marks, mark_of, IsTree, IsConsistent, seen}
+use Rattle.rd_tree.specs.Internal.Rows.{IsStanding, HasRows, CanClimb}
 use Rattle.rd_tree.proofs.Grow.{seen_is}
 use Rattle.rd_tree.proofs.Naming.{fits_seen}
 use Rattle.rd_tree.proofs.Above.{is_live, at_generation, tree_stands}
@@ -49,11 +49,11 @@ pub seen_keyed : (a : Arena inner.Node) (root k : BoxKey) → IsTree a root → 
 seen_keyed a root k t h = live_keyed a k (is_live a root (seen a root) (seen_stands a root t) k h)
 
 -- Each box that the links stand for has a row, where each slot has one.
-pub each_has_row : (a : Arena inner.Node) (root : BoxKey) (f : Boxes) (rows : List Near) → IsStanding a root f → length a.slots ≤ length rows → HasRows rows f
+pub each_has_row : (a : Arena inner.Node) (root : BoxKey) (f : BoxForest) (rows : List Near) → IsStanding a root f → length a.slots ≤ length rows → HasRows rows f
 each_has_row a root f rows s most k h = let l = slot_made a k (is_live a root f s k h) in omega (arith, l, most)
 
 -- The rows above a box of a tree can be changed.
-pub tree_climbs : {Y S : Type 0} (a : Arena inner.Node) (root p : BoxKey) (ids : HashMap (String Y) BoxKey S) (rows : List Near) (Q : Boxes → Type 0) → IsSound a root ids → length a.slots ≤ length rows →
+pub tree_climbs : {Y S : Type 0} (a : Arena inner.Node) (root p : BoxKey) (ids : HashMap (String Y) BoxKey S) (rows : List Near) (Q : BoxForest → Type 0) → IsConsistent a root ids → length a.slots ≤ length rows →
     has same_key p (seen a root) ≡ true → Q (seen a root) → CanClimb a rows p Q
 tree_climbs a root p ids rows Q s most m q =
     let st : IsStanding a root (seen a root) = seen_stands a root s.tree in

@@ -5,15 +5,15 @@ use Rattle.rd_keys.specs.Keys.{same_key}
 use Rattle.rd_keys.specs.Arena.{Arena, live}
 use Rattle.rd_keys.proofs.Keys.{same_key-sound, same_key-refl}
 use Rattle.rd_tree.specs.declared.node.Node as inner
-use Rattle.rd_tree.specs.Forest.{Forest, empty, tree, size, ◌▷◌, has, children, without, branch, AreApart, IsApart}
-use Rattle.rd_tree.specs.Links.{Node, node, with_prev, with_next, with_ends, Stands, edit_if, but, cut, cut_from, cut_node, ends_of, unlinked}
-use Rattle.rd_tree.specs.Document.{BoxKey, Item, Boxes}
-use Rattle.rd_tree.specs.Linked.{linked, Relinks, IsTree, seen, item_at}
+use Rattle.rd_tree.specs.Forest.{Forest, empty, tree, size, ◌▷◌, has, children, without_branch, branch, AreApart, IsApart}
+use Rattle.rd_tree.specs.Internal.Links.{Node, node, with_prev, with_next, with_ends, Stands, edit_if, but, cut, cut_from, cut_node, ends_of, unlinked}
+use Rattle.rd_tree.specs.Document.{BoxKey, Item, BoxForest}
+use Rattle.rd_tree.specs.Internal.Linked.{linked, Relinks, IsTree, seen, item_at}
 use Rattle.rd_tree.proofs.Standing.{cases, never, either, from_left, from_right, frame, split, agree_at, differs, differs_back, apart_back, has-join}
 use Rattle.rd_tree.proofs.Under.{which}
 use Rattle.rd_tree.proofs.Children.{stands_children}
-use Rattle.rd_tree.proofs.Cutting.{Among, edit_if_off, last_in, first_in, apart_right, apart_between, place, stands_cut, without-under}
-use Rattle.rd_tree.proofs.Without.{apart_without, stays_out, stays, size-without, branch_is}
+use Rattle.rd_tree.proofs.Cutting.{Among, edit_if_off, last_in, first_in, apart_right, apart_between, place, stands_cut, without_branch-with_children}
+use Rattle.rd_tree.proofs.Without.{apart_without, stays_out, stays, size-without_branch, branch_is}
 use Rattle.rd_tree.proofs.Rooting.{alone_stands}
 use Rattle.rd_tree.proofs.Grow.{some_edit, seen_is}
 use Rattle.rd_tree.proofs.Items.{items, items-edit, items-edit_if}
@@ -90,20 +90,20 @@ pub items_unlinked : (a0 a1 : Arena inner.Node) (k : BoxKey) → Relinks a0 a1 (
 items_unlinked a0 a1 k r j = ap (option_map (λ n. n.item)) (r.links j) ∙ items-cut_node same_key (linked a0 k) (linked a0) j
 
 -- The boxes f once k is cut out: what stays below the root, and k with what is below it.
-pub record Unlinked (a0 a1 : Arena inner.Node) (root k : BoxKey) (f : Boxes) : Type 0 where
+pub record Unlinked (a0 a1 : Arena inner.Node) (root k : BoxKey) (f : BoxForest) : Type 0 where
   pub node : Node BoxKey Item
-  pub below : Boxes
+  pub below : BoxForest
   pub is : branch same_key k f ≡ tree k node.item below empty
   pub below_is : below ≡ children same_key k f
-  pub stands : Stands (linked a1) None None (without same_key k f) (Some root) (Some root) None
-  pub apart : IsApart same_key (without same_key k f)
+  pub stands : Stands (linked a1) None None (without_branch same_key k f) (Some root) (Some root) None
+  pub apart : IsApart same_key (without_branch same_key k f)
   pub branch_apart : IsApart same_key (tree k node.item below empty)
-  pub between : AreApart same_key (without same_key k f) (tree k node.item below empty)
+  pub between : AreApart same_key (without_branch same_key k f) (tree k node.item below empty)
   pub found : linked a1 k ≡ Some node
   pub found_before : linked a0 k ≡ Some node
   pub low : Stands (linked a1) (Some k) None below node.first node.last None
-  pub inside : (j : BoxKey) → is_some (linked a1 j) ≡ true → (has same_key j (without same_key k f) ≡ true) ⊎ (has same_key j (tree k node.item below empty) ≡ true)
-  pub counted : size (without same_key k f) + size (tree k node.item below empty) ≡ live a0
+  pub inside : (j : BoxKey) → is_some (linked a1 j) ≡ true → (has same_key j (without_branch same_key k f) ≡ true) ⊎ (has same_key j (tree k node.item below empty) ≡ true)
+  pub counted : size (without_branch same_key k f) + size (tree k node.item below empty) ≡ live a0
 
 pub cut_out : (a0 a1 : Arena inner.Node) (root k : BoxKey) → IsTree a0 root → has same_key k (seen a0 root) ≡ true → same_key k root ≡ false → Relinks a0 a1 (unlinked same_key k (linked a0)) →
     Unlinked a0 a1 root k (seen a0 root)
@@ -111,7 +111,7 @@ cut_out a0 a1 root k t m_seen not_root r = subst (λ f. Unlinked a0 a1 root k f)
   e : seen a0 root ≡ t.boxes
   e = seen_is a0 root t
 
-  f : Boxes
+  f : BoxForest
   f = t.boxes
 
   m : has same_key k f ≡ true
@@ -130,18 +130,18 @@ cut_out a0 a1 root k t m_seen not_root r = subst (λ f. Unlinked a0 a1 root k f)
       let y : Node BoxKey Item = bp.0 in
       let at : BoxKey → Option (Node BoxKey Item) = cut same_key p x y.first y.last (linked a0) in
       let links : (j : BoxKey) → linked a1 j ≡ at j = λ j. r.links j ∙ ap (λ g. g j) (unlinked_is same_key same_key-sound same_key-refl (linked a0) p k x y found up bp.1) in
-      let low : Boxes = children same_key k f in
-      let g : Boxes = without same_key k f in
-      let one : Boxes = tree k x.item low empty in
+      let low : BoxForest = children same_key k f in
+      let g : BoxForest = without_branch same_key k f in
+      let one : BoxForest = tree k x.item low empty in
       let cut_stands : Stands at None None g (Some root) (Some root) None =
-      subst (λ h. Stands at None None h (Some root) (Some root) None) (sym (without-under same_key same_key-sound same_key-refl p k f w t.is.apart has_p))
+      subst (λ h. Stands at None None h (Some root) (Some root) None) (sym (without_branch-with_children same_key same_key-sound same_key-refl p k f w t.is.apart has_p))
       (stands_cut same_key same_key-sound same_key-refl (linked a0) None None f (Some root) (Some root) None p k x y w t.is.apart t.is.stands has_p found bp.1) in
       let kept : (j : BoxKey) → has same_key j one ≡ true → linked a1 j ≡ linked a0 j = λ j u. links j ∙
       branch_kept same_key same_key-sound same_key-refl (linked a0) p k (children same_key p f) y.first y.last x w y.first y.last bp.3 bp.4 bp.2 found j (subst (λ h. has same_key j (tree k x.item h empty) ≡ true) low_is u) in
       let n : bk.0 ≡ x = cc (bk.1, found) in
       let low_stands : Stands (linked a0) (Some k) None low x.first x.last None = subst (λ z. Stands (linked a0) (Some k) None low z.first z.last None) n bk.2 in
       let kk : has same_key k one ≡ true = from_left (same_key k k) (has same_key k low || false) (same_key-refl k) in
-      let size_is : size g + (1 + size low) ≡ size f = size-without same_key same_key-sound same_key-refl k f t.is.apart m in
+      let size_is : size g + (1 + size low) ≡ size f = size-without_branch same_key same_key-sound same_key-refl k f t.is.apart m in
       record {
         node = x;
         below = low;
@@ -171,7 +171,7 @@ cut_out a0 a1 root k t m_seen not_root r = subst (λ f. Unlinked a0 a1 root k f)
       let bk : Below k = below_box k m in
       elim (place same_key same_key-sound same_key-refl (linked a0) None None f (Some root) (Some root) None k bk.0 t.is.apart t.is.stands m bk.1) [
         | inl u ↦
-            let s : (d : Item) × (below : Boxes) × (f ≡ tree root d below empty) = alone_stands same_key same_key-sound same_key-refl (linked a0) None None f root t.is.apart t.is.stands in
+            let s : (d : Item) × (below : BoxForest) × (f ≡ tree root d below empty) = alone_stands same_key same_key-sound same_key-refl (linked a0) None None f root t.is.apart t.is.stands in
             let n : k ≡ root = sole same_key same_key-sound same_key-refl root k s.0 u.0.item s.1 u.0.before u.0.below u.0.after (sym s.2 ∙ u.0.is) in
             absurd (never (same_key k root) (subst (λ i. same_key k i ≡ true) n (same_key-refl k)) not_root)
         | inr u ↦ under_parent bk.0 u.0 bk.1 u.1 u.2 u.3.0 u.3.1

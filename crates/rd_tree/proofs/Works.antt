@@ -12,11 +12,11 @@ use Rattle.rd_tree.specs.declared.node.Node as inner
 use Rattle.rd_style.specs.Limits.{FitsRect}
 use Rattle.rd_tree.specs.declared.walk.Work.{Work}
 use Rattle.rd_tree.specs.Forest.{empty, tree, size, height, has, IsApart, AllItems}
-use Rattle.rd_tree.specs.Links.{Node, node, with_item, Stands, read, edit, on_each, onward_of}
-use Rattle.rd_tree.specs.Document.{BoxKey, Item, Boxes}
-use Rattle.rd_tree.specs.Linked.{linked, Relinks, IsRead, seen_from}
+use Rattle.rd_tree.specs.Internal.Links.{Node, node, with_item, Stands, read, edit, on_each, onward_of}
+use Rattle.rd_tree.specs.Document.{BoxKey, Item, BoxForest}
+use Rattle.rd_tree.specs.Internal.Linked.{linked, Relinks, IsRead, seen_from}
 use Rattle.rd_tree.specs.Works.{done, Allows, shifted}
-use Rattle.rd_tree.specs.WorksAt.{AllowsAt, FitsAt, ShiftFitsAt}
+use Rattle.rd_tree.specs.Internal.WorksAt.{AllowsAt, FitsAt, ShiftFitsAt}
 use Rattle.rd_tree.proofs.Standing as standing
 use Rattle.rd_tree.proofs.Standing.{cases, never, from_right, frame, agree_edit, agree_at, read-stands, differs_back, apart_back}
 
@@ -29,8 +29,8 @@ seen_read a o r = read-stands a.limit (linked a) r.up r.prev r.boxes o r.last r.
 -- the first of the boxes that are told
 pub record Here (a : Arena inner.Node) (k : BoxKey) : Type 0 where
   pub item : Item
-  pub below : Boxes
-  pub rest : Boxes
+  pub below : BoxForest
+  pub rest : BoxForest
   pub up : Option BoxKey
   pub prev : Option BoxKey
   pub last : Option BoxKey
@@ -46,7 +46,7 @@ pub record Here (a : Arena inner.Node) (k : BoxKey) : Type 0 where
 
 pub here : (a : Arena inner.Node) (k : BoxKey) → IsRead a (Some k) → Here a k
 here a k r = at r.boxes r.stands r.apart r.small (seen_read a (Some k) r) where
-  at : (f : Boxes) → Stands (linked a) r.up r.prev f (Some k) r.last None → IsApart same_key f → size f ≤ a.limit → seen_from a (Some k) ≡ f → Here a k
+  at : (f : BoxForest) → Stands (linked a) r.up r.prev f (Some k) r.last None → IsApart same_key f → size f ≤ a.limit → seen_from a (Some k) ≡ f → Here a k
   at empty s h m e = cc (s.0)
   at (tree j d below rest) s h m e =
       let n : j ≡ k = cc (s.3) in
@@ -241,7 +241,7 @@ edited_read a a1 k g o r1 r n =
     (new, seen_read a1 o new ∙ sym told)
 
 -- Work on a box and then on all below it.
-pub worked_below : (a a1 a2 : Arena inner.Node) (k : BoxKey) (g : Item → Item) (f : Boxes) → has same_key k f ≡ false → Relinks a a1 (edit same_key k (with_item g) (linked a)) → Relinks a1 a2 (on_each (λ j. has same_key j f) g (linked a1)) →
+pub worked_below : (a a1 a2 : Arena inner.Node) (k : BoxKey) (g : Item → Item) (f : BoxForest) → has same_key k f ≡ false → Relinks a a1 (edit same_key k (with_item g) (linked a)) → Relinks a1 a2 (on_each (λ j. has same_key j f) g (linked a1)) →
     Relinks a a2 (on_each (λ j. same_key j k || has same_key j f) g (linked a))
 worked_below a a1 a2 k g f n r1 r2 = record {
   links = λ j. r2.links j ∙ (ap (λ o. cond (has same_key j f) (option_map (with_item g) o) o) (r1.links j) ∙ (ap (λ b. cond (has same_key j f) (option_map (with_item g) (cond b (option_map (with_item g) (linked a j)) (linked a j))) (cond b (option_map (with_item g) (linked a j)) (linked a j))) (flip k j)
@@ -367,7 +367,7 @@ nothing_left a first most w =
       nothing zero = refl
       nothing (suc n) = refl
 
-height_size : (f : Boxes) → height f ≤ size f
+height_size : (f : BoxForest) → height f ≤ size f
 height_size empty = omega arith
 height_size (tree k d below rest) = omega (arith, height_size below, height_size rest)
 

@@ -1,7 +1,7 @@
 //! From a box up to the root, what the table has of each box is set right.
 ghost use Rattle.std.specs.Prelude.{◌≡◌, length};
-ghost use Rattle.rd_tree.specs.Document.{BoxKey, Boxes};
-ghost use Rattle.rd_tree.specs.Rows.{IsStanding, IsIn, CanMark, MarksUp, CanMove, IsMoving, HasHulls, KeepsCounts, KeepsOthers};
+ghost use Rattle.rd_tree.specs.Document.{BoxKey, BoxForest};
+ghost use Rattle.rd_tree.specs.Internal.Rows.{IsStanding, IsIn, CanMark, MarksUp, CanMove, IsMoving, HasHulls, KeepsCounts, KeepsOthers};
 
 use crate::hulls::moved_hull;
 use crate::links::up_of;
@@ -19,7 +19,7 @@ pub(crate) fn mark_up(
     more: u32,
 )
     requires { CanMark nodes.now near.old.items from less more }
-    ensures rows { (root : BoxKey) (f : Boxes) → IsStanding nodes.now root f → IsIn from f → MarksUp nodes.now f near.old.items near.new.items from less more }
+    ensures rows { (root : BoxKey) (f : BoxForest) → IsStanding nodes.now root f → IsIn from f → MarksUp nodes.now f near.old.items near.new.items from less more }
     ensures same_length { length near.new.items ≡ length near.old.items }
 {
     let mut at = from;
@@ -38,8 +38,8 @@ pub(crate) fn move_hulls(
     gained: Rect,
 )
     requires { CanMove nodes.now near.old.items from }
-    ensures hulls { (root : BoxKey) (f : Boxes) → IsStanding nodes.now root f → IsIn from f → IsMoving near.old.items f from lost gained → HasHulls near.new.items f }
-    ensures others { (root : BoxKey) (f : Boxes) → IsStanding nodes.now root f → IsIn from f → KeepsOthers nodes.now f near.old.items near.new.items from }
+    ensures hulls { (root : BoxKey) (f : BoxForest) → IsStanding nodes.now root f → IsIn from f → IsMoving near.old.items f from lost gained → HasHulls near.new.items f }
+    ensures others { (root : BoxKey) (f : BoxForest) → IsStanding nodes.now root f → IsIn from f → KeepsOthers nodes.now f near.old.items near.new.items from }
     ensures counts { KeepsCounts near.old.items near.new.items }
     ensures same_length { length near.new.items ≡ length near.old.items }
 {

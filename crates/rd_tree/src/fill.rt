@@ -3,9 +3,9 @@ ghost use Rattle.std.specs.Prelude.{◌≡◌, ◌+◌, ◌<◌, ◌≤◌, leng
 ghost use Rattle.rd_geom.specs.Plane.{hull_of};
 ghost use Rattle.rd_tree.specs.Forest.{empty};
 ghost use Rattle.rd_tree.specs.Document.{AllFit};
-ghost use Rattle.rd_tree.specs.Linked.{IsRead, linked, seen_from};
-ghost use Rattle.rd_tree.specs.Rows.{HasRows, IsFitAt, extent_under, touched_under};
-ghost use Rattle.rd_tree.specs.Gathers.{Gathers, gathered_in, row_over};
+ghost use Rattle.rd_tree.specs.Internal.Linked.{IsRead, linked, seen_from};
+ghost use Rattle.rd_tree.specs.Internal.Rows.{HasRows, IsFitAt, extent_under, touched_under};
+ghost use Rattle.rd_tree.specs.Internal.Gathers.{Gathers, gathered_in, row_over};
 
 use crate::hulls::extent_of;
 use crate::near::{Near, write};

@@ -2,9 +2,9 @@
 ghost use Rattle.std.specs.Prelude.{◌≡◌, false};
 ghost use Rattle.rd_keys.specs.Keys.{same_key};
 ghost use Rattle.rd_tree.specs.Forest.{empty, has};
-ghost use Rattle.rd_tree.specs.Links.{onward_of};
-ghost use Rattle.rd_tree.specs.Linked.{IsRead, linked, seen_from};
-ghost use Rattle.rd_tree.specs.Frees.{Frees, DropsTexts, topped, branch_at};
+ghost use Rattle.rd_tree.specs.Internal.Links.{onward_of};
+ghost use Rattle.rd_tree.specs.Internal.Linked.{IsRead, linked, seen_from};
+ghost use Rattle.rd_tree.specs.Internal.Frees.{Frees, DropsTexts, topped, branch_at};
 
 use crate::node::Node;
 use indexmap::IndexMap;

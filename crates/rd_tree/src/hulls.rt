@@ -1,10 +1,10 @@
 //! Hulls of boxes.
 ghost use Rattle.std.specs.Prelude.{◌≡◌, ◌≤ℤ◌, ◌<◌, IfSome, IsTrue, length};
 ghost use Rattle.rd_geom.specs.Plane.{Rectangle, hull_of, right, bottom};
-ghost use Rattle.rd_tree.specs.Links.{onward_of};
-ghost use Rattle.rd_tree.specs.Linked.{IsRead, linked, seen_from};
+ghost use Rattle.rd_tree.specs.Internal.Links.{onward_of};
+ghost use Rattle.rd_tree.specs.Internal.Linked.{IsRead, linked, seen_from};
 ghost use Rattle.rd_tree.specs.Near.{near_at};
-ghost use Rattle.rd_tree.specs.Rows.{HasRows, IsFitAt, extent_under, hulls_by, hull_anew_of};
+ghost use Rattle.rd_tree.specs.Internal.Rows.{HasRows, IsFitAt, extent_under, hulls_by, hull_anew_of};
 
 use crate::near::{Near, row_at};
 use crate::node::Node;

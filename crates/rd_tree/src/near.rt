@@ -2,7 +2,7 @@
 ghost use Rattle.std.specs.Prelude.{◌≡◌, ◌+◌, ◌-◌, ◌<◌, ◌≤◌, ◌⊎◌, length, map, vec_len, vec_capacity};
 ghost use Rattle.rd_tree.specs.Forest.{empty};
 ghost use Rattle.rd_tree.specs.Near.{near_first, near_at};
-ghost use Rattle.rd_tree.specs.Rows.{Puts, IsMarkable, alone, with_children, with_hull, marked, unmarked};
+ghost use Rattle.rd_tree.specs.Internal.Rows.{Puts, IsMarkable, alone, with_child_count, with_hull, marked, unmarked};
 
 use rd_geom::Rect;
 use rd_keys::BoxKey;
@@ -73,7 +73,7 @@ pub(crate) fn put(near: &mut Vec<Near>, key: BoxKey, row: Near)
 pub(crate) fn add_child(near: &mut Vec<Near>, key: BoxKey)
     requires here { key.slot < length near.old.items }
     requires few { (near_at near.old.items key).children < 4294967295 }
-    ensures rows { Puts near.old.items near.new.items key (with_children ((near_at near.old.items key).children + 1) (near_at near.old.items key)) }
+    ensures rows { Puts near.old.items near.new.items key (with_child_count ((near_at near.old.items key).children + 1) (near_at near.old.items key)) }
     ensures same_length { length near.new.items ≡ length near.old.items }
 {
     let mut row = row_at(near, key);
@@ -85,7 +85,7 @@ pub(crate) fn add_child(near: &mut Vec<Near>, key: BoxKey)
 pub(crate) fn drop_child(near: &mut Vec<Near>, key: BoxKey)
     requires here { key.slot < length near.old.items }
     requires some { 0 < (near_at near.old.items key).children }
-    ensures rows { Puts near.old.items near.new.items key (with_children ((near_at near.old.items key).children - 1) (near_at near.old.items key)) }
+    ensures rows { Puts near.old.items near.new.items key (with_child_count ((near_at near.old.items key).children - 1) (near_at near.old.items key)) }
     ensures same_length { length near.new.items ≡ length near.old.items }
 {
     let mut row = row_at(near, key);

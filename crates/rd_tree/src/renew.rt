@@ -2,11 +2,11 @@
 ghost use Rattle.std.specs.Prelude.{◌≡◌, ◌+◌, ◌<◌, ◌↔◌, length, true};
 ghost use Rattle.rd_keys.specs.Keys.{same_key};
 ghost use Rattle.rd_tree.specs.Forest.{has};
-ghost use Rattle.rd_tree.specs.Document.{BoxKey, Boxes};
-ghost use Rattle.rd_tree.specs.Linked.{linked};
+ghost use Rattle.rd_tree.specs.Document.{BoxKey, BoxForest};
+ghost use Rattle.rd_tree.specs.Internal.Linked.{linked};
 ghost use Rattle.rd_tree.specs.Near.{near_at};
-ghost use Rattle.rd_tree.specs.Rows.{IsStanding, IsRight, CanClimb, touched_under};
-ghost use Rattle.rd_tree.specs.Renews.{whole_at, IsRightIn, KeepsOutside, IsStale, IsRenewing};
+ghost use Rattle.rd_tree.specs.Internal.Rows.{IsStanding, IsRight, CanClimb, touched_under};
+ghost use Rattle.rd_tree.specs.Internal.Renews.{whole_at, IsRightIn, KeepsOutside, IsStale, IsRenewing};
 
 use crate::fill::{gather, row_of, touched_at};
 use crate::hulls::hull_anew;
@@ -64,8 +64,8 @@ pub(crate) fn whole_of(near: &[Near], nodes: &Arena<Node, BoxMark>, key: BoxKey)
 /// Works the stale rows of a branch out anew.
 pub(crate) fn renew(near: &mut Vec<Near>, nodes: &Arena<Node, BoxMark>, key: BoxKey, stale: Stale)
     requires { CanClimb nodes.now near.old.items key (λ f. IsStale stale near.old.items f key) }
-    ensures right { (root : BoxKey) (f : Boxes) → IsStanding nodes.now root f → has same_key key f ≡ true → IsStale stale near.old.items f key → IsRightIn near.new.items f key }
-    ensures others { (root : BoxKey) (f : Boxes) → IsStanding nodes.now root f → has same_key key f ≡ true → KeepsOutside nodes.now f near.old.items near.new.items key }
+    ensures right { (root : BoxKey) (f : BoxForest) → IsStanding nodes.now root f → has same_key key f ≡ true → IsStale stale near.old.items f key → IsRightIn near.new.items f key }
+    ensures others { (root : BoxKey) (f : BoxForest) → IsStanding nodes.now root f → has same_key key f ≡ true → KeepsOutside nodes.now f near.old.items near.new.items key }
     ensures same_length { length near.new.items ≡ length near.old.items }
 {
     match stale {
@@ -92,7 +92,7 @@ pub(crate) fn renew_up(
     old: Whole,
 )
     requires { CanClimb nodes.now near.old.items key (λ f. IsRenewing near.old.items f key stale old) }
-    ensures right { (root : BoxKey) (f : Boxes) → IsStanding nodes.now root f → has same_key key f ≡ true → IsRenewing near.old.items f key stale old → IsRight near.new.items f }
+    ensures right { (root : BoxKey) (f : BoxForest) → IsStanding nodes.now root f → has same_key key f ≡ true → IsRenewing near.old.items f key stale old → IsRight near.new.items f }
     ensures same_length { length near.new.items ≡ length near.old.items }
 {
     renew(near, nodes, key, stale);

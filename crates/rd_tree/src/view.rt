@@ -2,7 +2,7 @@
 
 ghost use Rattle.std.specs.Prelude.{◌≡◌};
 ghost use Rattle.rd_tree.specs.Shown.{told};
-ghost use Rattle.rd_tree.specs.Linked.{shown_of};
+ghost use Rattle.rd_tree.specs.Internal.Linked.{shown_of};
 
 use crate::near::Near;
 use crate::node::Node;

@@ -2,9 +2,9 @@
 ghost use Rattle.std.specs.Prelude.{◌≡◌, length, Some, true};
 ghost use Rattle.rd_keys.specs.Keys.{same_key};
 ghost use Rattle.rd_tree.specs.Forest.{has};
-ghost use Rattle.rd_tree.specs.Document.{BoxKey, Boxes};
-ghost use Rattle.rd_tree.specs.Rows.{IsStanding, IsIn, IsSwapping, IsGaining, IsLosing, IsRight, CanSwap, CanClimb, KeepsOthers};
-ghost use Rattle.rd_tree.specs.Rows as rows;
+ghost use Rattle.rd_tree.specs.Document.{BoxKey, BoxForest};
+ghost use Rattle.rd_tree.specs.Internal.Rows.{IsStanding, IsIn, IsSwapping, IsGaining, IsLosing, IsRight, CanSwap, CanClimb, KeepsOthers};
+ghost use Rattle.rd_tree.specs.Internal.Rows as rows;
 
 use crate::climb::{mark_up, move_hulls};
 use crate::near::{Near, add_child, drop_child};
@@ -28,8 +28,8 @@ pub(crate) fn swap_up(
     new: Whole,
 )
     requires { CanSwap nodes.now near.old.items from old new }
-    ensures right { (root : BoxKey) (f : Boxes) → IsStanding nodes.now root f → IsIn from f → IsSwapping near.old.items f from old new → IsRight near.new.items f }
-    ensures others { (root : BoxKey) (f : Boxes) → IsStanding nodes.now root f → IsIn from f → KeepsOthers nodes.now f near.old.items near.new.items from }
+    ensures right { (root : BoxKey) (f : BoxForest) → IsStanding nodes.now root f → IsIn from f → IsSwapping near.old.items f from old new → IsRight near.new.items f }
+    ensures others { (root : BoxKey) (f : BoxForest) → IsStanding nodes.now root f → IsIn from f → KeepsOthers nodes.now f near.old.items near.new.items from }
     ensures same_length { length near.new.items ≡ length near.old.items }
 {
     mark_up(near, nodes, from, old.touched, new.touched);
@@ -56,8 +56,8 @@ pub(crate) fn touched_box(hull: Rect) -> Whole
 /// A branch is a new child of a box.
 pub(crate) fn gain(near: &mut Vec<Near>, nodes: &Arena<Node, BoxMark>, parent: BoxKey, whole: Whole)
     requires { CanClimb nodes.now near.old.items parent (λ f. IsGaining near.old.items f parent whole) }
-    ensures right { (root : BoxKey) (f : Boxes) → IsStanding nodes.now root f → has same_key parent f ≡ true → IsGaining near.old.items f parent whole → IsRight near.new.items f }
-    ensures others { (root : BoxKey) (f : Boxes) → IsStanding nodes.now root f → has same_key parent f ≡ true → KeepsOthers nodes.now f near.old.items near.new.items (Some parent) }
+    ensures right { (root : BoxKey) (f : BoxForest) → IsStanding nodes.now root f → has same_key parent f ≡ true → IsGaining near.old.items f parent whole → IsRight near.new.items f }
+    ensures others { (root : BoxKey) (f : BoxForest) → IsStanding nodes.now root f → has same_key parent f ≡ true → KeepsOthers nodes.now f near.old.items near.new.items (Some parent) }
     ensures same_length { length near.new.items ≡ length near.old.items }
 {
     add_child(near, parent);
@@ -67,8 +67,8 @@ pub(crate) fn gain(near: &mut Vec<Near>, nodes: &Arena<Node, BoxMark>, parent: B
 /// A branch is a child of a box no more.
 pub(crate) fn lose(near: &mut Vec<Near>, nodes: &Arena<Node, BoxMark>, parent: BoxKey, whole: Whole)
     requires { CanClimb nodes.now near.old.items parent (λ f. IsLosing near.old.items f parent whole) }
-    ensures right { (root : BoxKey) (f : Boxes) → IsStanding nodes.now root f → has same_key parent f ≡ true → IsLosing near.old.items f parent whole → IsRight near.new.items f }
-    ensures others { (root : BoxKey) (f : Boxes) → IsStanding nodes.now root f → has same_key parent f ≡ true → KeepsOthers nodes.now f near.old.items near.new.items (Some parent) }
+    ensures right { (root : BoxKey) (f : BoxForest) → IsStanding nodes.now root f → has same_key parent f ≡ true → IsLosing near.old.items f parent whole → IsRight near.new.items f }
+    ensures others { (root : BoxKey) (f : BoxForest) → IsStanding nodes.now root f → has same_key parent f ≡ true → KeepsOthers nodes.now f near.old.items near.new.items (Some parent) }
     ensures same_length { length near.new.items ≡ length near.old.items }
 {
     drop_child(near, parent);

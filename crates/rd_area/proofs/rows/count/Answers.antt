@@ -2,7 +2,7 @@ use Rattle.std.proofs.Common.{◌≡◌, pos, [], length, get_or, arith}
 use Rattle.std.proofs.lemmas.List.{length-map}
 use Rattle.rd_geom.specs.Areas.{columns_in}
 use Rattle.rd_area.specs.Rows.{IsRising}
-use Rattle.rd_area.specs.Sound.{spans_of}
+use Rattle.rd_area.specs.Internal.Normal.{spans_of}
 use Rattle.rd_area.proofs.Spans.{at_place, rises_at}
 use Rattle.std.proofs.lemmas.List.Sums.{sum_by_more}
 use Rattle.rd_area.proofs.rows.count.Goals as goal

@@ -1,7 +1,7 @@
 use Rattle.std.proofs.Common.{◌≡◌, ℕ, pos, ◌*◌, ◌≤◌, [], get_or, take, sum_by}
 use Rattle.rd_geom.specs.Areas.{columns_in}
 use Rattle.rd_area.specs.Rows.{IsRising}
-use Rattle.rd_area.specs.Sound.{spans_of}
+use Rattle.rd_area.specs.Internal.Normal.{spans_of}
 use Rattle.rd_area.proofs.rows.count.Given as goal
 
 abbrev pub invariant-loop-row : goal.invariant-loop-row

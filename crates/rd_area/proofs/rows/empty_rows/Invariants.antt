@@ -1,5 +1,5 @@
 use Rattle.std.proofs.Common.{◌≡◌, [], replicate}
-use Rattle.rd_area.specs.Sound.{spans_of}
+use Rattle.rd_area.specs.Internal.Normal.{spans_of}
 use Rattle.rd_area.proofs.rows.empty_rows.Given as goal
 
 abbrev pub invariant-loop : goal.invariant-loop

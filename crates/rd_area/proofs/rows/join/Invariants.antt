@@ -1,7 +1,7 @@
 use Rattle.std.proofs.Common.{◌≡◌, ℕ, ◌<◌, ◌≤◌, ◌⊎◌, [], get_or, vec_len}
 use Rattle.rd_area.specs.Rows.{Joins}
-use Rattle.rd_area.specs.Sound.{spans_of}
-use Rattle.rd_area.specs.Room.{room_at}
+use Rattle.rd_area.specs.Internal.Normal.{spans_of}
+use Rattle.rd_area.specs.Internal.Room.{room_at}
 use Rattle.rd_area.proofs.rows.join.Given as goal
 
 abbrev pub invariant-loop-y : goal.invariant-loop-y

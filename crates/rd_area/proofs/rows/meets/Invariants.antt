@@ -1,6 +1,6 @@
 use Rattle.std.proofs.Common.{ℕ, ◌<◌, ◌≤◌, [], get_or, IsFalse}
 use Rattle.rd_area.specs.Rows.{row_meets}
-use Rattle.rd_area.specs.Sound.{spans_of}
+use Rattle.rd_area.specs.Internal.Normal.{spans_of}
 use Rattle.rd_area.proofs.rows.meets.Given as goal
 
 abbrev pub invariant-loop-y : goal.invariant-loop-y

@@ -1,6 +1,6 @@
 use Rattle.std.proofs.Common.{◌≡◌, arith, pos, ◌+ℤ◌, ◌-ℤ◌, FitsSigned, w32, to_z, ◌∙◌, refl}
 use Rattle.std.proofs.lemmas.Int.{ints, to_z-of_z}
-use Rattle.rd_geom.specs.Plane.{inset_by}
+use Rattle.rd_geom.specs.Plane.{inset}
 use Rattle.rd_geom.proofs.Pixels.{inset_pixels}
 use Rattle.rd_geom.proofs.rect.inset.Goals as goal
 
@@ -23,5 +23,5 @@ returns-clause-value c =
 
 pub returns-clause-pixels : goal.returns-clause-pixels
 returns-clause-pixels c =
-    let e : c.spanning.result ≡ inset_by c.args.r c.args.s.top c.args.s.right c.args.s.bottom c.args.s.left = returns-clause-value c in
+    let e : c.spanning.result ≡ inset c.args.r c.args.s.top c.args.s.right c.args.s.bottom c.args.s.left = returns-clause-value c in
     rw e (inset_pixels c.args.r c.args.s.top c.args.s.right c.args.s.bottom c.args.s.left)

@@ -1,6 +1,6 @@
 use Rattle.std.proofs.Common.{◌≡◌, ℕ, ◌+◌, ◌*◌, [], ◌∷◌, take, length}
 use Rattle.rd_list.specs.Entries.{list_size, flat}
-use Rattle.rd_list.specs.Listed.{listed}
+use Rattle.rd_list.specs.Internal.Listed.{listed}
 use Rattle.rd_run.proofs.lines.+counts.Given as goal
 
 -- the leaves of the entries so far

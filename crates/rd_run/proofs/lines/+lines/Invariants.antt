@@ -1,8 +1,8 @@
 use Rattle.std.proofs.Common.{◌≡◌, ℕ, ◌+◌, ◌*◌, ◌++◌, [], ◌∷◌, take, string_bytes}
 use Rattle.rd_list.specs.Entries.{list_size}
-use Rattle.rd_list.specs.Listed.{listed}
+use Rattle.rd_list.specs.Internal.Listed.{listed}
 use Rattle.rd_run.specs.Lines as text
-use Rattle.rd_run.specs.Display.{stamped}
+use Rattle.rd_run.specs.Internal.Display.{stamped}
 use Rattle.rd_run.proofs.lines.+lines.Given as goal
 
 -- the lines of the entries so far

@@ -1,7 +1,7 @@
 use Rattle.std.proofs.Common.{◌≡◌, ℕ, ◌≤◌, List, take}
 use Rattle.std.specs.Io.KnownBytes.{Appends}
 use Rattle.rd_run.specs.Machine.{State, Run}
-use Rattle.rd_run.specs.Display.{Shows}
+use Rattle.rd_run.specs.Internal.Display.{Shows}
 use Rattle.rd_run.proofs.program.answer_all.Given as goal
 
 -- the text so far is allowed for the commands so far

@@ -1,6 +1,6 @@
 use Rattle.std.proofs.Common.{sym}
-use Rattle.rd_stack.specs.Seen.{spot}
-use Rattle.rd_stack.specs.Seen.{seen}
+use Rattle.rd_stack.specs.Internal.Seen.{spot}
+use Rattle.rd_stack.specs.Internal.Seen.{seen}
 use Rattle.rd_stack.specs.Spots.{is_in_line}
 use Rattle.rd_stack.specs.Painting as painting
 use Rattle.rd_list.proofs.Joins.{join-nil}

@@ -1,7 +1,7 @@
 use Rattle.std.proofs.Common.{◌≡◌, take, map}
 use Rattle.rd_list.specs.Entries.{◌▷◌, each}
-use Rattle.rd_stack.specs.Seen.{spot}
-use Rattle.rd_stack.specs.Seen.{seen}
+use Rattle.rd_stack.specs.Internal.Seen.{spot}
+use Rattle.rd_stack.specs.Internal.Seen.{seen}
 use Rattle.rd_stack.specs.Painting as painting
 use Rattle.rd_stack.proofs.flow.line.Given as goal
 

@@ -1,6 +1,6 @@
 use Rattle.std.proofs.Common.{ap, ◌∙◌, map}
 use Rattle.std.proofs.lemmas.List.{map-append}
-use Rattle.rd_stack.specs.Seen.{seen}
+use Rattle.rd_stack.specs.Internal.Seen.{seen}
 use Rattle.rd_stack.proofs.Going.{go_on}
 use Rattle.rd_stack.proofs.fresh.+paint.Goals as goal
 

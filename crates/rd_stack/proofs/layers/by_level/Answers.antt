@@ -1,6 +1,6 @@
 use Rattle.std.proofs.Common.{◌≡◌, arith, ◌<◌, map}
 use Rattle.std.specs.List.{insert}
-use Rattle.rd_stack.specs.Seen.{looked}
+use Rattle.rd_stack.specs.Internal.Seen.{looked}
 use Rattle.rd_stack.specs.Painting as painting
 use Rattle.rd_stack.proofs.ByLevel.{by_level_more}
 use Rattle.rd_stack.proofs.layers.by_level.Goals as goal

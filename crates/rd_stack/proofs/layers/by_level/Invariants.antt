@@ -1,5 +1,5 @@
 use Rattle.std.proofs.Common.{◌≡◌, ◌≤◌, drop, map, length}
-use Rattle.rd_stack.specs.Seen.{looked}
+use Rattle.rd_stack.specs.Internal.Seen.{looked}
 use Rattle.rd_stack.specs.Painting as painting
 use Rattle.rd_stack.proofs.layers.by_level.Given as goal
 

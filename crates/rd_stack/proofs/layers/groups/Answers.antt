@@ -1,5 +1,5 @@
 use Rattle.std.proofs.Common.{sym}
-use Rattle.rd_stack.specs.Seen.{looked}
+use Rattle.rd_stack.specs.Internal.Seen.{looked}
 use Rattle.rd_stack.specs.Painting as painting
 use Rattle.rd_list.proofs.Joins.{join-nil}
 use Rattle.rd_list.proofs.Onward.{all_more}

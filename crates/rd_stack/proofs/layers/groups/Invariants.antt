@@ -1,6 +1,6 @@
 use Rattle.std.proofs.Common.{◌≡◌, take, map}
 use Rattle.rd_list.specs.Entries.{◌▷◌, each}
-use Rattle.rd_stack.specs.Seen.{looked}
+use Rattle.rd_stack.specs.Internal.Seen.{looked}
 use Rattle.rd_stack.specs.Painting as painting
 use Rattle.rd_stack.proofs.layers.groups.Given as goal
 

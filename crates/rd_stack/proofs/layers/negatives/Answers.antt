@@ -1,7 +1,7 @@
 use Rattle.std.proofs.Common.{◌∙◌, sym, refl, ap, map, Vec}
-use Rattle.rd_stack.specs.Seen.{spot, seen, looked}
+use Rattle.rd_stack.specs.Internal.Seen.{spot, seen, looked}
 use Rattle.rd_stack.specs.Painting as painting
-use Rattle.rd_stack.specs.Tests as tests
+use Rattle.rd_stack.specs.Internal.Tests as tests
 use Rattle.rd_stack.proofs.Filters.{filter_more, filter_past}
 use Rattle.rd_stack.proofs.layers.negatives.Goals as goal
 use Rattle.rd_stack.proofs.layers.negatives.Goals.{then-is_negative+in_ok-push, else-is_negative}

@@ -1,5 +1,5 @@
 use Rattle.std.proofs.Common.{◌≡◌, ◌∙◌, sym, ap, take, drop, map, ◌++◌, ℕ, length, add-one, arith}
-use Rattle.rd_stack.specs.Seen.{seen, looked}
+use Rattle.rd_stack.specs.Internal.Seen.{seen, looked}
 use Rattle.rd_stack.specs.Painting as painting
 use Rattle.rd_stack.proofs.ByLevel.{put_past, put_here, put_last}
 use Rattle.rd_stack.proofs.layers.place_of.Goals as goal

@@ -1,5 +1,5 @@
 use Rattle.std.proofs.Common.{◌≡◌, take, drop, map, ◌++◌}
-use Rattle.rd_stack.specs.Seen.{seen, looked}
+use Rattle.rd_stack.specs.Internal.Seen.{seen, looked}
 use Rattle.rd_stack.specs.Painting as painting
 use Rattle.rd_stack.proofs.layers.place_of.Given as goal
 

@@ -1,8 +1,8 @@
 use Rattle.std.proofs.Common.{map, sym}
-use Rattle.rd_stack.specs.Seen.{spot}
-use Rattle.rd_stack.specs.Seen.{seen}
+use Rattle.rd_stack.specs.Internal.Seen.{spot}
+use Rattle.rd_stack.specs.Internal.Seen.{seen}
 use Rattle.rd_stack.specs.Painting as painting
-use Rattle.rd_stack.specs.Tests as tests
+use Rattle.rd_stack.specs.Internal.Tests as tests
 use Rattle.rd_list.proofs.Joins.{join-nil}
 use Rattle.rd_list.proofs.Onward.{each_more}
 use Rattle.rd_stack.proofs.steps.flows.Goals as goal

@@ -1,10 +1,10 @@
 use Rattle.std.proofs.Common.{◌≡◌, take, map}
 use Rattle.std.specs.Prelude.{filter}
 use Rattle.rd_list.specs.Entries.{◌▷◌, each}
-use Rattle.rd_stack.specs.Seen.{spot}
-use Rattle.rd_stack.specs.Seen.{seen}
+use Rattle.rd_stack.specs.Internal.Seen.{spot}
+use Rattle.rd_stack.specs.Internal.Seen.{seen}
 use Rattle.rd_stack.specs.Painting as painting
-use Rattle.rd_stack.specs.Tests as tests
+use Rattle.rd_stack.specs.Internal.Tests as tests
 use Rattle.rd_stack.proofs.steps.flows.Given as goal
 
 abbrev pub invariant-loop-x : goal.invariant-loop-x

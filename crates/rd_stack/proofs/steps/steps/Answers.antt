@@ -1,11 +1,11 @@
 use Rattle.std.proofs.Common.{◌∙◌, sym, ap, map, not, ◌||◌, List}
 use Rattle.std.specs.Prelude.{filter}
 use Rattle.rd_list.specs.Entries.{◌▷◌, each}
-use Rattle.rd_stack.specs.Seen.{spot}
-use Rattle.rd_stack.specs.Seen.{seen}
+use Rattle.rd_stack.specs.Internal.Seen.{spot}
+use Rattle.rd_stack.specs.Internal.Seen.{seen}
 use Rattle.rd_stack.specs.Spots.{is_local, is_layer, is, is_root, is_context}
 use Rattle.rd_stack.specs.Painting as painting
-use Rattle.rd_stack.specs.Tests as tests
+use Rattle.rd_stack.specs.Internal.Tests as tests
 use Rattle.rd_keys.specs.declared.entry.Part.TheVariants as parts
 use Rattle.rd_style.specs.declared.kinds.Class.TheVariants as classes
 use Rattle.rd_stack.proofs.Filters.{filter_both}

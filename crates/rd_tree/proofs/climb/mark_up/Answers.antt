@@ -1,7 +1,7 @@
 use Rattle.std.proofs.Common.{◌<◌, subst}
 use Rattle.std.specs.Prelude.{Some}
-use Rattle.rd_tree.specs.Linked.{linked}
-use Rattle.rd_tree.specs.Links.{up_of}
+use Rattle.rd_tree.specs.Internal.Linked.{linked}
+use Rattle.rd_tree.specs.Internal.Links.{up_of}
 use Rattle.rd_tree.proofs.Above.{from_up, fewer_up}
 use Rattle.rd_tree.proofs.Marking.{Marking, marking_begun, marking_ended, here_row, here_markable, marking_next}
 use Rattle.rd_tree.proofs.climb.mark_up.Goals as goal

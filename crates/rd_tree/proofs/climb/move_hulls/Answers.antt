@@ -1,7 +1,7 @@
 use Rattle.std.proofs.Common.{◌<◌, subst}
 use Rattle.std.specs.Prelude.{Some}
-use Rattle.rd_tree.specs.Linked.{linked}
-use Rattle.rd_tree.specs.Links.{up_of}
+use Rattle.rd_tree.specs.Internal.Linked.{linked}
+use Rattle.rd_tree.specs.Internal.Links.{up_of}
 use Rattle.rd_tree.proofs.Above.{from_up, fewer_up}
 use Rattle.rd_tree.proofs.Hulling.{Hulling, HereHull, hulling_begun, hulling_ended, here_hull, hulling_next}
 use Rattle.rd_tree.proofs.climb.move_hulls.Goals as goal

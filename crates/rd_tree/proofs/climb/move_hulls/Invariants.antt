@@ -1,4 +1,4 @@
-use Rattle.rd_tree.specs.Linked.{linked}
+use Rattle.rd_tree.specs.Internal.Linked.{linked}
 use Rattle.rd_tree.proofs.Above.{from_up}
 use Rattle.rd_tree.proofs.Hulling.{Hulling}
 use Rattle.rd_tree.proofs.climb.move_hulls.Given as goal

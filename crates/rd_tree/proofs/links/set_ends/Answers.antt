@@ -1,5 +1,5 @@
 use Rattle.std.proofs.Common.{refl, sym}
-use Rattle.rd_tree.specs.Links.{with_ends}
+use Rattle.rd_tree.specs.Internal.Links.{with_ends}
 use Rattle.rd_tree.proofs.Marks.{relinks_written}
 use Rattle.rd_tree.proofs.links.set_ends.Goals as goal
 

@@ -1,6 +1,6 @@
 use Rattle.std.proofs.Common.{refl, sym}
 use Rattle.std.specs.Prelude.{Some}
-use Rattle.rd_tree.specs.Links.{with_place}
+use Rattle.rd_tree.specs.Internal.Links.{with_place}
 use Rattle.rd_tree.proofs.Marks.{relinks_written}
 use Rattle.rd_tree.proofs.links.set_place.Goals as goal
 

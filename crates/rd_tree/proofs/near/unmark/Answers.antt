@@ -1,7 +1,7 @@
 use Rattle.std.proofs.Common.{arith, get_or}
 use Rattle.std.proofs.lemmas.List.{get_or_default}
 use Rattle.std.proofs.lemmas.List.Edits.{map_over_more}
-use Rattle.rd_tree.specs.Rows.{unmarked}
+use Rattle.rd_tree.specs.Internal.Rows.{unmarked}
 use Rattle.rd_tree.proofs.near.unmark.Goals as goal
 
 pub loop-row-preserved : goal.loop-row-preserved

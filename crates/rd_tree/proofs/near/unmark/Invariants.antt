@@ -1,5 +1,5 @@
 use Rattle.std.proofs.Common.{◌≡◌, ◌++◌, map, take, drop}
-use Rattle.rd_tree.specs.Rows.{unmarked}
+use Rattle.rd_tree.specs.Internal.Rows.{unmarked}
 use Rattle.rd_tree.proofs.near.unmark.Given as goal
 
 -- the rows so far are unmarked

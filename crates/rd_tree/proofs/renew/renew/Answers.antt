@@ -1,7 +1,7 @@
 use Rattle.std.proofs.Common.{sym, subst}
 use Rattle.rd_tree.specs.declared.renew.Stale.TheVariants.{Hull}
 use Rattle.rd_tree.specs.Document.{AllFit}
-use Rattle.rd_tree.specs.Renews.{IsStale}
+use Rattle.rd_tree.specs.Internal.Renews.{IsStale}
 use Rattle.rd_tree.proofs.Nearby.{fit_at, below_read, below_rows, below_seen}
 use Rattle.rd_tree.proofs.Renewing.{fit_children, put_outside, hull_renewed, branch_renewed, branch_outside}
 use Rattle.rd_tree.proofs.renew.renew.Goals as goal

@@ -1,8 +1,8 @@
 use Rattle.std.proofs.Common.{arith}
-use Rattle.rd_tree.specs.Links.{up_of}
-use Rattle.rd_tree.specs.Linked.{linked}
-use Rattle.rd_tree.specs.Rows.{IsSwapping}
-use Rattle.rd_tree.specs.Renews.{IsRightIn}
+use Rattle.rd_tree.specs.Internal.Links.{up_of}
+use Rattle.rd_tree.specs.Internal.Linked.{linked}
+use Rattle.rd_tree.specs.Internal.Rows.{IsSwapping}
+use Rattle.rd_tree.specs.Internal.Renews.{IsRightIn}
 use Rattle.rd_tree.proofs.Above.{in_up, above_self}
 use Rattle.rd_tree.proofs.Renewing.{few_touched, renewing}
 use Rattle.rd_tree.proofs.renew.renew_up.Goals as goal

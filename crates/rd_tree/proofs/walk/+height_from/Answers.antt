@@ -1,7 +1,7 @@
 use Rattle.std.proofs.Common.{◌≡◌, ◌+◌, arith, subst, sym, ◌∙◌}
 use Rattle.std.specs.Prelude.{Some}
 use Rattle.rd_tree.specs.Forest.{height}
-use Rattle.rd_tree.specs.Linked.{seen_from}
+use Rattle.rd_tree.specs.Internal.Linked.{seen_from}
 use Rattle.rd_tree.proofs.Works.{Measured, MeasuredStep, measured_step, nothing_left, height_small, max_is}
 use Rattle.rd_tree.proofs.walk.+height_from.Goals as goal
 

@@ -1,6 +1,6 @@
 use Rattle.rd_style.specs.Limits.{FitsRect}
 use Rattle.rd_tree.specs.Forest.{size}
-use Rattle.rd_tree.specs.Linked.{seen_from}
+use Rattle.rd_tree.specs.Internal.Linked.{seen_from}
 use Rattle.rd_tree.specs.Works.{shifted}
 use Rattle.rd_tree.proofs.Works.{Fitted}
 use Rattle.rd_tree.proofs.walk.+shift_from_fits.Given as goal

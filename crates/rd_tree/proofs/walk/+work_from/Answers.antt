@@ -1,7 +1,7 @@
 use Rattle.std.proofs.Common.{◌<◌, arith, subst}
 use Rattle.std.specs.Prelude.{Some}
 use Rattle.rd_tree.specs.Forest.{size}
-use Rattle.rd_tree.specs.Linked.{seen_from}
+use Rattle.rd_tree.specs.Internal.Linked.{seen_from}
 use Rattle.rd_tree.proofs.Works.{Walked, allowed_here, Below, then_below, then_onward}
 use Rattle.rd_tree.proofs.walk.+work_from.Goals as goal
 

@@ -1,5 +1,5 @@
 use Rattle.rd_tree.specs.Forest.{size}
-use Rattle.rd_tree.specs.Linked.{seen_from}
+use Rattle.rd_tree.specs.Internal.Linked.{seen_from}
 use Rattle.rd_tree.proofs.Works.{Walked}
 use Rattle.rd_tree.proofs.walk.+work_from.Given as goal
 

@@ -1,5 +1,5 @@
 use Rattle.std.proofs.Common.{refl, sym}
-use Rattle.rd_tree.specs.Links.{with_item}
+use Rattle.rd_tree.specs.Internal.Links.{with_item}
 use Rattle.rd_tree.specs.Edits.{with_rect}
 use Rattle.rd_tree.proofs.Marks.{relinks_written}
 use Rattle.rd_tree.proofs.walk.put_rect.Goals as goal

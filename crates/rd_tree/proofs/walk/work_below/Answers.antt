@@ -1,8 +1,8 @@
 use Rattle.std.proofs.Common.{◌≡◌, sym, ap, subst, ◌∙◌}
 use Rattle.rd_keys.specs.Keys.{same_key}
 use Rattle.rd_tree.specs.Forest.{has, AllItems}
-use Rattle.rd_tree.specs.Links.{on_each, onward_of}
-use Rattle.rd_tree.specs.Linked.{Relinks, IsRead, linked, seen_from}
+use Rattle.rd_tree.specs.Internal.Links.{on_each, onward_of}
+use Rattle.rd_tree.specs.Internal.Linked.{Relinks, IsRead, linked, seen_from}
 use Rattle.rd_tree.specs.Works.{done, Allows}
 use Rattle.rd_tree.proofs.Works.{edited_read, worked_below}
 use Rattle.rd_tree.proofs.walk.work_below.Goals as goal

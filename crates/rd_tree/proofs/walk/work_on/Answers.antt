@@ -1,6 +1,6 @@
 use Rattle.std.proofs.Common.{sym, ap}
-use Rattle.rd_tree.specs.Links.{with_item}
-use Rattle.rd_tree.specs.Linked.{plain}
+use Rattle.rd_tree.specs.Internal.Links.{with_item}
+use Rattle.rd_tree.specs.Internal.Linked.{plain}
 use Rattle.rd_tree.specs.Works.{done}
 use Rattle.rd_tree.proofs.Marks.{relinks_written}
 use Rattle.rd_tree.proofs.walk.work_on.Goals as goal

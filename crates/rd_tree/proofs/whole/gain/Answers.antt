@@ -1,5 +1,5 @@
 use Rattle.std.proofs.Common.{◌∙◌, Some, subst, sym}
-use Rattle.rd_tree.specs.Rows.{IsSwapping}
+use Rattle.rd_tree.specs.Internal.Rows.{IsSwapping}
 use Rattle.rd_tree.proofs.Gaining.{gaining, can_gain, can_swap, others_row}
 use Rattle.rd_tree.proofs.whole.gain.Goals as goal
 

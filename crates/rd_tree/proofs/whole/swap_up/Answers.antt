@@ -3,9 +3,9 @@ use Rattle.std.specs.Prelude.{is_some}
 use Rattle.rd_keys.specs.Keys.{same_key}
 use Rattle.rd_tree.specs.Forest.{has}
 use Rattle.rd_tree.specs.Document.{BoxKey}
-use Rattle.rd_tree.specs.Linked.{linked}
+use Rattle.rd_tree.specs.Internal.Linked.{linked}
 use Rattle.rd_tree.specs.Near.{near_at}
-use Rattle.rd_tree.specs.Rows.{marked}
+use Rattle.rd_tree.specs.Internal.Rows.{marked}
 use Rattle.rd_tree.proofs.Above.{is_live}
 use Rattle.rd_tree.proofs.Swapping.{can_mark, moving, swapped}
 use Rattle.rd_tree.proofs.whole.swap_up.Goals as goal

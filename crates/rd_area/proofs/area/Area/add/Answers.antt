@@ -1,9 +1,9 @@
 use Rattle.std.proofs.Common.{◌≡◌, length, vec_len, arith, rules, ap, ◌∙◌}
 use Rattle.std.proofs.lemmas.Int.{ints}
 use Rattle.std.proofs.lemmas.List.{length-map}
-use Rattle.rd_geom.specs.Plane.{common}
+use Rattle.rd_geom.specs.Plane.{meet}
 use Rattle.rd_geom.specs.Canvas.{canvas_of}
-use Rattle.rd_area.specs.Sound.{IsOn, spans_of}
+use Rattle.rd_area.specs.Internal.Normal.{IsOn, spans_of}
 use Rattle.rd_area.proofs.Pixels.{IsBlock, IsGrown, canvas_on, common_on_right, grown_from, grown_sound, grown_pixels}
 use Rattle.rd_area.proofs.area.Area.add.Goals as goal
 
@@ -35,5 +35,5 @@ returns-clause-pixels c =
     let k : IsBlock c.meet-seen.result c.rows_of-from.result.0 c.rows_of-from.result.1 c.columns.result = record { first = c.rows_of-from.ensures.first; last = c.rows_of-from.ensures.last; columns = c.columns.ensures } in
     let m : IsGrown c.meet-seen.result c.rows_of-from.result.0 c.rows_of-from.result.1 c.columns.result (spans_of c.reserve.new.rows.items) (spans_of c.join.new.rows.items) = record { block = k; count = c.join.ensures.count; joined = c.join.ensures.joined; others = c.join.ensures.others } in
     let g = grown_from c.meet-seen.result c.rows_of-from.result.0 c.rows_of-from.result.1 c.columns.result (spans_of c.self.inside.rows.items) (spans_of c.reserve.new.rows.items) (spans_of c.join.new.rows.items) c.reserve.ensures.same m in
-    let e : c.meet-seen.result ≡ common c.args.r (canvas_of c.self.inside.size) = c.meet-seen.ensures.value ∙ ap (λ s. common c.args.r s) c.rect.ensures in
+    let e : c.meet-seen.result ≡ meet c.args.r (canvas_of c.self.inside.size) = c.meet-seen.ensures.value ∙ ap (λ s. meet c.args.r s) c.rect.ensures in
     rw (← c.self.view_is, ← e) (grown_pixels c.meet-seen.result c.rows_of-from.result.0 c.rows_of-from.result.1 c.columns.result (spans_of c.self.inside.rows.items) (spans_of c.join.new.rows.items) c.self.inside.size.w g c.self.invariant.rising)

@@ -1,7 +1,7 @@
 use Rattle.std.proofs.Common.{pos, [], get_or, arith}
 use Rattle.std.specs.Prelude.{unsigned_abs}
 use Rattle.std.proofs.lemmas.Int.{ints}
-use Rattle.rd_area.specs.Sound.{spans_of}
+use Rattle.rd_area.specs.Internal.Normal.{spans_of}
 use Rattle.rd_area.proofs.Counting.{rising_to}
 use Rattle.rd_area.proofs.area.Area.count.Goals as goal
 

@@ -1,8 +1,8 @@
 use Rattle.std.proofs.Common.{◌≡◌, length, vec_len, arith, rules}
 use Rattle.std.proofs.lemmas.Int.{ints}
 use Rattle.std.proofs.lemmas.List.{length-map}
-use Rattle.rd_geom.specs.Plane.{common}
-use Rattle.rd_area.specs.Sound.{IsOn, spans_of}
+use Rattle.rd_geom.specs.Plane.{meet}
+use Rattle.rd_area.specs.Internal.Normal.{IsOn, spans_of}
 use Rattle.rd_area.proofs.Pixels.{IsBlock, common_on_left, found_shares, none_shares, true_unless}
 use Rattle.rd_area.proofs.area.Area.meets.Goals as goal
 
@@ -19,7 +19,7 @@ meets-requires c =
 
 pub returns : goal.returns
 returns c =
-    let k : IsBlock (common c.self.inside.used c.args.r) c.rows_of-from.result.0 c.rows_of-from.result.1 c.columns.result = rw (← c.meet-seen.ensures.value) (record { first = c.rows_of-from.ensures.first; last = c.rows_of-from.ensures.last; columns = c.columns.ensures }) in
+    let k : IsBlock (meet c.self.inside.used c.args.r) c.rows_of-from.result.0 c.rows_of-from.result.1 c.columns.result = rw (← c.meet-seen.ensures.value) (record { first = c.rows_of-from.ensures.first; last = c.rows_of-from.ensures.last; columns = c.columns.ensures }) in
     rw (← c.self.view_is) (
       λ h. let f = c.meets.ensures.found h in found_shares c.self.inside.size c.self.inside.used c.args.r (spans_of c.self.inside.rows.items) _ _ c.columns.result f.0 k f.1 f.2 f.3,
       λ s. true_unless c.meets.result (λ no_row. none_shares c.self.inside.size c.self.inside.used c.args.r (spans_of c.self.inside.rows.items) c.rows_of-from.result.0 c.rows_of-from.result.1 c.columns.result c.self.invariant k (c.meets.ensures.none no_row) s),

@@ -1,6 +1,6 @@
 use Rattle.std.proofs.Common.{◌≡◌, ◌∙◌, ap, sym}
 use Rattle.std.specs.Prelude.{Some, vec_capacity}
-use Rattle.rd_keys.specs.Inside.{place_of, held_at}
+use Rattle.rd_keys.specs.Internal.Fields.{place_of, held_at}
 use Rattle.rd_keys.proofs.Slots.{seen_written, seen_value, sound_written, place_of-held}
 use Rattle.rd_keys.proofs.arena.Arena.get_mut.Goals as goal
 

@@ -1,7 +1,7 @@
 use Rattle.std.proofs.Common.{◌≡◌, ◌<◌, ◌+◌, ◌∙◌, sym, refl, length}
 use Rattle.std.specs.Prelude.{vec_capacity, slice_set}
 use Rattle.rd_keys.specs.Arena.{Enters, occupied}
-use Rattle.rd_keys.specs.Inside.{seen_slots, place_at, held_in}
+use Rattle.rd_keys.specs.Internal.Fields.{seen_slots, place_at, held_in}
 use Rattle.rd_keys.proofs.Filling.{Ready, filled}
 use Rattle.rd_keys.proofs.Taking.{taken, inserted, occupied_seen, not_used, on_ok}
 use Rattle.rd_keys.proofs.Calls.{dead-enters}

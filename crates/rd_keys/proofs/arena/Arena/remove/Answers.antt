@@ -2,7 +2,7 @@ use Rattle.std.proofs.Common.{◌≡◌, ◌≤◌, ◌∙◌, ◌+◌, ap, sym,
 use Rattle.std.specs.Prelude.{Some, vec_capacity, slice_set}
 use Rattle.rd_keys.specs.declared.arena.State.TheVariants.{Free, Retired}
 use Rattle.rd_keys.specs.Arena.{value, left, NoneComesBack}
-use Rattle.rd_keys.specs.Inside.{place_of, place_at, held_place, held_at, placed, seen_slots}
+use Rattle.rd_keys.specs.Internal.Fields.{place_of, place_at, held_place, held_at, placed, seen_slots}
 use Rattle.rd_keys.proofs.Slots.{place_of-held, seen_value}
 use Rattle.rd_keys.proofs.Leaving.{held_made, retires, releases, seen_left, left_last, left_more}
 use Rattle.rd_keys.proofs.Calls.{dead-without}

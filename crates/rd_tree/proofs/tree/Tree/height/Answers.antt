@@ -1,6 +1,6 @@
 use Rattle.std.proofs.Common.{◌∙◌, ap, sym, subst, ◌+◌, arith}
 use Rattle.rd_tree.specs.Forest.{height}
-use Rattle.rd_tree.specs.Linked.{IsRead, seen_from}
+use Rattle.rd_tree.specs.Internal.Linked.{IsRead, seen_from}
 use Rattle.rd_tree.proofs.Each.{under_box}
 use Rattle.rd_tree.proofs.tree.Tree.height.Goals as goal
 

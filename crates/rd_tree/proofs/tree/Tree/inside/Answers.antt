@@ -1,7 +1,7 @@
 use Rattle.std.proofs.Common.{◌≡◌, ◌∙◌, ◌||◌, sym, ap, false, arith}
 use Rattle.rd_keys.specs.Keys.{same_key}
 use Rattle.rd_tree.specs.Forest.{has, children, in_subtree}
-use Rattle.rd_tree.specs.Linked.{seen}
+use Rattle.rd_tree.specs.Internal.Linked.{seen}
 use Rattle.rd_tree.proofs.Climbing.{Stepped, step_up, AtTop, end_up}
 use Rattle.rd_tree.proofs.tree.Tree.inside.Goals as goal
 

@@ -3,11 +3,11 @@ use Rattle.rd_keys.specs.Keys.{same_key}
 use Rattle.rd_tree.specs.declared.reach.Reach.TheVariants.{Nothing}
 use Rattle.std.specs.Option.{option_map_or}
 use Rattle.rd_tree.specs.Forest.{has, top, from, at_box}
-use Rattle.rd_tree.specs.Linked.{marks, seen, IsSound}
+use Rattle.rd_tree.specs.Internal.Linked.{marks, seen, IsConsistent}
 use Rattle.rd_tree.specs.Edits.{touched_by, with_rect, replaced, rect_reach}
 use Rattle.rd_tree.proofs.Each.{under_box}
 use Rattle.rd_tree.proofs.Editing.{put, touched_sound, still_has, reach_of}
-use Rattle.rd_tree.specs.Renews.{whole_at, IsStale}
+use Rattle.rd_tree.specs.Internal.Renews.{whole_at, IsStale}
 use Rattle.rd_tree.proofs.OneBranch.{Edited, still_touched}
 use Rattle.rd_tree.proofs.Renewed.{fit_here, row_here, few_here, renews, renewed, box_edited, box_stale}
 use Rattle.rd_tree.proofs.tree.Tree.place.Goals as goal
@@ -15,14 +15,14 @@ use Rattle.rd_tree.proofs.tree.Tree.place.Goals as goal
 pub touch-requires-clause-read : goal.touch-requires-clause-read
 touch-requires-clause-read g c =
     let m : has same_key c.args.key (seen c.self.inside.nodes c.self.inside.root) ≡ true = (rw (← c.self.view_is) at c.requires.live) in
-    let s1 : IsSound c.put_rect-reach.new.nodes c.self.inside.root c.self.inside.ids × (seen c.put_rect-reach.new.nodes c.self.inside.root ≡ at_box same_key c.args.key (with_rect c.args.rect) (seen c.self.inside.nodes c.self.inside.root)) = put c.self.inside.nodes c.put_rect-reach.new.nodes c.self.inside.root c.args.key c.self.inside.ids c.args.rect c.self.invariant.sound c.requires.fits c.put_rect-reach.ensures.put in
+    let s1 : IsConsistent c.put_rect-reach.new.nodes c.self.inside.root c.self.inside.ids × (seen c.put_rect-reach.new.nodes c.self.inside.root ≡ at_box same_key c.args.key (with_rect c.args.rect) (seen c.self.inside.nodes c.self.inside.root)) = put c.self.inside.nodes c.put_rect-reach.new.nodes c.self.inside.root c.args.key c.self.inside.ids c.args.rect c.self.invariant.sound c.requires.fits c.put_rect-reach.ensures.put in
     let m1 : has same_key c.args.key (seen c.put_rect-reach.new.nodes c.self.inside.root) ≡ true = still_has (λ j. same_key j c.args.key) (with_rect c.args.rect) c.args.key (seen c.self.inside.nodes c.self.inside.root) (seen c.put_rect-reach.new.nodes c.self.inside.root) s1.1 m in
     (under_box c.put_rect-reach.new.nodes c.self.inside.root c.args.key s1.0.tree m1).read
 
 pub touch-requires-clause-apart : goal.touch-requires-clause-apart
 touch-requires-clause-apart g c =
     let m : has same_key c.args.key (seen c.self.inside.nodes c.self.inside.root) ≡ true = (rw (← c.self.view_is) at c.requires.live) in
-    let s1 : IsSound c.put_rect-reach.new.nodes c.self.inside.root c.self.inside.ids × (seen c.put_rect-reach.new.nodes c.self.inside.root ≡ at_box same_key c.args.key (with_rect c.args.rect) (seen c.self.inside.nodes c.self.inside.root)) = put c.self.inside.nodes c.put_rect-reach.new.nodes c.self.inside.root c.args.key c.self.inside.ids c.args.rect c.self.invariant.sound c.requires.fits c.put_rect-reach.ensures.put in
+    let s1 : IsConsistent c.put_rect-reach.new.nodes c.self.inside.root c.self.inside.ids × (seen c.put_rect-reach.new.nodes c.self.inside.root ≡ at_box same_key c.args.key (with_rect c.args.rect) (seen c.self.inside.nodes c.self.inside.root)) = put c.self.inside.nodes c.put_rect-reach.new.nodes c.self.inside.root c.args.key c.self.inside.ids c.args.rect c.self.invariant.sound c.requires.fits c.put_rect-reach.ensures.put in
     let m1 : has same_key c.args.key (seen c.put_rect-reach.new.nodes c.self.inside.root) ≡ true = still_has (λ j. same_key j c.args.key) (with_rect c.args.rect) c.args.key (seen c.self.inside.nodes c.self.inside.root) (seen c.put_rect-reach.new.nodes c.self.inside.root) s1.1 m in
     (under_box c.put_rect-reach.new.nodes c.self.inside.root c.args.key s1.0.tree m1).out
 
@@ -42,9 +42,9 @@ invariant_of-self g c =
 pub returns : goal.returns
 returns g c =
     let m : has same_key c.args.key (seen c.self.inside.nodes c.self.inside.root) ≡ true = (rw (← c.self.view_is) at c.requires.live) in
-    let s1 : IsSound c.put_rect-reach.new.nodes c.self.inside.root c.self.inside.ids × (seen c.put_rect-reach.new.nodes c.self.inside.root ≡ at_box same_key c.args.key (with_rect c.args.rect) (seen c.self.inside.nodes c.self.inside.root)) = put c.self.inside.nodes c.put_rect-reach.new.nodes c.self.inside.root c.args.key c.self.inside.ids c.args.rect c.self.invariant.sound c.requires.fits c.put_rect-reach.ensures.put in
+    let s1 : IsConsistent c.put_rect-reach.new.nodes c.self.inside.root c.self.inside.ids × (seen c.put_rect-reach.new.nodes c.self.inside.root ≡ at_box same_key c.args.key (with_rect c.args.rect) (seen c.self.inside.nodes c.self.inside.root)) = put c.self.inside.nodes c.put_rect-reach.new.nodes c.self.inside.root c.args.key c.self.inside.ids c.args.rect c.self.invariant.sound c.requires.fits c.put_rect-reach.ensures.put in
     let m1 : has same_key c.args.key (seen c.put_rect-reach.new.nodes c.self.inside.root) ≡ true = still_has (λ j. same_key j c.args.key) (with_rect c.args.rect) c.args.key (seen c.self.inside.nodes c.self.inside.root) (seen c.put_rect-reach.new.nodes c.self.inside.root) s1.1 m in
-    let s2 : IsSound c.touch.new.nodes c.self.inside.root c.self.inside.ids × (seen c.touch.new.nodes c.self.inside.root ≡ touched_by c.put_rect-reach.result c.args.key (seen c.put_rect-reach.new.nodes c.self.inside.root)) = touched_sound c.put_rect-reach.new.nodes c.touch.new.nodes c.self.inside.root c.args.key c.self.inside.ids c.put_rect-reach.result s1.0 m1 c.touch.ensures in
+    let s2 : IsConsistent c.touch.new.nodes c.self.inside.root c.self.inside.ids × (seen c.touch.new.nodes c.self.inside.root ≡ touched_by c.put_rect-reach.result c.args.key (seen c.put_rect-reach.new.nodes c.self.inside.root)) = touched_sound c.put_rect-reach.new.nodes c.touch.new.nodes c.self.inside.root c.args.key c.self.inside.ids c.put_rect-reach.result s1.0 m1 c.touch.ensures in
     let r : c.put_rect-reach.result ≡ option_map_or (λ d. rect_reach d.style (same_key c.args.key c.self.inside.root)) (top (from same_key c.args.key (seen c.self.inside.nodes c.self.inside.root))) Nothing =
     reach_of c.self.inside.nodes c.self.inside.root c.args.key c.put_rect-reach.result c.is-is_root.result (λ b d. rect_reach d.style b) c.self.invariant.sound.tree c.is-is_root.ensures c.put_rect-reach.ensures.reach in
     let b : seen c.touch.new.nodes c.self.inside.root ≡ replaced c.self.inside.root c.args.key c.args.rect (seen c.self.inside.nodes c.self.inside.root) =

@@ -1,9 +1,9 @@
 use Rattle.std.proofs.Common.{◌≡◌, refl, ap, ◌∙◌, sym}
 use Rattle.rd_keys.specs.Keys.{same_key}
-use Rattle.rd_tree.specs.Forest.{without}
-use Rattle.rd_tree.specs.Linked.{IsSound, marks, seen}
+use Rattle.rd_tree.specs.Forest.{without_branch}
+use Rattle.rd_tree.specs.Internal.Linked.{IsConsistent, marks, seen}
 use Rattle.rd_tree.specs.Near.{near_at}
-use Rattle.rd_tree.specs.Renews.{IsRightIn, KeepsOutside}
+use Rattle.rd_tree.specs.Internal.Renews.{IsRightIn, KeepsOutside}
 use Rattle.rd_tree.specs.Edits.{moved}
 use Rattle.rd_tree.proofs.Each.{under_box, all_items}
 use Rattle.rd_tree.proofs.Moving.{relink_sound}
@@ -51,7 +51,7 @@ lose-requires g c =
     let there = still_there c.self.inside.nodes c.work_below.new.nodes c.self.inside.root c.args.key c.in-Some.up c.self.inside.ids c.self.inside.near.items c.self.invariant.sound (rw (← c.self.view_is) at c.requires.live) (rw (← c.self.view_is) at c.requires.below) c.work_below.ensures c.self.invariant.near up in
     let within : IsRightIn c.renew.new.near.items (seen c.work_below.new.nodes c.self.inside.root) c.args.key = c.renew.ensures.right c.self.inside.root (seen c.work_below.new.nodes c.self.inside.root) stands there tt in
     let outer : KeepsOutside c.work_below.new.nodes (seen c.work_below.new.nodes c.self.inside.root) c.self.inside.near.items c.renew.new.near.items c.args.key = c.renew.ensures.others c.self.inside.root (seen c.work_below.new.nodes c.self.inside.root) stands there in
-    let left : IsLeft c.unlink.new.nodes c.self.inside.root c.in-Some.up (without same_key c.args.key (seen c.work_below.new.nodes c.self.inside.root)) c.renew.new.near.items c.whole_of-old.result =
+    let left : IsLeft c.unlink.new.nodes c.self.inside.root c.in-Some.up (without_branch same_key c.args.key (seen c.work_below.new.nodes c.self.inside.root)) c.renew.new.near.items c.whole_of-old.result =
     touched_left c.self.inside.nodes c.work_below.new.nodes c.self.inside.root c.args.key c.in-Some.up c.self.inside.ids c.self.inside.near.items c.self.invariant.sound (rw (← c.self.view_is) at c.requires.live) (rw (← c.self.view_is) at c.requires.below) c.work_below.ensures c.self.invariant.near up
     c.unlink.new.nodes c.renew.new.near.items c.unlink.ensures within outer c.renew.ensures.same_length
     c.whole_of-old.result (c.whole_of-old.ensures ∙ whole_is c.self.inside.nodes c.self.inside.root (seen c.self.inside.nodes c.self.inside.root) (seen_stands c.self.inside.nodes c.self.inside.root c.self.invariant.sound.tree) c.args.key (rw (← c.self.view_is) at c.requires.live) c.deref.result.now (ap (λ r. near_at r c.args.key) c.deref.ensures.value ∙ c.self.invariant.near.right c.args.key (rw (← c.self.view_is) at c.requires.live))) in
@@ -64,16 +64,16 @@ gain-requires g c =
     let there = still_there c.self.inside.nodes c.work_below.new.nodes c.self.inside.root c.args.key c.in-Some.up c.self.inside.ids c.self.inside.near.items c.self.invariant.sound (rw (← c.self.view_is) at c.requires.live) (rw (← c.self.view_is) at c.requires.below) c.work_below.ensures c.self.invariant.near up in
     let within : IsRightIn c.renew.new.near.items (seen c.work_below.new.nodes c.self.inside.root) c.args.key = c.renew.ensures.right c.self.inside.root (seen c.work_below.new.nodes c.self.inside.root) stands there tt in
     let outer : KeepsOutside c.work_below.new.nodes (seen c.work_below.new.nodes c.self.inside.root) c.self.inside.near.items c.renew.new.near.items c.args.key = c.renew.ensures.others c.self.inside.root (seen c.work_below.new.nodes c.self.inside.root) stands there in
-    let left : IsLeft c.unlink.new.nodes c.self.inside.root c.in-Some.up (without same_key c.args.key (seen c.work_below.new.nodes c.self.inside.root)) c.renew.new.near.items c.whole_of-old.result =
+    let left : IsLeft c.unlink.new.nodes c.self.inside.root c.in-Some.up (without_branch same_key c.args.key (seen c.work_below.new.nodes c.self.inside.root)) c.renew.new.near.items c.whole_of-old.result =
     touched_left c.self.inside.nodes c.work_below.new.nodes c.self.inside.root c.args.key c.in-Some.up c.self.inside.ids c.self.inside.near.items c.self.invariant.sound (rw (← c.self.view_is) at c.requires.live) (rw (← c.self.view_is) at c.requires.below) c.work_below.ensures c.self.invariant.near up
     c.unlink.new.nodes c.renew.new.near.items c.unlink.ensures within outer c.renew.ensures.same_length
     c.whole_of-old.result (c.whole_of-old.ensures ∙ whole_is c.self.inside.nodes c.self.inside.root (seen c.self.inside.nodes c.self.inside.root) (seen_stands c.self.inside.nodes c.self.inside.root c.self.invariant.sound.tree) c.args.key (rw (← c.self.view_is) at c.requires.live) c.deref.result.now (ap (λ r. near_at r c.args.key) c.deref.ensures.value ∙ c.self.invariant.near.right c.args.key (rw (← c.self.view_is) at c.requires.live))) in
-    let t : IsSound c.graft.new.nodes c.self.inside.root c.self.inside.ids × (seen c.graft.new.nodes c.self.inside.root ≡ moved c.args.key c.args.parent c.args.before (seen c.self.inside.nodes c.self.inside.root)) × (marks c.graft.new.nodes ≡ marks c.self.inside.nodes) =
+    let t : IsConsistent c.graft.new.nodes c.self.inside.root c.self.inside.ids × (seen c.graft.new.nodes c.self.inside.root ≡ moved c.args.key c.args.parent c.args.before (seen c.self.inside.nodes c.self.inside.root)) × (marks c.graft.new.nodes ≡ marks c.self.inside.nodes) =
     relink_sound c.self.inside.nodes c.work_below.new.nodes c.unlink.new.nodes c.set_place.new.nodes c.graft.new.nodes c.self.inside.root c.args.key c.args.parent c.args.before c.left_of-prev.result c.ends_of-ends.result c.self.inside.ids c.self.invariant.sound
     (rw (← c.self.view_is) at c.requires.live) (rw (← c.self.view_is) at c.requires.below) (rw (← c.self.view_is) at c.requires.parent) (rw (← c.self.view_is) at c.requires.outside) (rw (← c.self.view_is) at c.requires.place) c.requires.other
     c.work_below.ensures c.unlink.ensures c.ends_of-ends.ensures c.left_of-prev.ensures c.set_place.ensures c.graft.ensures in
-    let right = c.lose.ensures.right c.self.inside.root (without same_key c.args.key (seen c.work_below.new.nodes c.self.inside.root)) left.stands left.there left.loses in
-    let others = c.lose.ensures.others c.self.inside.root (without same_key c.args.key (seen c.work_below.new.nodes c.self.inside.root)) left.stands left.there in
+    let right = c.lose.ensures.right c.self.inside.root (without_branch same_key c.args.key (seen c.work_below.new.nodes c.self.inside.root)) left.stands left.there left.loses in
+    let others = c.lose.ensures.others c.self.inside.root (without_branch same_key c.args.key (seen c.work_below.new.nodes c.self.inside.root)) left.stands left.there in
     let land : IsLanded c.graft.new.nodes c.self.inside.root c.args.parent c.lose.new.near.items c.whole_of-new.result =
     landed c.self.inside.nodes c.work_below.new.nodes c.self.inside.root c.args.key c.in-Some.up c.self.inside.ids c.self.inside.near.items c.self.invariant.sound (rw (← c.self.view_is) at c.requires.live) (rw (← c.self.view_is) at c.requires.below) c.work_below.ensures c.self.invariant.near up
     c.unlink.new.nodes c.renew.new.near.items c.unlink.ensures within outer c.renew.ensures.same_length
@@ -88,16 +88,16 @@ invariant_of-self g c =
     let there = still_there c.self.inside.nodes c.work_below.new.nodes c.self.inside.root c.args.key c.in-Some.up c.self.inside.ids c.self.inside.near.items c.self.invariant.sound (rw (← c.self.view_is) at c.requires.live) (rw (← c.self.view_is) at c.requires.below) c.work_below.ensures c.self.invariant.near up in
     let within : IsRightIn c.renew.new.near.items (seen c.work_below.new.nodes c.self.inside.root) c.args.key = c.renew.ensures.right c.self.inside.root (seen c.work_below.new.nodes c.self.inside.root) stands there tt in
     let outer : KeepsOutside c.work_below.new.nodes (seen c.work_below.new.nodes c.self.inside.root) c.self.inside.near.items c.renew.new.near.items c.args.key = c.renew.ensures.others c.self.inside.root (seen c.work_below.new.nodes c.self.inside.root) stands there in
-    let left : IsLeft c.unlink.new.nodes c.self.inside.root c.in-Some.up (without same_key c.args.key (seen c.work_below.new.nodes c.self.inside.root)) c.renew.new.near.items c.whole_of-old.result =
+    let left : IsLeft c.unlink.new.nodes c.self.inside.root c.in-Some.up (without_branch same_key c.args.key (seen c.work_below.new.nodes c.self.inside.root)) c.renew.new.near.items c.whole_of-old.result =
     touched_left c.self.inside.nodes c.work_below.new.nodes c.self.inside.root c.args.key c.in-Some.up c.self.inside.ids c.self.inside.near.items c.self.invariant.sound (rw (← c.self.view_is) at c.requires.live) (rw (← c.self.view_is) at c.requires.below) c.work_below.ensures c.self.invariant.near up
     c.unlink.new.nodes c.renew.new.near.items c.unlink.ensures within outer c.renew.ensures.same_length
     c.whole_of-old.result (c.whole_of-old.ensures ∙ whole_is c.self.inside.nodes c.self.inside.root (seen c.self.inside.nodes c.self.inside.root) (seen_stands c.self.inside.nodes c.self.inside.root c.self.invariant.sound.tree) c.args.key (rw (← c.self.view_is) at c.requires.live) c.deref.result.now (ap (λ r. near_at r c.args.key) c.deref.ensures.value ∙ c.self.invariant.near.right c.args.key (rw (← c.self.view_is) at c.requires.live))) in
-    let t : IsSound c.graft.new.nodes c.self.inside.root c.self.inside.ids × (seen c.graft.new.nodes c.self.inside.root ≡ moved c.args.key c.args.parent c.args.before (seen c.self.inside.nodes c.self.inside.root)) × (marks c.graft.new.nodes ≡ marks c.self.inside.nodes) =
+    let t : IsConsistent c.graft.new.nodes c.self.inside.root c.self.inside.ids × (seen c.graft.new.nodes c.self.inside.root ≡ moved c.args.key c.args.parent c.args.before (seen c.self.inside.nodes c.self.inside.root)) × (marks c.graft.new.nodes ≡ marks c.self.inside.nodes) =
     relink_sound c.self.inside.nodes c.work_below.new.nodes c.unlink.new.nodes c.set_place.new.nodes c.graft.new.nodes c.self.inside.root c.args.key c.args.parent c.args.before c.left_of-prev.result c.ends_of-ends.result c.self.inside.ids c.self.invariant.sound
     (rw (← c.self.view_is) at c.requires.live) (rw (← c.self.view_is) at c.requires.below) (rw (← c.self.view_is) at c.requires.parent) (rw (← c.self.view_is) at c.requires.outside) (rw (← c.self.view_is) at c.requires.place) c.requires.other
     c.work_below.ensures c.unlink.ensures c.ends_of-ends.ensures c.left_of-prev.ensures c.set_place.ensures c.graft.ensures in
-    let right = c.lose.ensures.right c.self.inside.root (without same_key c.args.key (seen c.work_below.new.nodes c.self.inside.root)) left.stands left.there left.loses in
-    let others = c.lose.ensures.others c.self.inside.root (without same_key c.args.key (seen c.work_below.new.nodes c.self.inside.root)) left.stands left.there in
+    let right = c.lose.ensures.right c.self.inside.root (without_branch same_key c.args.key (seen c.work_below.new.nodes c.self.inside.root)) left.stands left.there left.loses in
+    let others = c.lose.ensures.others c.self.inside.root (without_branch same_key c.args.key (seen c.work_below.new.nodes c.self.inside.root)) left.stands left.there in
     let land : IsLanded c.graft.new.nodes c.self.inside.root c.args.parent c.lose.new.near.items c.whole_of-new.result =
     landed c.self.inside.nodes c.work_below.new.nodes c.self.inside.root c.args.key c.in-Some.up c.self.inside.ids c.self.inside.near.items c.self.invariant.sound (rw (← c.self.view_is) at c.requires.live) (rw (← c.self.view_is) at c.requires.below) c.work_below.ensures c.self.invariant.near up
     c.unlink.new.nodes c.renew.new.near.items c.unlink.ensures within outer c.renew.ensures.same_length
@@ -110,7 +110,7 @@ invariant_of-self g c =
 
 pub returns : goal.returns
 returns g c =
-    let t : IsSound c.graft.new.nodes c.self.inside.root c.self.inside.ids × (seen c.graft.new.nodes c.self.inside.root ≡ moved c.args.key c.args.parent c.args.before (seen c.self.inside.nodes c.self.inside.root)) × (marks c.graft.new.nodes ≡ marks c.self.inside.nodes) =
+    let t : IsConsistent c.graft.new.nodes c.self.inside.root c.self.inside.ids × (seen c.graft.new.nodes c.self.inside.root ≡ moved c.args.key c.args.parent c.args.before (seen c.self.inside.nodes c.self.inside.root)) × (marks c.graft.new.nodes ≡ marks c.self.inside.nodes) =
     relink_sound c.self.inside.nodes c.work_below.new.nodes c.unlink.new.nodes c.set_place.new.nodes c.graft.new.nodes c.self.inside.root c.args.key c.args.parent c.args.before c.left_of-prev.result c.ends_of-ends.result c.self.inside.ids c.self.invariant.sound
     (rw (← c.self.view_is) at c.requires.live) (rw (← c.self.view_is) at c.requires.below) (rw (← c.self.view_is) at c.requires.parent) (rw (← c.self.view_is) at c.requires.outside) (rw (← c.self.view_is) at c.requires.place) c.requires.other
     c.work_below.ensures c.unlink.ensures c.ends_of-ends.ensures c.left_of-prev.ensures c.set_place.ensures c.graft.ensures in

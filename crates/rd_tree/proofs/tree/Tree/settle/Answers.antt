@@ -1,7 +1,7 @@
 use Rattle.std.proofs.Common.{◌≡◌, refl, true}
 use Rattle.rd_tree.specs.declared.walk.Work.TheVariants.{Settle}
-use Rattle.rd_tree.specs.Forest.{each_if}
-use Rattle.rd_tree.specs.Linked.{seen, marks, IsSound}
+use Rattle.rd_tree.specs.Forest.{map_where}
+use Rattle.rd_tree.specs.Internal.Linked.{seen, marks, IsConsistent}
 use Rattle.rd_tree.specs.Works.{settled, Allows}
 use Rattle.rd_tree.proofs.Each.{read_root, all_items}
 use Rattle.rd_tree.proofs.Editing.{settled_sound}
@@ -24,6 +24,6 @@ invariant_of-self g c =
 
 pub returns : goal.returns
 returns g c =
-    let s : IsSound c.work_from.new.nodes c.self.inside.root c.self.inside.ids × (seen c.work_from.new.nodes c.self.inside.root ≡ each_if (λ j. true) settled (seen c.self.inside.nodes c.self.inside.root)) = settled_sound c.self.inside.nodes c.work_from.new.nodes c.self.inside.root c.self.inside.ids c.self.invariant.sound c.work_from.ensures in
+    let s : IsConsistent c.work_from.new.nodes c.self.inside.root c.self.inside.ids × (seen c.work_from.new.nodes c.self.inside.root ≡ map_where (λ j. true) settled (seen c.self.inside.nodes c.self.inside.root)) = settled_sound c.self.inside.nodes c.work_from.new.nodes c.self.inside.root c.self.inside.ids c.self.invariant.sound c.work_from.ensures in
     let k : marks c.work_from.new.nodes ≡ marks c.self.inside.nodes = c.work_from.ensures.same_slots in
     rw (← c.self.view_is, s.1, k) refl

@@ -3,14 +3,14 @@ use Rattle.std.proofs.lemmas.Int.{to_z-of_z}
 use Rattle.rd_keys.specs.Keys.{same_key}
 use Rattle.rd_tree.specs.declared.walk.Work.TheVariants.{Shift}
 use Rattle.rd_tree.specs.Forest.{has, at_subtree, AllItems}
-use Rattle.rd_tree.specs.Links.{on_each, onward_of}
-use Rattle.rd_tree.specs.Linked.{Relinks, linked, seen, seen_from, marks, IsSound}
+use Rattle.rd_tree.specs.Internal.Links.{on_each, onward_of}
+use Rattle.rd_tree.specs.Internal.Linked.{Relinks, linked, seen, seen_from, marks, IsConsistent}
 use Rattle.rd_tree.specs.Works.{move_by, done, Allows}
-use Rattle.rd_tree.specs.WorksAt.{AllowsAt}
+use Rattle.rd_tree.specs.Internal.WorksAt.{AllowsAt}
 use Rattle.rd_tree.proofs.Each.{under_box}
 use Rattle.rd_tree.proofs.Editing.{shift_sound, shift_allowed}
 use Rattle.rd_tree.specs.declared.renew.Stale.TheVariants.{Branch}
-use Rattle.rd_tree.specs.Renews.{whole_at}
+use Rattle.rd_tree.specs.Internal.Renews.{whole_at}
 use Rattle.rd_tree.proofs.OneBranch.{Edited}
 use Rattle.rd_tree.proofs.Renewed.{row_here, few_here, renews, renewed, subtree_edited}
 use Rattle.rd_tree.proofs.tree.Tree.shift.Goals as goal
@@ -55,7 +55,7 @@ returns g c =
     let w : c.shift-work.result ≡ Shift c.args.dx c.args.dy = c.shift-work.ensures ∙ (ap (λ z. Shift z (to_z w32 (of_z w32 c.args.dy))) x ∙ ap (λ z. Shift c.args.dx z) y) in
     let r : Relinks c.self.inside.nodes c.work_below.new.nodes (on_each (λ j. same_key j c.args.key || has same_key j (seen_from c.self.inside.nodes (onward_of (linked c.self.inside.nodes c.args.key)).0)) (move_by c.args.dx c.args.dy) (linked c.self.inside.nodes)) =
     subst (λ q. Relinks c.self.inside.nodes c.work_below.new.nodes (on_each (λ j. same_key j c.args.key || has same_key j (seen_from c.self.inside.nodes (onward_of (linked c.self.inside.nodes c.args.key)).0)) (done q) (linked c.self.inside.nodes))) w c.work_below.ensures in
-    let s : IsSound c.work_below.new.nodes c.self.inside.root c.self.inside.ids × (seen c.work_below.new.nodes c.self.inside.root ≡ at_subtree same_key c.args.key (move_by c.args.dx c.args.dy) (seen c.self.inside.nodes c.self.inside.root)) =
+    let s : IsConsistent c.work_below.new.nodes c.self.inside.root c.self.inside.ids × (seen c.work_below.new.nodes c.self.inside.root ≡ at_subtree same_key c.args.key (move_by c.args.dx c.args.dy) (seen c.self.inside.nodes c.self.inside.root)) =
     shift_sound c.self.inside.nodes c.work_below.new.nodes c.self.inside.root c.args.key c.self.inside.ids c.args.dx c.args.dy c.self.invariant.sound (rw (← c.self.view_is) at c.requires.live) (rw (← c.self.view_is) at c.requires.fits) r in
     let k : marks c.work_below.new.nodes ≡ marks c.self.inside.nodes = c.work_below.ensures.same_slots in
     rw (← c.self.view_is, s.1, k) refl

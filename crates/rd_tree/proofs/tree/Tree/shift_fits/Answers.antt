@@ -1,6 +1,6 @@
 use Rattle.std.proofs.Common.{◌≡◌, ◌∙◌, ap, sym, subst, w32}
 use Rattle.std.proofs.lemmas.Int.{to_z-of_z}
-use Rattle.rd_tree.specs.Linked.{IsRead, seen_from}
+use Rattle.rd_tree.specs.Internal.Linked.{IsRead, seen_from}
 use Rattle.rd_tree.specs.Forest.{AllItems}
 use Rattle.rd_style.specs.Limits.{FitsRect}
 use Rattle.rd_tree.specs.Edits.{CanShift}

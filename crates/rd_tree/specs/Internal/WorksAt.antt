@@ -6,8 +6,8 @@ use Rattle.rd_tree.specs.declared.reach.Reach.{Reach}
 use Rattle.rd_tree.specs.declared.reach.Reach.TheVariants.{Nothing, Alone, Subtree}
 use Rattle.rd_tree.specs.Forest.{has}
 use Rattle.rd_tree.specs.declared.walk.Work.{Work}
-use Rattle.rd_tree.specs.Links.{Node}
-use Rattle.rd_tree.specs.Document.{BoxKey, Item, Boxes}
+use Rattle.rd_tree.specs.Internal.Links.{Node}
+use Rattle.rd_tree.specs.Document.{BoxKey, Item, BoxForest}
 use Rattle.rd_tree.specs.Works.{Allows, shifted}
 
 abbrev pub AllowsAt : Work → Option (Node BoxKey Item) → Type 0
@@ -19,7 +19,7 @@ abbrev pub item_under : Option (Node BoxKey Item) → Option Item
 item_under o = option_map (λ n. n.item) o
 
 -- Is j reached from k, with these boxes below it?
-abbrev pub reached : Reach → BoxKey → Boxes → BoxKey → Bool
+abbrev pub reached : Reach → BoxKey → BoxForest → BoxKey → Bool
 reached Nothing k below j = false
 reached Alone k below j = same_key j k
 reached Subtree k below j = same_key j k || has same_key j below

@@ -8,8 +8,8 @@ use Rattle.rd_keys.specs.Arena as inner_slot
 use Rattle.rd_keys.specs.Arena.{Arena, value, live, occupied, is_taken}
 use Rattle.rd_tree.specs.declared.node.Node as inner
 use Rattle.rd_tree.specs.Forest.{size, has, IsApart}
-use Rattle.rd_tree.specs.Links.{Node, Stands, read}
-use Rattle.rd_tree.specs.Document.{BoxKey, Item, Boxes, Slot}
+use Rattle.rd_tree.specs.Internal.Links.{Node, Stands, read}
+use Rattle.rd_tree.specs.Document.{BoxKey, Item, BoxForest, Slot}
 use Rattle.rd_style.specs.Limits.{FitsRect, Fits}
 use Rattle.rd_tree.specs.declared.near.Near.{Near}
 use Rattle.rd_tree.specs.Shown.{Shown}
@@ -36,14 +36,14 @@ pub record Relinks (old new : Arena inner.Node) (at : BoxKey → Option (Node Bo
   pub first : new.first ≡ old.first
 
 -- The nodes are linked as this forest, and no box is outside it.
-pub record IsLinked (a : Arena inner.Node) (root : BoxKey) (f : Boxes) : Type 0 where
+pub record IsLinked (a : Arena inner.Node) (root : BoxKey) (f : BoxForest) : Type 0 where
   pub stands : Stands (linked a) None None f (Some root) (Some root) None
   pub apart : IsApart same_key f
   pub inside : (k : BoxKey) → is_some (linked a k) ≡ true → has same_key k f ≡ true
   pub counted : size f ≡ live a
 
 pub record IsTree (a : Arena inner.Node) (root : BoxKey) : Type 0 where
-  pub boxes : Boxes
+  pub boxes : BoxForest
   pub is : IsLinked a root boxes
   pub most : occupied a ≤ a.limit
 
@@ -64,14 +64,14 @@ abbrev pub EachFits : (BoxKey → Option Item) → Type 0
 EachFits at = (k : BoxKey) (d : Item) → at k ≡ Some d → FitsRect d.rect × Fits d.style
 
 -- What the nodes, the root and the index of a tree always keep.
-pub record IsSound {Y S : Type 0} (a : Arena inner.Node) (root : BoxKey) (ids : HashMap (String Y) BoxKey S) : Type 0 where
+pub record IsConsistent {Y S : Type 0} (a : Arena inner.Node) (root : BoxKey) (ids : HashMap (String Y) BoxKey S) : Type 0 where
   pub tree : IsTree a root
   pub indexed : IsIndexed (item_at a) ids
   pub fits : EachFits (item_at a)
   pub limit : a.limit ≡ 20000
   pub first : a.first ≡ 0
 
-abbrev pub seen : Arena inner.Node → BoxKey → Boxes
+abbrev pub seen : Arena inner.Node → BoxKey → BoxForest
 seen a root = read a.limit (linked a) (Some root)
 
 -- what a node and its row show of its box
@@ -91,12 +91,12 @@ shown_of k is_root n row =
     }
 
 -- the boxes that the links tell from one on: it, those below it, and its later siblings with theirs
-abbrev pub seen_from : Arena inner.Node → Option BoxKey → Boxes
+abbrev pub seen_from : Arena inner.Node → Option BoxKey → BoxForest
 seen_from a first = read a.limit (linked a) first
 
 -- From this one on the links stand for boxes.
 pub record IsRead (a : Arena inner.Node) (first : Option BoxKey) : Type 0 where
-  pub boxes : Boxes
+  pub boxes : BoxForest
   pub up : Option BoxKey
   pub prev : Option BoxKey
   pub last : Option BoxKey

@@ -51,7 +51,7 @@ module _ {T : Type 0} where
 
   -- The places of the slots, the free slots, for how many of these there is room, the first generation, the limit, and
   -- how many slots are live and retired.
-  pub record IsSound (held : Slab T) (slots : List inner.Place) (free : List ℕ) (room first limit live retired : ℕ) : Type 0 where
+  pub record IsLaidOut (held : Slab T) (slots : List inner.Place) (free : List ℕ) (room first limit live retired : ℕ) : Type 0 where
     pub small : limit ≤ 2147483647
     pub within : length slots ≤ limit
     pub roomy : length slots ≤ room

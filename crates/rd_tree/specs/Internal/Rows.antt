@@ -8,11 +8,11 @@ use Rattle.rd_tree.specs.declared.near.Near.{Near}
 use Rattle.rd_tree.specs.declared.whole.Whole.{Whole}
 use Rattle.rd_style.specs.Limits.{FitsRect, Fits}
 use Rattle.rd_tree.specs.Forest.{empty, tree, size, has, in_subtree, IsApart}
-use Rattle.rd_tree.specs.Links.{Node, Stands, onward_of}
-use Rattle.rd_tree.specs.Document.{BoxKey, Item, Boxes, AllFit}
+use Rattle.rd_tree.specs.Internal.Links.{Node, Stands, onward_of}
+use Rattle.rd_tree.specs.Document.{BoxKey, Item, BoxForest, AllFit}
 use Rattle.std.specs.HashMap.{HashMap}
 use Rattle.std.specs.Prelude.{String}
-use Rattle.rd_tree.specs.Linked.{linked, seen, seen_from, IsSound}
+use Rattle.rd_tree.specs.Internal.Linked.{linked, seen, seen_from, IsConsistent}
 use Rattle.rd_tree.specs.Near.{near_of, near_at, is_above, extent, touched_in, hull_in}
 
 -- The row of k is this one, and those of all other slots are as they were.
@@ -23,8 +23,8 @@ Puts old new k row = (j : BoxKey) → near_at new j ≡ (if j.slot == k.slot the
 abbrev pub alone : Rectangle → Near
 alone r = record { children = 0; touched = 0; hull = r }
 
-abbrev pub with_children : ℕ → Near → Near
-with_children n row = record row { children = n }
+abbrev pub with_child_count : ℕ → Near → Near
+with_child_count n row = record row { children = n }
 
 abbrev pub with_hull : Rectangle → Near → Near
 with_hull r row = record row { hull = r }
@@ -42,37 +42,37 @@ pub record IsMarkable (less more : ℕ) (row : Near) : Type 0 where
   pub few : row.touched + more < less + 4294967296
 
 -- The links stand for the forest below a root. There may be other nodes.
-pub record IsStanding (a : Arena inner.Node) (root : BoxKey) (f : Boxes) : Type 0 where
+pub record IsStanding (a : Arena inner.Node) (root : BoxKey) (f : BoxForest) : Type 0 where
   pub stands : Stands (linked a) None None f (Some root) (Some root) None
   pub apart : IsApart same_key f
   pub small : size f ≤ a.limit
 
 -- The box, if there is one, is one of these.
-abbrev pub IsIn : Option BoxKey → Boxes → Type 0
+abbrev pub IsIn : Option BoxKey → BoxForest → Type 0
 IsIn None f = Unit {0}
 IsIn (Some k) f = has same_key k f ≡ true
 
-abbrev pub HasRows : List Near → Boxes → Type 0
+abbrev pub HasRows : List Near → BoxForest → Type 0
 HasRows rows f = (k : BoxKey) → has same_key k f ≡ true → k.slot < length rows
 
 -- From this box up, each row can be marked.
 pub record CanMark (a : Arena inner.Node) (rows : List Near) (from : Option BoxKey) (less more : ℕ) : Type 0 where
   pub root : BoxKey
-  pub boxes : Boxes
+  pub boxes : BoxForest
   pub is : IsStanding a root boxes
   pub there : IsIn from boxes
   pub has_rows : HasRows rows boxes
   pub markable : (k : BoxKey) → is_above from k boxes ≡ true → IsMarkable less more (near_at rows k)
 
 -- The rows of the box given and of those above it are marked, and the rows of all other live keys are as they were.
-abbrev pub MarksUp : Arena inner.Node → Boxes → List Near → List Near → Option BoxKey → ℕ → ℕ → Type 0
+abbrev pub MarksUp : Arena inner.Node → BoxForest → List Near → List Near → Option BoxKey → ℕ → ℕ → Type 0
 MarksUp a f old new from less more =
     (k : BoxKey) → is_some (linked a k) ≡ true → near_at new k ≡ (if is_above from k f then marked less more (near_at old k) else near_at old k)
 
 -- What the moving of hulls from this box up reads is there, and within the limits.
 pub record CanMove (a : Arena inner.Node) (rows : List Near) (from : Option BoxKey) : Type 0 where
   pub root : BoxKey
-  pub boxes : Boxes
+  pub boxes : BoxForest
   pub is : IsStanding a root boxes
   pub there : IsIn from boxes
   pub has_rows : HasRows rows boxes
@@ -80,13 +80,13 @@ pub record CanMove (a : Arena inner.Node) (rows : List Near) (from : Option BoxK
 
 -- From this box up each row has the hull of what is lost and of the rest, where it is to have that of what is gained and
 -- of the rest. All other rows have their hulls.
-pub record IsMoving (rows : List Near) (f : Boxes) (from : Option BoxKey) (lost gained : Rectangle) : Type 0 where
+pub record IsMoving (rows : List Near) (f : BoxForest) (from : Option BoxKey) (lost gained : Rectangle) : Type 0 where
   pub rest : BoxKey → Rectangle
   pub was : (k : BoxKey) → has same_key k f ≡ true → is_above from k f ≡ true → (near_at rows k).hull ≡ hull_of (rest k) lost
   pub is : (k : BoxKey) → has same_key k f ≡ true → is_above from k f ≡ true → (near_of k f).hull ≡ hull_of (rest k) gained
   pub others : (k : BoxKey) → has same_key k f ≡ true → is_above from k f ≡ false → (near_at rows k).hull ≡ (near_of k f).hull
 
-abbrev pub HasHulls : List Near → Boxes → Type 0
+abbrev pub HasHulls : List Near → BoxForest → Type 0
 HasHulls rows f = (k : BoxKey) → has same_key k f ≡ true → (near_at rows k).hull ≡ (near_of k f).hull
 
 -- No row changes but in its hull.
@@ -94,11 +94,11 @@ abbrev pub KeepsCounts : List Near → List Near → Type 0
 KeepsCounts old new = (k : BoxKey) → near_at new k ≡ with_hull (near_at new k).hull (near_at old k)
 
 -- The rows of live keys change from the box given up alone.
-abbrev pub KeepsOthers : Arena inner.Node → Boxes → List Near → List Near → Option BoxKey → Type 0
+abbrev pub KeepsOthers : Arena inner.Node → BoxForest → List Near → List Near → Option BoxKey → Type 0
 KeepsOthers a f old new from = (k : BoxKey) → is_some (linked a k) ≡ true → is_above from k f ≡ false → near_at new k ≡ near_at old k
 
 -- the hull of some siblings by their rows
-abbrev pub hulls_by : List Near → Boxes → Rectangle
+abbrev pub hulls_by : List Near → BoxForest → Rectangle
 hulls_by rows empty = no_pixels
 hulls_by rows (tree k d below rest) = hull_of (near_at rows k).hull (hulls_by rows rest)
 
@@ -121,7 +121,7 @@ touched_under None = 0
 touched_under (Some n) = if n.item.touched then 1 else 0
 
 -- Each of these boxes has the right row.
-abbrev pub IsRight : List Near → Boxes → Type 0
+abbrev pub IsRight : List Near → BoxForest → Type 0
 IsRight rows f = (k : BoxKey) → has same_key k f ≡ true → near_at rows k ≡ near_of k f
 
 -- once a branch stands below it
@@ -130,7 +130,7 @@ joined row w = record row { touched = row.touched + w.touched; hull = hull_of ro
 
 -- From this box up each row has what it is to have but for one branch below it, which was old and is new. All other rows
 -- are right.
-pub record IsSwapping (rows : List Near) (f : Boxes) (from : Option BoxKey) (old new : Whole) : Type 0 where
+pub record IsSwapping (rows : List Near) (f : BoxForest) (from : Option BoxKey) (old new : Whole) : Type 0 where
   pub rest : BoxKey → Near
   pub was : (k : BoxKey) → has same_key k f ≡ true → is_above from k f ≡ true → near_at rows k ≡ joined (rest k) old
   pub is : (k : BoxKey) → has same_key k f ≡ true → is_above from k f ≡ true → near_of k f ≡ joined (rest k) new
@@ -139,7 +139,7 @@ pub record IsSwapping (rows : List Near) (f : Boxes) (from : Option BoxKey) (old
 -- From this box up one branch can be swapped for another.
 pub record CanSwap (a : Arena inner.Node) (rows : List Near) (from : Option BoxKey) (old new : Whole) : Type 0 where
   pub root : BoxKey
-  pub boxes : Boxes
+  pub boxes : BoxForest
   pub is : IsStanding a root boxes
   pub there : IsIn from boxes
   pub has_rows : HasRows rows boxes
@@ -156,15 +156,15 @@ abbrev pub touched_box : Rectangle → Whole
 touched_box r = record { touched = 1; hull = r }
 
 -- what some boxes, with all below them, are to those above them
-abbrev pub whole_in : Boxes → Whole
+abbrev pub whole_in : BoxForest → Whole
 whole_in f = record { touched = touched_in f; hull = hull_in f }
 
 -- once a branch is a child of it, or stands deeper below it
 abbrev pub more : Bool → Near → Whole → Near
-more own row w = with_children (row.children + (if own then 1 else 0)) (joined row w)
+more own row w = with_child_count (row.children + (if own then 1 else 0)) (joined row w)
 
 -- From p up each row lacks a branch that is a new child of p. All other rows are right.
-pub record IsGaining (rows : List Near) (f : Boxes) (p : BoxKey) (w : Whole) : Type 0 where
+pub record IsGaining (rows : List Near) (f : BoxForest) (p : BoxKey) (w : Whole) : Type 0 where
   pub rest : BoxKey → Near
   pub plain : (k : BoxKey) → hull_of (rest k).hull no_pixels ≡ (rest k).hull
   pub was : (k : BoxKey) → has same_key k f ≡ true → in_subtree same_key p k f ≡ true → near_at rows k ≡ rest k
@@ -172,14 +172,14 @@ pub record IsGaining (rows : List Near) (f : Boxes) (p : BoxKey) (w : Whole) : T
   pub others : (k : BoxKey) → has same_key k f ≡ true → in_subtree same_key p k f ≡ false → near_at rows k ≡ near_of k f
 
 -- From p up each row has a branch too many, which was a child of p. All other rows are right.
-pub record IsLosing (rows : List Near) (f : Boxes) (p : BoxKey) (w : Whole) : Type 0 where
+pub record IsLosing (rows : List Near) (f : BoxForest) (p : BoxKey) (w : Whole) : Type 0 where
   pub was : (k : BoxKey) → has same_key k f ≡ true → in_subtree same_key p k f ≡ true → near_at rows k ≡ more (same_key p k) (near_of k f) w
   pub others : (k : BoxKey) → has same_key k f ≡ true → in_subtree same_key p k f ≡ false → near_at rows k ≡ near_of k f
 
 -- The rows of the boxes that stand below a root can be changed from p up.
-pub record CanClimb (a : Arena inner.Node) (rows : List Near) (p : BoxKey) (Q : Boxes → Type 0) : Type 0 where
+pub record CanClimb (a : Arena inner.Node) (rows : List Near) (p : BoxKey) (Q : BoxForest → Type 0) : Type 0 where
   pub root : BoxKey
-  pub boxes : Boxes
+  pub boxes : BoxForest
   pub is : IsStanding a root boxes
   pub there : has same_key p boxes ≡ true
   pub has_rows : HasRows rows boxes
@@ -188,11 +188,11 @@ pub record CanClimb (a : Arena inner.Node) (rows : List Near) (p : BoxKey) (Q : 
   pub ready : Q boxes
 
 -- The table has a row for each slot, and the right one for each box.
-pub record IsNear (a : Arena inner.Node) (rows : List Near) (f : Boxes) : Type 0 where
+pub record IsNear (a : Arena inner.Node) (rows : List Near) (f : BoxForest) : Type 0 where
   pub all_rows : length a.slots ≤ length rows
   pub right : (k : BoxKey) → has same_key k f ≡ true → near_at rows k ≡ near_of k f
 
 -- What the fields of a tree always keep.
 pub record IsKept {Y S : Type 0} (a : Arena inner.Node) (root : BoxKey) (ids : HashMap (String Y) BoxKey S) (rows : List Near) : Type 0 where
-  pub sound : IsSound a root ids
+  pub sound : IsConsistent a root ids
   pub near : IsNear a rows (seen a root)

@@ -19,7 +19,7 @@ pub record IsOn (r : Rectangle) (size : Size) : Type 0 where
   pub bottom : bottom r ≤ℤ size.h
 
 -- this project's own choice: as many rows as the canvas has, each of rising spans on the canvas, and no pixel outside the rectangle in use
-pub record IsSound (size : Size) (used : Rectangle) (rows : List (List Span)) : Type 0 where
+pub record IsNormalized (size : Size) (used : Rectangle) (rows : List (List Span)) : Type 0 where
   pub canvas : IsCanvas size
   pub height : pos (length rows) ≡ size.h
   pub rising : (y : ℕ) → IsRising (pos 0) size.w (get_or rows y [])

@@ -18,7 +18,7 @@ stamped n (leaf l rest) = leaf (record { of = l; made = n }) (stamped n rest)
 stamped n (group g inner rest) = group g (stamped n inner) (stamped n rest)
 
 -- each key at one place, on a canvas within the limits
-pub record IsSound (t : Document) : Type 0 where
+pub record IsWellFormed (t : Document) : Type 0 where
   pub apart : IsApart same_key t.boxes
   pub canvas : IsCanvas t.canvas
 
@@ -28,7 +28,7 @@ pub record Shows (t : Document) (d : Display) (s : State) : Type 0 where
   pub pending : s.pending ≡ d.pending
   pub paints : s.paints ≡ d.paints
   pub kept : s.kept ≡ stamped d.paints d.list
-  pub sound : IsSound s.tree
+  pub sound : IsWellFormed s.tree
 
 -- From s, the machine may give this text and go on to what is shown now.
 abbrev pub Answers : (State → List ℕ → State → Type 0) → State → List ℕ → Document → Display → Type 0

@@ -1,0 +1,8 @@
+-- What private contracts, invariants and codings say. No public clause cites it, so a reader need not read it.
+pub mod EntriesCode
+pub mod ListFalls
+pub mod LastHit
+pub mod Listed
+pub mod KeptCode
+pub mod KeptFalls
+pub mod NewFalls

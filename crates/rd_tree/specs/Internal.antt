@@ -1,0 +1,9 @@
+-- What private contracts, invariants and codings say. No public clause cites it, so a reader need not read it.
+pub mod Links
+pub mod Linked
+pub mod Rows
+pub mod Renews
+pub mod Gathers
+pub mod Frees
+pub mod WorksAt
+pub mod Coding

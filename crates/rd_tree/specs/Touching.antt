@@ -1,0 +1,33 @@
+-- Which boxes a change touches, and so what a paint looks at anew. The table is this project's own choice.
+use Rattle.std.specs.Prelude.{Bool, false, ◌&&◌, if◌then◌else◌}
+use Rattle.std.specs.Option.{option_map_or}
+use Rattle.rd_style.specs.Classes.{clips}
+use Rattle.rd_style.specs.Changes.{whole}
+use Rattle.rd_keys.specs.Keys.{same_key}
+use Rattle.rd_tree.specs.Forest.{map_where, in_subtree, item_of}
+use Rattle.rd_tree.specs.Document.{Document, BoxKey, Item}
+use Rattle.rd_tree.specs.Works.{touch}
+use Rattle.rd_tree.specs.Edits.{names_any}
+use Rattle.rd_tree.specs.Changes.{Change, insertion, removal, moving, styling, placing, shifting, after}
+
+-- does this hold of the item of a box, where there is one?
+abbrev pub holds_of : (Item → Bool) → BoxKey → Document → Bool
+holds_of p k t = option_map_or p (item_of same_key k t.boxes) false
+
+-- Is the box j touched by a change of the tree t? A new box is; so are all boxes of a subtree that is taken away, moved or
+-- shifted, or whose classes, levels or clips may follow from the change; else the one box of which a member is named.
+abbrev pub touched_by : Change → Document → BoxKey → Bool
+touched_by (insertion p before k d) t j = same_key j k
+touched_by (removal k) t j = in_subtree same_key j k t.boxes
+touched_by (moving k p before) t j = in_subtree same_key j k t.boxes
+touched_by (styling k c) t j = holds_of (λ d. if whole d.style (same_key k t.root) c then in_subtree same_key j k t.boxes else names_any c && same_key j k) k t
+touched_by (placing k r) t j = holds_of (λ d. if clips d.style (same_key k t.root) then in_subtree same_key j k t.boxes else same_key j k) k t
+touched_by (shifting k dx dy) t j = in_subtree same_key j k t.boxes
+
+-- with these boxes marked as touched
+abbrev pub with_marks : (BoxKey → Bool) → Document → Document
+with_marks p t = record t { boxes = map_where p touch t.boxes }
+
+-- the tree after a change, with what the change touches marked
+abbrev pub edited : Change → Document → Document
+edited c t = with_marks (touched_by c t) (after c t)
