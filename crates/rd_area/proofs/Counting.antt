@@ -23,7 +23,8 @@ rising_at low high (s ∷ ss) (suc i) d h r =
     let k : IsSpan (s.x1 +ℤ pos 1) high (get_or ss i d) = rising_at (s.x1 +ℤ pos 1) high ss i d (omega arith) r.3 in
     record { from = omega (arith, ints, k.from, r.0, r.1); some = k.some; to = k.to }
 
-pub widths_more : (ss : List Span) (i : ℕ) (d : Span) → i < length ss → widths (take (suc i) ss) ≡ widths (take i ss) +ℤ ((get_or ss i d).x1 -ℤ (get_or ss i d).x0)
+pub widths_more : (ss : List Span) (i : ℕ) (d : Span) → i < length ss → widths (take (suc i) ss)
+    ≡ widths (take i ss) +ℤ ((get_or ss i d).x1 -ℤ (get_or ss i d).x0)
 widths_more [] i d h = absurd (omega arith)
 widths_more (s ∷ ss) zero d h = omega (arith, ints)
 widths_more (s ∷ ss) (suc i) d h = let k = widths_more ss i d (omega arith) in omega (arith, ints, k)
@@ -73,7 +74,8 @@ one_more s high ss x r =
       | false ↦ λ e. omega arith
     ] refl
 
-columns_more : (s : Span) (high : ℤ) (ss : List Span) (n : ℕ) → IsRising (s.x1 +ℤ pos 1) high ss → columns_in (s ∷ ss) n ≡ columns_in (s ∷ []) n + columns_in ss n
+columns_more : (s : Span) (high : ℤ) (ss : List Span) (n : ℕ) → IsRising (s.x1 +ℤ pos 1) high ss → columns_in (s ∷ ss) n
+    ≡ columns_in (s ∷ []) n + columns_in ss n
 unfolding columns_in
 columns_more s high ss zero r = refl
 columns_more s high ss (suc n) r = let k = columns_more s high ss n r in let o = one_more s high ss (pos n) r in omega (arith, k, o)
@@ -83,7 +85,8 @@ unfolding columns_in
 one_span s zero from some = omega (arith, ints, clamps)
 one_span s (suc n) from some =
     let k = one_span s n from some in
-    elim (in_span s (pos n)) as (λ b. in_span s (pos n) ≡ b → pos ((if b || false then 1 else 0) + columns_in (s ∷ []) n) ≡ int_max (pos 0) (int_min (pos (suc n)) s.x1 -ℤ s.x0)) [
+    elim (in_span s (pos n)) as (λ b. in_span s (pos n) ≡ b → pos ((if b || false then 1 else 0) + columns_in (s ∷ []) n)
+    ≡ int_max (pos 0) (int_min (pos (suc n)) s.x1 -ℤ s.x0)) [
       | true ↦ λ e. let a = inside_from s (pos n) e in let b = inside_before s (pos n) e in omega (arith, ints, clamps, k)
       | false ↦ λ e. outside_more s n (columns_in (s ∷ []) n) from some e k
     ] refl

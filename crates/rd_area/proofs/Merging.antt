@@ -4,7 +4,14 @@ use Rattle.std.specs.Int.{int_max, int_min}
 use Rattle.std.proofs.lemmas.Int.{ints, clamps}
 use Rattle.rd_geom.specs.Areas.{in_span, in_spans}
 use Rattle.rd_geom.specs.declared.span.Span.{Span}
-use Rattle.rd_area.specs.Rows.{IsRising, Joins, SharesColumn, overlaps, row_meets, joined, merged}
+use Rattle.rd_area.specs.Internal.Joining.{Joins, overlaps, row_meets, with_span, absorbing}
+use Rattle.rd_area.specs.Rows.{IsRising}
+
+-- a column of a row that is in the span
+pub record SharesColumn (row : List Span) (span : Span) : Type 0 where
+  pub x : ℤ
+  pub first : IsTrue (in_spans row x)
+  pub second : IsTrue (in_span span x)
 
 -- spans that rise from a column on rise from an earlier one
 pub rising_from : (low low' high : ℤ) (ss : List Span) → low ≤ℤ low' → IsRising low' high ss → IsRising low high ss
@@ -71,10 +78,11 @@ both t s = record { x0 = int_min t.x0 s.x0; x1 = int_max t.x1 s.x1 }
 
 -- what a span and the spans that it touches cover, where none of those begins before it
 pub merged_pixels : (t : Span) (low high : ℤ) (ss : List Span) (x : ℤ) → t.x0 <ℤ t.x1 → t.x0 ≤ℤ low → IsRising low high ss
-    → in_spans (merged t ss) x ≡ (in_span t x || in_spans ss x)
+    → in_spans (absorbing t ss) x ≡ (in_span t x || in_spans ss x)
 merged_pixels t low high [] x some from r = refl
 merged_pixels t low high (s ∷ ss) x some from r =
-    elim (int_lt t.x1 s.x0) as (λ b. int_lt t.x1 s.x0 ≡ b → in_spans (if b then t ∷ s ∷ ss else merged (both t s) ss) x ≡ (in_span t x || (in_span s x || in_spans ss x))) [
+    elim (int_lt t.x1 s.x0) as (λ b. int_lt t.x1 s.x0 ≡ b → in_spans (if b then t ∷ s ∷ ss else absorbing (both t s) ss) x
+    ≡ (in_span t x || (in_span s x || in_spans ss x))) [
       | true ↦ λ e. refl
       | false ↦ λ e.
           let hs : s.x0 <ℤ s.x1 = r.1 in
@@ -88,9 +96,10 @@ merged_pixels t low high (s ∷ ss) x some from r =
 
 -- the same where the first span may begin before it
 first_merged : (t s : Span) (high : ℤ) (ss : List Span) (x : ℤ) → t.x0 <ℤ t.x1 → s.x0 <ℤ s.x1 → t.x0 ≤ℤ s.x1 → IsRising (s.x1 +ℤ pos 1) high ss
-    → in_spans (merged t (s ∷ ss)) x ≡ (in_span t x || (in_span s x || in_spans ss x))
+    → in_spans (absorbing t (s ∷ ss)) x ≡ (in_span t x || (in_span s x || in_spans ss x))
 first_merged t s high ss x some hs reach r =
-    elim (int_lt t.x1 s.x0) as (λ b. int_lt t.x1 s.x0 ≡ b → in_spans (if b then t ∷ s ∷ ss else merged (both t s) ss) x ≡ (in_span t x || (in_span s x || in_spans ss x))) [
+    elim (int_lt t.x1 s.x0) as (λ b. int_lt t.x1 s.x0 ≡ b → in_spans (if b then t ∷ s ∷ ss else absorbing (both t s) ss) x
+    ≡ (in_span t x || (in_span s x || in_spans ss x))) [
       | true ↦ λ e. refl
       | false ↦ λ e.
           let touch : s.x0 ≤ℤ t.x1 = not_after t.x1 s.x0 e in
@@ -101,19 +110,20 @@ first_merged t s high ss x some hs reach r =
     ] refl
 
 pub joined_pixels : (t : Span) (low high : ℤ) (ss : List Span) (x : ℤ) → t.x0 <ℤ t.x1 → IsRising low high ss
-    → in_spans (joined t ss) x ≡ (in_span t x || in_spans ss x)
+    → in_spans (with_span t ss) x ≡ (in_span t x || in_spans ss x)
 joined_pixels t low high [] x some r = refl
 joined_pixels t low high (s ∷ ss) x some r =
-    elim (int_le t.x0 s.x1) as (λ b. int_le t.x0 s.x1 ≡ b → in_spans (if b then merged t (s ∷ ss) else s ∷ joined t ss) x ≡ (in_span t x || (in_span s x || in_spans ss x))) [
+    elim (int_le t.x0 s.x1) as (λ b. int_le t.x0 s.x1 ≡ b → in_spans (if b then absorbing t (s ∷ ss) else s ∷ with_span t ss) x
+    ≡ (in_span t x || (in_span s x || in_spans ss x))) [
       | true ↦ λ e. first_merged t s high ss x some r.1 (not_before t.x0 s.x1 e) r.3
       | false ↦ λ e. ap (λ v. in_span s x || v) (joined_pixels t (s.x1 +ℤ pos 1) high ss x some r.3) ∙ or_swap (in_span s x) (in_span t x) (in_spans ss x)
     ] refl
 
 pub merged_rising : (t : Span) (start low high : ℤ) (ss : List Span) → t.x0 <ℤ t.x1 → start ≤ℤ t.x0 → start ≤ℤ low → t.x1 ≤ℤ high → IsRising low high ss
-    → IsRising start high (merged t ss)
+    → IsRising start high (absorbing t ss)
 merged_rising t start low high [] some from below to r = (from, some, to, tt)
 merged_rising t start low high (s ∷ ss) some from below to r =
-    elim (int_lt t.x1 s.x0) as (λ b. int_lt t.x1 s.x0 ≡ b → IsRising start high (if b then t ∷ s ∷ ss else merged (both t s) ss)) [
+    elim (int_lt t.x1 s.x0) as (λ b. int_lt t.x1 s.x0 ≡ b → IsRising start high (if b then t ∷ s ∷ ss else absorbing (both t s) ss)) [
       | true ↦ λ e. (from, some, to, (after t.x1 s.x0 e, r.1, r.2, r.3))
       | false ↦ λ e.
           let hs : s.x0 <ℤ s.x1 = r.1 in
@@ -124,16 +134,17 @@ merged_rising t start low high (s ∷ ss) some from below to r =
           merged_rising (both t s) start (s.x1 +ℤ pos 1) high ss some' from' below' to' r.3
     ] refl
 
-pub joined_rising : (t : Span) (low high : ℤ) (ss : List Span) → t.x0 <ℤ t.x1 → low ≤ℤ t.x0 → t.x1 ≤ℤ high → IsRising low high ss → IsRising low high (joined t ss)
+pub joined_rising : (t : Span) (low high : ℤ) (ss : List Span) → t.x0 <ℤ t.x1 → low ≤ℤ t.x0 → t.x1 ≤ℤ high → IsRising low high ss
+    → IsRising low high (with_span t ss)
 joined_rising t low high [] some from to r = (from, some, to, tt)
 joined_rising t low high (s ∷ ss) some from to r =
-    elim (int_le t.x0 s.x1) as (λ b. int_le t.x0 s.x1 ≡ b → IsRising low high (if b then merged t (s ∷ ss) else s ∷ joined t ss)) [
+    elim (int_le t.x0 s.x1) as (λ b. int_le t.x0 s.x1 ≡ b → IsRising low high (if b then absorbing t (s ∷ ss) else s ∷ with_span t ss)) [
       | true ↦ λ e. merged_rising t low low high (s ∷ ss) some from same to r
       | false ↦ λ e. (r.0, r.1, r.2, joined_rising t (s.x1 +ℤ pos 1) high ss some (later t.x0 s.x1 e) to r.3)
     ] refl
 
 -- a span put where it belongs joins the row
-pub joined_joins : (t : Span) (ss : List Span) → t.x0 <ℤ t.x1 → Joins ss (joined t ss) t
+pub joined_joins : (t : Span) (ss : List Span) → t.x0 <ℤ t.x1 → Joins ss (with_span t ss) t
 joined_joins t ss some = record {
   pixels = λ low high r x. joined_pixels t low high ss x some r;
   rising = λ low high from to r. joined_rising t low high ss some from to r;

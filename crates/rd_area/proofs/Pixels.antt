@@ -2,15 +2,17 @@ use Rattle.std.proofs.Common.{◌≡◌, ℕ, zero, suc, ℤ, pos, negsuc, ◌-�
 use Rattle.std.specs.Prelude.{int_lt, if◌then◌else◌}
 use Rattle.std.specs.Int.{int_max, int_min}
 use Rattle.std.proofs.lemmas.Int.{ints, clamps}
-use Rattle.rd_geom.specs.Plane.{Rectangle, right, bottom, holds_pixel, is_among, has_none, between, meet, no_pixels, hull_of, around, IsWithin}
+use Rattle.rd_geom.specs.Plane.{Rectangle, right, bottom, holds_pixel, is_among, has_none, spanning, meet, no_pixels, hull_of, around, IsWithin}
 use Rattle.rd_geom.specs.Canvas.{IsCanvas, canvas_of}
 use Rattle.rd_geom.specs.Areas.{in_span, in_spans, spans_at}
 use Rattle.rd_geom.specs.declared.rect.Size.{Size}
 use Rattle.rd_geom.specs.declared.span.Span.{Span}
+use Rattle.rd_geom.proofs.Areas.{AreaShares}
 use Rattle.rd_geom.proofs.Pixels.{common_pixels, both_true, right_of}
-use Rattle.rd_area.specs.Rows.{IsRising, Joins, SharesColumn, row_meets}
+use Rattle.rd_area.specs.Internal.Joining.{Joins, row_meets}
+use Rattle.rd_area.specs.Rows.{IsRising}
+use Rattle.rd_area.proofs.Merging.{SharesColumn}
 use Rattle.rd_area.specs.Internal.Normal.{IsOn, IsNormalized}
-use Rattle.rd_area.specs.Sharing.{SharesPixel}
 use Rattle.rd_area.proofs.Merging.{meets_shares, shares_meets}
 
 and_true : (a : Bool) → (a && true) ≡ a
@@ -31,8 +33,8 @@ none_or : (a b : Bool) → (IsTrue a → ⊥) → b ≡ (a || b)
 none_or true b f = absurd (f (grind arith))
 none_or false b f = refl
 
--- what lies between edges on the canvas is on it
-between_on : (l t r b : ℤ) (size : Size) → IsCanvas size → pos 0 ≤ℤ l → pos 0 ≤ℤ t → r ≤ℤ size.w → b ≤ℤ size.h → IsOn (between l t r b) size
+-- what lies spanning edges on the canvas is on it
+between_on : (l t r b : ℤ) (size : Size) → IsCanvas size → pos 0 ≤ℤ l → pos 0 ≤ℤ t → r ≤ℤ size.w → b ≤ℤ size.h → IsOn (spanning l t r b) size
 between_on l t r b size c left top right bottom =
     elim (int_lt l r && int_lt t b) as (λ v. IsOn (if v then record { x = l; y = t; w = r -ℤ l; h = b -ℤ t } else no_pixels) size) [
       | true ↦ record { left = omega (arith, ints); top = omega (arith, ints); right = omega (arith, ints); bottom = omega (arith, ints) }
@@ -134,7 +136,8 @@ either : (a b : Bool) {P : Type 0} → IsTrue (a || b) → (IsTrue a → P) → 
 either true b h f g = f h
 either false b h f g = g h
 
-pub grown_sound : (s used used' : Rectangle) (from to : ℕ) (span : Span) (old new : List (List Span)) (size : Size) → IsGrown s from to span old new → IsOn s size
+pub grown_sound : (s used used' : Rectangle) (from to : ℕ) (span : Span) (old new : List (List Span)) (size : Size) → IsGrown s from to span old new
+    → IsOn s size
     → IsNormalized size used old → used' ≡ hull_of used s → IsWithin used used' → IsWithin s used' → IsNormalized size used' new
 grown_sound s used used' from to span old new size g o i e first second = record {
   canvas = i.canvas;
@@ -142,29 +145,33 @@ grown_sound s used used' from to span old new size g o i e first second = record
   rising = λ y. row_rising s from to span old new size y g o (i.rising y);
   on = rw e (hull_on used s size i.canvas i.on o);
   within = λ x y h.
-      let k : IsTrue (holds_pixel s x (pos y) || in_spans (get_or old y []) x) = subst (λ b. IsTrue b) (row_grown s from to span old new size.w y x g (i.rising y)) h in
+      let k : IsTrue (holds_pixel s x (pos y) || in_spans (get_or old y []) x) =
+      subst (λ b. IsTrue b) (row_grown s from to span old new size.w y x g (i.rising y)) h in
       either (holds_pixel s x (pos y)) (in_spans (get_or old y []) x) k (λ p. second x (pos y) p) (λ p. first x (pos y) (i.within x y p));
 }
 
 -- a row that has a column of the span has a pixel of the area in the rectangle
 pub found_shares : (size : Size) (used r : Rectangle) (rows : List (List Span)) (from to : ℕ) (span : Span) (n : ℕ)
     → IsBlock (meet used r) from to span → from ≤ n → n < to → IsTrue (row_meets (get_or rows n []) span)
-    → SharesPixel (record { size = size; rows = rows }) r
+    → AreaShares (record { size = size; rows = rows }) r
 found_shares size used r rows from to span n k f t h =
     let m : SharesColumn (get_or rows n []) span = meets_shares (get_or rows n []) span h in
     let c : IsTrue (holds_pixel (meet used r) m.x (pos n)) = subst (λ b. IsTrue b) (sym (in_block (meet used r) from to span m.x n k f t)) m.second in
     let both : IsTrue (holds_pixel used m.x (pos n) && holds_pixel r m.x (pos n)) = subst (λ b. IsTrue b) (common_pixels used r m.x (pos n)) c in
     record { x = m.x; y = pos n; first = m.first; second = right_of (holds_pixel used m.x (pos n)) (holds_pixel r m.x (pos n)) both }
 
-shares_in : (size : Size) (used r : Rectangle) (rows : List (List Span)) → IsNormalized size used rows → (x y : ℤ) → IsTrue (in_spans (spans_at rows y) x) → IsTrue (holds_pixel r x y)
+shares_in : (size : Size) (used r : Rectangle) (rows : List (List Span)) → IsNormalized size used rows → (x y : ℤ) → IsTrue (in_spans (spans_at rows y) x)
+    → IsTrue (holds_pixel r x y)
     → IsTrue (holds_pixel (meet used r) x y)
 shares_in size used r rows i x (pos n) h k =
     subst (λ b. IsTrue b) (sym (common_pixels used r x (pos n))) (both_true (holds_pixel used x (pos n)) (holds_pixel r x (pos n)) (i.within x n h) k)
 shares_in size used r rows i x (negsuc n) h k = absurd (grind arith)
 
 -- and where no row of the block has one, the area has no pixel in the rectangle
-not_shared : (size : Size) (used r : Rectangle) (rows : List (List Span)) (from to : ℕ) (span : Span) → IsNormalized size used rows → IsBlock (meet used r) from to span
-    → ((n : ℕ) → from ≤ n → n < to → IsFalse (row_meets (get_or rows n []) span)) → (x y : ℤ) → IsTrue (in_spans (spans_at rows y) x) → IsTrue (holds_pixel r x y) → ⊥
+not_shared : (size : Size) (used r : Rectangle) (rows : List (List Span)) (from to : ℕ) (span : Span) → IsNormalized size used rows
+    → IsBlock (meet used r) from to span
+    → ((n : ℕ) → from ≤ n → n < to → IsFalse (row_meets (get_or rows n []) span)) → (x y : ℤ) → IsTrue (in_spans (spans_at rows y) x)
+    → IsTrue (holds_pixel r x y) → ⊥
 not_shared size used r rows from to span i k none x (negsuc n) h p = absurd (grind arith)
 not_shared size used r rows from to span i k none x (pos n) h p =
     let c : IsTrue (holds_pixel (meet used r) x (pos n)) = shares_in size used r rows i x (pos n) h p in
@@ -175,12 +182,14 @@ not_shared size used r rows from to span i k none x (pos n) h p =
     (λ o. clash (holds_pixel (meet used r) x (pos n)) c (outside_block (meet used r) from to span x n k o))
     (split from to n)
 
-pub none_shares : (size : Size) (used r : Rectangle) (rows : List (List Span)) (from to : ℕ) (span : Span) → IsNormalized size used rows → IsBlock (meet used r) from to span
-    → ((n : ℕ) → from ≤ n → n < to → IsFalse (row_meets (get_or rows n []) span)) → SharesPixel (record { size = size; rows = rows }) r → ⊥
+pub none_shares : (size : Size) (used r : Rectangle) (rows : List (List Span)) (from to : ℕ) (span : Span) → IsNormalized size used rows
+    → IsBlock (meet used r) from to span
+    → ((n : ℕ) → from ≤ n → n < to → IsFalse (row_meets (get_or rows n []) span)) → AreaShares (record { size = size; rows = rows }) r → ⊥
 none_shares size used r rows from to span i k none s = not_shared size used r rows from to span i k none s.x s.y s.first s.second
 
 -- nor where the rectangle lies off what is in use
-pub apart_shares : (size : Size) (used r : Rectangle) (rows : List (List Span)) → IsNormalized size used rows → has_none (meet used r) ≡ true → SharesPixel (record { size = size; rows = rows }) r → ⊥
+pub apart_shares : (size : Size) (used r : Rectangle) (rows : List (List Span)) → IsNormalized size used rows → has_none (meet used r) ≡ true
+    → AreaShares (record { size = size; rows = rows }) r → ⊥
 apart_shares size used r rows i e s =
     let c : IsTrue (holds_pixel (meet used r) s.x s.y) = shares_in size used r rows i s.x s.y s.first s.second in
     no_pixel_in (meet used r) s.x s.y e c
@@ -189,7 +198,8 @@ apart_shares size used r rows i e s =
 pub none_added : (s : Rectangle) (x y : ℤ) (b : Bool) → has_none s ≡ true → b ≡ (holds_pixel s x y || b)
 none_added s x y b e = none_or (holds_pixel s x y) b (no_pixel_in s x y e)
 
-pub grown_from : (s : Rectangle) (from to : ℕ) (span : Span) (old mid new : List (List Span)) → mid ≡ old → IsGrown s from to span mid new → IsGrown s from to span old new
+pub grown_from : (s : Rectangle) (from to : ℕ) (span : Span) (old mid new : List (List Span)) → mid ≡ old → IsGrown s from to span mid new
+    → IsGrown s from to span old new
 grown_from s from to span old mid new e g = subst (λ m. IsGrown s from to span m new) e g
 
 pub true_unless : (b : Bool) → (IsFalse b → ⊥) → IsTrue b

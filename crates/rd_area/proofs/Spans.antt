@@ -1,7 +1,8 @@
 use Rattle.std.proofs.Common.{◌≡◌, ℕ, zero, suc, ℤ, pos, ◌+◌, ◌-◌, ◌<◌, ◌≤◌, ◌≢◌, ◌⊎◌, inl, inr, List, [], ◌∷◌, map, set, get_or, length, Vec, vec_len, vec_capacity, IsFalse, arith, refl, sym, ◌∙◌, ap, subst, below_more}
 use Rattle.std.specs.declared.alloc.Global.{Global}
 use Rattle.rd_geom.specs.declared.span.Span.{Span}
-use Rattle.rd_area.specs.Rows.{IsRising, Joins, row_meets}
+use Rattle.rd_area.specs.Internal.Joining.{Joins, row_meets}
+use Rattle.rd_area.specs.Rows.{IsRising}
 use Rattle.rd_area.specs.Internal.Normal.{spans_of}
 use Rattle.rd_area.specs.Internal.Room.{room_at}
 
@@ -39,7 +40,8 @@ room_more vs i w from h room below y a b =
     (λ f. rw (here (λ r. vec_capacity r - vec_len r) 0 vs i w h) (omega arith))
     y b a
 
-pub room_left : (vs : List Row) (i : ℕ) (w : Row) (to : ℕ) → ((y : ℕ) → i ≤ y → y < to → 0 < room_at vs y) → (y : ℕ) → i + 1 ≤ y → y < to → 0 < room_at (set vs i w) y
+pub room_left : (vs : List Row) (i : ℕ) (w : Row) (to : ℕ) → ((y : ℕ) → i ≤ y → y < to → 0 < room_at vs y) → (y : ℕ) → i + 1 ≤ y → y < to
+    → 0 < room_at (set vs i w) y
 room_left vs i w to all y a b =
     let n : y ≢ i = omega arith in
     rw (elsewhere (λ r. vec_capacity r - vec_len r) 0 vs i w y n) (all y (omega arith) b)
@@ -49,7 +51,8 @@ has_room vs i v h e room =
     let r = rw (at_place (λ r. vec_capacity r - vec_len r) 0 vs i v h e) at room in
     omega (arith, r)
 
-pub others_more : (old vs : List Row) (i : ℕ) (w : Row) (from : ℕ) → from ≤ i → ((y : ℕ) → (y < from) ⊎ (i ≤ y) → get_or (spans_of vs) y [] ≡ get_or (spans_of old) y [])
+pub others_more : (old vs : List Row) (i : ℕ) (w : Row) (from : ℕ) → from ≤ i → ((y : ℕ) → (y < from) ⊎ (i ≤ y) → get_or (spans_of vs) y []
+    ≡ get_or (spans_of old) y [])
     → (y : ℕ) → (y < from) ⊎ (i + 1 ≤ y) → get_or (spans_of (set vs i w)) y [] ≡ get_or (spans_of old) y []
 others_more old vs i w from f same y (inl l) = let n : y ≢ i = omega arith in elsewhere (λ r. r.items) [] vs i w y n ∙ same y (inl l)
 others_more old vs i w from f same y (inr l) = let n : y ≢ i = omega arith in elsewhere (λ r. r.items) [] vs i w y n ∙ same y (inr (omega arith))
@@ -75,5 +78,6 @@ meets_more vs i v from span h e not_it below y a b =
     (λ g. rw (at_place (λ r. r.items) [] vs i v h e) not_it)
     y b a
 
-pub rises_at : (vs : List Row) (i : ℕ) (v : Row) (w : ℤ) → i < length vs → v ≡ get_or vs i v → ((y : ℕ) → IsRising (pos 0) w (get_or (spans_of vs) y [])) → IsRising (pos 0) w v.items
+pub rises_at : (vs : List Row) (i : ℕ) (v : Row) (w : ℤ) → i < length vs → v ≡ get_or vs i v → ((y : ℕ) → IsRising (pos 0) w (get_or (spans_of vs) y []))
+    → IsRising (pos 0) w v.items
 rises_at vs i v w h e r = subst (λ ss. IsRising (pos 0) w ss) (at_place (λ r. r.items) [] vs i v h e) (r i)

@@ -1,3 +1,2 @@
-pub mod Rows
-pub mod Sharing
 pub mod Internal
+pub mod Rows

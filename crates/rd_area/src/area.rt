@@ -3,9 +3,8 @@
 ghost use Rattle.std.specs.Prelude.{◌≡◌, ℕ, ℤ, pos, ◌+ℤ◌, ◌≤ℤ◌, ◌||◌, ◌↔◌, IfOk, OnOk, OnErr, IsTrue, IsFalse, Bool, false};
 ghost use Rattle.rd_geom.specs.Plane.{meet, right, bottom, holds_pixel, has_none};
 ghost use Rattle.rd_geom.specs.Canvas.{IsCanvas, canvas_of};
-ghost use Rattle.rd_geom.specs.Areas.{in_area, in_spans, spans_at, count_of};
+ghost use Rattle.rd_geom.specs.Areas.{in_area, spans_at, count_of, meets_area};
 ghost use Rattle.rd_area.specs.Rows.{IsRising};
-ghost use Rattle.rd_area.specs.Sharing.{SharesPixel};
 
 use crate::{row, rows};
 use rd_geom::{NoMemory, Rect, Size, Span, hull, meet};
@@ -39,7 +38,7 @@ fn columns(r: Rect) -> Span
 {
     Span {
         x0: r.x(),
-        x1: r.x() + r.w(),
+        x1: r.right(),
     }
 }
 
@@ -49,11 +48,11 @@ fn rows_of(r: Rect) -> (usize, usize)
     ensures first { pos result.0 ≡ r.y }
     ensures last { pos result.1 ≡ bottom r }
 {
-    (r.y() as usize, (r.y() + r.h()) as usize)
+    (r.y() as usize, r.bottom() as usize)
 }
 
 impl Area {
-    /// No pixel of a canvas of this size, which is from 1 to 4,096 pixels wide and high.
+    /// No pixel of a canvas of this size, which is from 1 to `MAX_CANVAS_SIDE` pixels wide and high.
     pub fn none(alloc: Global, size: Size) -> Result<Area, NoMemory>
         requires { IsCanvas size }
         ensures size { IfOk result (λ a. a.size ≡ size) }
@@ -67,11 +66,12 @@ impl Area {
         })
     }
 
-    /// Every pixel of a canvas of this size, which is from 1 to 4,096 pixels wide and high.
+    /// Every pixel of a canvas of this size, which is from 1 to `MAX_CANVAS_SIDE` pixels wide and high.
     pub fn whole(alloc: Global, size: Size) -> Result<Area, NoMemory>
         requires { IsCanvas size }
         ensures size { IfOk result (λ a. a.size ≡ size) }
-        ensures pixels { IfOk result (λ a. (x y : ℤ) → in_area a x y ≡ holds_pixel (canvas_of size) x y) }
+        ensures pixels { IfOk result (λ a. (x y : ℤ) → in_area a x y
+            ≡ holds_pixel (canvas_of size) x y) }
     {
         let mut area = Area::none(alloc, size)?;
         area.add(size.rect())?;
@@ -81,7 +81,8 @@ impl Area {
     /// The pixels of the rectangle that are on the canvas join. Without memory the area stays as it was.
     pub fn add(&mut self, r: Rect) -> Result<(), NoMemory>
         ensures size { OnOk result (self.new.size ≡ self.old.size) }
-        ensures pixels { OnOk result ((x y : ℤ) → in_area self.new x y ≡ (holds_pixel (meet r (canvas_of self.old.size)) x y || in_area self.old x y)) }
+        ensures pixels { OnOk result ((x y : ℤ) → in_area self.new x y ≡
+            (holds_pixel (meet r (canvas_of self.old.size)) x y || in_area self.old x y)) }
         ensures refused { OnErr result (self.new ≡ self.old) }
     {
         let seen = meet(r, self.size.rect());
@@ -97,7 +98,7 @@ impl Area {
 
     /// Is a pixel of the rectangle in the area?
     pub fn meets(&self, r: Rect) -> bool
-        ensures { IsTrue result ↔ SharesPixel self.now r }
+        ensures { result ≡ meets_area self.now r }
     {
         let seen = meet(self.used, r);
         if seen.is_empty() {

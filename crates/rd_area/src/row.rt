@@ -1,17 +1,19 @@
 //! The spans of one row.
 
-ghost use Rattle.std.specs.Prelude.{◌≡◌, ℕ, ℤ, pos, ◌+◌, ◌<◌, ◌≤◌, ◌-ℤ◌, ◌≤ℤ◌, ◌<ℤ◌, ◌||◌, ◌++◌, ◌∷◌, [], length, take, drop, vec_len, vec_capacity};
+ghost use Rattle.std.specs.Prelude.{◌≡◌, ℕ, ℤ, pos, ◌+◌, ◌<◌, ◌≤◌, ◌+ℤ◌, ◌-ℤ◌, ◌≤ℤ◌, ◌<ℤ◌, ◌||◌, ◌++◌, ◌∷◌, [], length, take, drop, vec_len, vec_capacity};
 ghost use Rattle.std.specs.Int.{int_max, int_min};
 ghost use Rattle.rd_geom.specs.Areas.{in_span, in_spans, columns_in};
 ghost use Rattle.rd_geom.specs.declared.span.Span.{Span};
-ghost use Rattle.rd_area.specs.Rows.{IsRising, Joins, overlaps, row_meets, joined, merged};
+ghost use Rattle.rd_geom.specs.declared.rect.TheConstants.{MAX_CANVAS_SIDE};
+ghost use Rattle.rd_area.specs.Internal.Joining.{Joins, overlaps, row_meets, with_span, absorbing};
+ghost use Rattle.rd_area.specs.Rows.{IsRising};
 
 use rd_geom::Span;
 
 /// How many of the row's spans end before the given one and do not touch it.
 fn spans_before(row: &[Span], span: Span) -> usize
     ensures within { result ≤ length row.now }
-    ensures rest { joined span row.now ≡ take result row.now ++ merged span (drop result row.now) }
+    ensures rest { with_span span row.now ≡ take result row.now ++ absorbing span (drop result row.now) }
 {
     for (i, s) in row.iter().enumerate() {
         if span.x0 <= s.x1 {
@@ -36,7 +38,7 @@ fn touched(row: &[Span], from: usize, span: Span) -> (usize, Span)
     requires { from ≤ length row.now }
     ensures from { from ≤ result.0 }
     ensures within { result.0 ≤ length row.now }
-    ensures whole { merged span (drop from row.now) ≡ result.1 ∷ drop result.0 row.now }
+    ensures whole { absorbing span (drop from row.now) ≡ result.1 ∷ drop result.0 row.now }
 {
     let mut whole = span;
     for end in from..row.len() {
@@ -76,7 +78,7 @@ pub(crate) fn join(row: &mut Vec<Span>, span: Span)
 }
 
 /// Have the two a common column?
-fn overlap(s: Span, t: Span) -> bool
+fn overlaps(s: Span, t: Span) -> bool
     ensures { result ≡ overlaps s t }
 {
     s.x0.max(t.x0) < s.x1.min(t.x1)
@@ -87,7 +89,7 @@ pub(crate) fn meets(row: &[Span], span: Span) -> bool
     ensures { result ≡ row_meets row.now span }
 {
     for s in row {
-        if overlap(*s, span) {
+        if overlaps(*s, span) {
             return true;
         }
     }
@@ -108,9 +110,9 @@ pub(crate) fn holds(row: &[Span], x: i32) -> bool
 
 /// How many columns are in a row whose spans rise.
 pub(crate) fn count(row: &[Span]) -> u64
-    requires { IsRising (pos 0) (pos 4096) row.now }
+    requires { IsRising (pos 0) MAX_CANVAS_SIDE row.now }
     ensures value { (n : ℕ) → IsRising (pos 0) (pos n) row.now → result ≡ columns_in row.now n }
-    ensures at_most { result ≤ 4097 }
+    ensures at_most { pos result ≤ℤ (MAX_CANVAS_SIDE +ℤ pos 1) }
 {
     let mut count = 0;
     for s in row {
@@ -123,7 +125,7 @@ pub(crate) fn count(row: &[Span]) -> u64
 fn width(s: Span) -> u64
     requires from { pos 0 ≤ℤ s.x0 }
     requires some { s.x0 <ℤ s.x1 }
-    requires to { s.x1 ≤ℤ pos 4096 }
+    requires to { s.x1 ≤ℤ MAX_CANVAS_SIDE }
     ensures { pos result ≡ s.x1 -ℤ s.x0 }
 {
     (s.x1 - s.x0) as u64

@@ -1,3 +1,4 @@
+-- What may be seen of a box, by the boxes above it.
 use Rattle.std.specs.Prelude.{Bool, if◌then◌else◌, List, [], ◌∷◌}
 use Rattle.rd_geom.specs.Plane.{Rectangle, meet, inset}
 use Rattle.rd_style.specs.declared.styles.Style.{Style}
@@ -5,7 +6,7 @@ use Rattle.rd_style.specs.declared.kinds.Position.{Position}
 use Rattle.rd_style.specs.declared.kinds.Position.TheVariants as position
 use Rattle.rd_style.specs.Classes.{clips, positioned}
 
--- this project's own choice: what clipping asks of a box above another: its style, its border box, and whether it is the root
+-- what clipping asks of a box above another: its style, its border box, and whether it is the root
 pub record Entered : Type 0 where
   pub style : Style
   pub rect : Rectangle
@@ -13,7 +14,8 @@ pub record Entered : Type 0 where
 
 -- CSS 2.2 section 8.1: the padding box
 abbrev pub padding_box : Style → Rectangle → Rectangle
-padding_box s r = inset r s.border_width.top s.border_width.right s.border_width.bottom s.border_width.left
+padding_box s r = inset r s.border_width.top s.border_width.right s.border_width.bottom
+    s.border_width.left
 
 -- CSS 2.2 section 10.1: where a box's containing block is sought among the boxes above it
 pub data Sought : Type 0 where
@@ -35,7 +37,8 @@ containing_chain parent [] = []
 containing_chain parent (b ∷ above) = b ∷ containing_chain (sought b.style.position) above
 containing_chain nearest_positioned [] = []
 containing_chain nearest_positioned (b ∷ above) =
-    if positioned b.style then b ∷ containing_chain (sought b.style.position) above else containing_chain nearest_positioned above
+    if positioned b.style then b ∷ containing_chain (sought b.style.position) above
+    else containing_chain nearest_positioned above
 
 -- CSS 2.2 section 11.1.1: what a box leaves of a rectangle: its padding box, where it clips
 abbrev pub clipped_by : Entered → Rectangle → Rectangle

@@ -1,7 +1,8 @@
+-- What stands for the boxes above.
 use Rattle.std.specs.Prelude.{List}
 use Rattle.rd_geom.specs.Plane.{Rectangle}
 use Rattle.rd_clip.specs.Clipping.{Entered, parent, nearest_positioned, viewport, containing_chain, clipped}
-use Rattle.rd_clip.specs.declared.Clips.{Clips}
+use Rattle.rd_clip.specs.declared.clips.Clips.{Clips}
 
 -- CSS 2.2 section 10.1: the clips that stand for the boxes above, nearest first: one for each place where a containing block is sought
 abbrev pub clips_of : Rectangle → List Entered → Clips

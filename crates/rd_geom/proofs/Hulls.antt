@@ -2,7 +2,7 @@
 use Rattle.std.proofs.Common.{◌≡◌, ◌∙◌, ℤ, ◌-ℤ◌, ◌≤ℤ◌, ◌<ℤ◌, Bool, true, false, cond, arith, refl, ap, sym, ◌⊎◌, inl, inr}
 use Rattle.std.specs.Int.{int_max, int_min}
 use Rattle.std.proofs.lemmas.Int.{ints, clamps}
-use Rattle.rd_geom.specs.Plane.{Rectangle, right, bottom, between, has_none, no_pixels, around, hull_of}
+use Rattle.rd_geom.specs.Plane.{Rectangle, right, bottom, spanning, has_none, no_pixels, around, hull_of}
 use Rattle.rd_geom.proofs.Pixels.{HasSome, some_of, some_not_none}
 
 -- the rectangle itself, or the one rectangle without a pixel
@@ -17,7 +17,7 @@ which : (b : Bool) → (b ≡ true) ⊎ (b ≡ false)
 which true = inl refl
 which false = inr refl
 
-between_box : (l t r b : ℤ) → l <ℤ r → t <ℤ b → between l t r b ≡ box l t r b
+between_box : (l t r b : ℤ) → l <ℤ r → t <ℤ b → spanning l t r b ≡ box l t r b
 between_box l t r b h v = grind (arith, ints)
 
 box_some : (l t r b : ℤ) → l <ℤ r → t <ℤ b → has_none (box l t r b) ≡ false
@@ -38,17 +38,20 @@ same_rectangle a b x y w h = rw (sym x, sym y, sym w, sym h) refl
 box_of : (a : Rectangle) → box a.x a.y (right a) (bottom a) ≡ a
 box_of a = same_rectangle (box a.x a.y (right a) (bottom a)) a refl refl (omega (arith, ints)) (omega (arith, ints))
 
-around_box : (a b : Rectangle) → has_none a ≡ false → has_none b ≡ false → around a b ≡ box (int_min a.x b.x) (int_min a.y b.y) (int_max (right a) (right b)) (int_max (bottom a) (bottom b))
+around_box : (a b : Rectangle) → has_none a ≡ false → has_none b ≡ false → around a b ≡ box (int_min a.x b.x) (int_min a.y b.y) (int_max (right a) (right b))
+    (int_max (bottom a) (bottom b))
 around_box a b ea eb =
     let sa : HasSome a = some_of a ea in
     let sb : HasSome b = some_of b eb in
-    between_box (int_min a.x b.x) (int_min a.y b.y) (int_max (right a) (right b)) (int_max (bottom a) (bottom b)) (omega (arith, ints, clamps, sa.wide, sb.wide)) (omega (arith, ints, clamps, sa.high, sb.high))
+    between_box (int_min a.x b.x) (int_min a.y b.y) (int_max (right a) (right b)) (int_max (bottom a) (bottom b))
+    (omega (arith, ints, clamps, sa.wide, sb.wide)) (omega (arith, ints, clamps, sa.high, sb.high))
 
 pub around_some : (a b : Rectangle) → has_none a ≡ false → has_none b ≡ false → has_none (around a b) ≡ false
 around_some a b ea eb =
     let sa : HasSome a = some_of a ea in
     let sb : HasSome b = some_of b eb in
-    ap has_none (around_box a b ea eb) ∙ box_some (int_min a.x b.x) (int_min a.y b.y) (int_max (right a) (right b)) (int_max (bottom a) (bottom b)) (omega (arith, ints, clamps, sa.wide, sb.wide)) (omega (arith, ints, clamps, sa.high, sb.high))
+    ap has_none (around_box a b ea eb) ∙ box_some (int_min a.x b.x) (int_min a.y b.y) (int_max (right a) (right b)) (int_max (bottom a) (bottom b))
+    (omega (arith, ints, clamps, sa.wide, sb.wide)) (omega (arith, ints, clamps, sa.high, sb.high))
 
 min_comm : (a b : ℤ) → int_min a b ≡ int_min b a
 min_comm a b = omega (arith, ints, clamps)
@@ -66,20 +69,26 @@ around_comm : (a b : Rectangle) → around a b ≡ around b a
 around_comm a b = rw (min_comm a.x b.x, min_comm a.y b.y, max_comm (right a) (right b), max_comm (bottom a) (bottom b)) refl
 
 -- round a rectangle that is given by its edges
-around_left : (l t r b : ℤ) (c : Rectangle) → around (box l t r b) c ≡ between (int_min l c.x) (int_min t c.y) (int_max r (right c)) (int_max b (bottom c))
-around_left l t r b c = ap (λ i. between (int_min l c.x) (int_min t c.y) (int_max i (right c)) (int_max (bottom (box l t r b)) (bottom c))) (right_box l t r b) ∙ ap (λ i. between (int_min l c.x) (int_min t c.y) (int_max r (right c)) (int_max i (bottom c))) (bottom_box l t r b)
+around_left : (l t r b : ℤ) (c : Rectangle) → around (box l t r b) c ≡ spanning (int_min l c.x) (int_min t c.y) (int_max r (right c)) (int_max b (bottom c))
+around_left l t r b c = ap (λ i. spanning (int_min l c.x) (int_min t c.y) (int_max i (right c)) (int_max (bottom (box l t r b)) (bottom c))) (right_box l t r b)
+    ∙ ap (λ i. spanning (int_min l c.x) (int_min t c.y) (int_max r (right c)) (int_max i (bottom c))) (bottom_box l t r b)
 
-around_right : (l t r b : ℤ) (c : Rectangle) → around c (box l t r b) ≡ between (int_min c.x l) (int_min c.y t) (int_max (right c) r) (int_max (bottom c) b)
-around_right l t r b c = ap (λ i. between (int_min c.x l) (int_min c.y t) (int_max (right c) i) (int_max (bottom c) (bottom (box l t r b)))) (right_box l t r b) ∙ ap (λ i. between (int_min c.x l) (int_min c.y t) (int_max (right c) r) (int_max (bottom c) i)) (bottom_box l t r b)
+around_right : (l t r b : ℤ) (c : Rectangle) → around c (box l t r b) ≡ spanning (int_min c.x l) (int_min c.y t) (int_max (right c) r) (int_max (bottom c) b)
+around_right l t r b c = ap (λ i. spanning (int_min c.x l) (int_min c.y t) (int_max (right c) i) (int_max (bottom c) (bottom (box l t r b))))
+    (right_box l t r b) ∙ ap (λ i. spanning (int_min c.x l) (int_min c.y t) (int_max (right c) r) (int_max (bottom c) i)) (bottom_box l t r b)
 
 around_assoc : (a b c : Rectangle) → has_none a ≡ false → has_none b ≡ false → has_none c ≡ false → around (around a b) c ≡ around a (around b c)
 around_assoc a b c ea eb ec =
     ap (λ r. around r c) (around_box a b ea eb)
     ∙ (around_left (int_min a.x b.x) (int_min a.y b.y) (int_max (right a) (right b)) (int_max (bottom a) (bottom b)) c
-    ∙ (ap (λ i. between i (int_min (int_min a.y b.y) c.y) (int_max (int_max (right a) (right b)) (right c)) (int_max (int_max (bottom a) (bottom b)) (bottom c))) (min_assoc a.x b.x c.x)
-    ∙ (ap (λ i. between (int_min a.x (int_min b.x c.x)) i (int_max (int_max (right a) (right b)) (right c)) (int_max (int_max (bottom a) (bottom b)) (bottom c))) (min_assoc a.y b.y c.y)
-    ∙ (ap (λ i. between (int_min a.x (int_min b.x c.x)) (int_min a.y (int_min b.y c.y)) i (int_max (int_max (bottom a) (bottom b)) (bottom c))) (max_assoc (right a) (right b) (right c))
-    ∙ (ap (λ i. between (int_min a.x (int_min b.x c.x)) (int_min a.y (int_min b.y c.y)) (int_max (right a) (int_max (right b) (right c))) i) (max_assoc (bottom a) (bottom b) (bottom c))
+    ∙ (ap (λ i. spanning i (int_min (int_min a.y b.y) c.y) (int_max (int_max (right a) (right b)) (right c))
+    (int_max (int_max (bottom a) (bottom b)) (bottom c))) (min_assoc a.x b.x c.x)
+    ∙ (ap (λ i. spanning (int_min a.x (int_min b.x c.x)) i (int_max (int_max (right a) (right b)) (right c))
+    (int_max (int_max (bottom a) (bottom b)) (bottom c))) (min_assoc a.y b.y c.y)
+    ∙ (ap (λ i. spanning (int_min a.x (int_min b.x c.x)) (int_min a.y (int_min b.y c.y)) i (int_max (int_max (bottom a) (bottom b)) (bottom c)))
+    (max_assoc (right a) (right b) (right c))
+    ∙ (ap (λ i. spanning (int_min a.x (int_min b.x c.x)) (int_min a.y (int_min b.y c.y)) (int_max (right a) (int_max (right b) (right c))) i)
+    (max_assoc (bottom a) (bottom b) (bottom c))
     ∙ (sym (around_right (int_min b.x c.x) (int_min b.y c.y) (int_max (right b) (right c)) (int_max (bottom b) (bottom c)) a)
     ∙ ap (λ r. around a r) (sym (around_box b c eb ec))))))))
 
@@ -154,7 +163,8 @@ hull_assoc a b c =
     elim (which (has_none a)) [
       | inl ea ↦ ap (λ r. hull_of r c) (hull_none_left a b ea) ∙ (normal_hull_left b c ∙ (sym (normal_hull b c) ∙ sym (hull_none_left a (hull_of b c) ea)))
       | inr ea ↦ elim (which (has_none b)) [
-        | inl eb ↦ ap (λ r. hull_of r c) (hull_none_right a b eb) ∙ (normal_hull_left a c ∙ (sym (hull_normal a c) ∙ ap (hull_of a) (sym (hull_none_left b c eb))))
+        | inl eb ↦ ap (λ r. hull_of r c) (hull_none_right a b eb)
+            ∙ (normal_hull_left a c ∙ (sym (hull_normal a c) ∙ ap (hull_of a) (sym (hull_none_left b c eb))))
         | inr eb ↦ elim (which (has_none c)) [
           | inl ec ↦ hull_none_right (hull_of a b) c ec ∙ (normal_hull a b ∙ (sym (hull_normal a b) ∙ ap (hull_of a) (sym (hull_none_right b c ec))))
           | inr ec ↦
@@ -176,7 +186,9 @@ pub record Holds (a b : Rectangle) : Type 0 where
 around_held : (a b : Rectangle) → has_none a ≡ false → has_none b ≡ false → Holds a b → around a b ≡ a
 around_held a b ea eb h =
     around_box a b ea eb
-    ∙ (same_box (int_min a.x b.x) (int_min a.y b.y) (int_max (right a) (right b)) (int_max (bottom a) (bottom b)) a.x a.y (right a) (bottom a) (omega (arith, ints, clamps, h.left)) (omega (arith, ints, clamps, h.top)) (omega (arith, ints, clamps, h.right)) (omega (arith, ints, clamps, h.bottom))
+    ∙ (same_box (int_min a.x b.x) (int_min a.y b.y) (int_max (right a) (right b)) (int_max (bottom a) (bottom b)) a.x a.y (right a) (bottom a)
+    (omega (arith, ints, clamps, h.left)) (omega (arith, ints, clamps, h.top)) (omega (arith, ints, clamps, h.right))
+    (omega (arith, ints, clamps, h.bottom))
     ∙ box_of a)
 
 holder_some : (a b : Rectangle) → has_none b ≡ false → Holds a b → has_none a ≡ false
@@ -215,12 +227,18 @@ hull_off rest lost f =
       | inr e ↦ elim (which (has_none rest)) [
         | inl n ↦ absurd (f.left (ap (λ r. r.x) (hull_none_left rest lost n ∙ normal_some lost e)))
         | inr n ↦
-            let is : hull_of rest lost ≡ box (int_min rest.x lost.x) (int_min rest.y lost.y) (int_max (right rest) (right lost)) (int_max (bottom rest) (bottom lost)) = hull_some rest lost n e ∙ around_box rest lost n e in
+            let is : hull_of rest lost ≡ box (int_min rest.x lost.x) (int_min rest.y lost.y) (int_max (right rest) (right lost))
+            (int_max (bottom rest) (bottom lost)) = hull_some rest lost n e ∙ around_box rest lost n e in
             let h : Holds rest lost = record {
               left = off_min rest.x lost.x (λ u. f.left (ap (λ r. r.x) is ∙ u));
               top = off_min rest.y lost.y (λ u. f.top (ap (λ r. r.y) is ∙ u));
-              right = off_max (right rest) (right lost) (λ u. f.right (ap right is ∙ (right_box (int_min rest.x lost.x) (int_min rest.y lost.y) (int_max (right rest) (right lost)) (int_max (bottom rest) (bottom lost)) ∙ u)));
-              bottom = off_max (bottom rest) (bottom lost) (λ u. f.bottom (ap bottom is ∙ (bottom_box (int_min rest.x lost.x) (int_min rest.y lost.y) (int_max (right rest) (right lost)) (int_max (bottom rest) (bottom lost)) ∙ u)));
+              right = off_max (right rest) (right lost) (λ u.
+                  f.right (ap right is ∙ (right_box (int_min rest.x lost.x) (int_min rest.y lost.y) (int_max (right rest) (right lost))
+                  (int_max (bottom rest) (bottom lost)) ∙ u)));
+              bottom = off_max (bottom rest) (bottom lost) (λ u.
+                  f.bottom (ap bottom is
+                  ∙ (bottom_box (int_min rest.x lost.x) (int_min rest.y lost.y) (int_max (right rest) (right lost)) (int_max (bottom rest) (bottom lost))
+                  ∙ u)));
             } in
             hull_held rest lost h
       ]

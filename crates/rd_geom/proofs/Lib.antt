@@ -1,3 +1,4 @@
+pub mod Areas
 pub mod Hulls
-pub mod Products
 pub mod Pixels
+pub mod Products

@@ -1,7 +1,7 @@
 use Rattle.std.proofs.Common.{◌≡◌, ℕ, ℤ, pos, ◌+ℤ◌, ◌-ℤ◌, ◌≤ℤ◌, ◌<ℤ◌, Bool, true, false, ◌&&◌, IsTrue, arith, refl, sym, subst, rules}
 use Rattle.std.specs.Int.{int_max, int_min}
 use Rattle.std.proofs.lemmas.Int.{ints, clamps}
-use Rattle.rd_geom.specs.Plane.{Rectangle, right, bottom, holds_pixel, between, meet, inset, IsWithin, SharesPixel, has_none, meets, around}
+use Rattle.rd_geom.specs.Plane.{Rectangle, right, bottom, holds_pixel, spanning, meet, inset, IsWithin, SharesPixel, has_none, meets, around}
 
 -- the pixel in column x and row y lies from the first column and row of r on, and before the last
 pub record At (r : Rectangle) (x y : ℤ) : Type 0 where
@@ -32,45 +32,77 @@ left_of a b h = grind arith
 pub right_of : (a b : Bool) → IsTrue (a && b) → IsTrue b
 right_of a b h = grind arith
 
--- the pixels of what lies between four edges
+-- the pixels of what lies spanning four edges
 pub record AtBetween (l t r b x y : ℤ) : Type 0 where
   pub left : l ≤ℤ x
   pub right : x <ℤ r
   pub top : t ≤ℤ y
   pub bottom : y <ℤ b
 
-pub between_holds : (l t r b x y : ℤ) → AtBetween l t r b x y → IsTrue (holds_pixel (between l t r b) x y)
+pub between_holds : (l t r b x y : ℤ) → AtBetween l t r b x y → IsTrue (holds_pixel (spanning l t r b) x y)
 between_holds l t r b x y a = grind (arith, ints)
 
-pub holds_between : (l t r b x y : ℤ) → IsTrue (holds_pixel (between l t r b) x y) → AtBetween l t r b x y
+pub holds_between : (l t r b x y : ℤ) → IsTrue (holds_pixel (spanning l t r b) x y) → AtBetween l t r b x y
 holds_between l t r b x y h = record { left = grind (arith, ints); right = grind (arith, ints); top = grind (arith, ints); bottom = grind (arith, ints) }
 
 pub common_pixels : (a b : Rectangle) (x y : ℤ) → holds_pixel (meet a b) x y ≡ (holds_pixel a x y && holds_pixel b x y)
 common_pixels a b x y =
     same_test _ _
-    (λ h. let m : AtBetween (int_max a.x b.x) (int_max a.y b.y) (int_min (right a) (right b)) (int_min (bottom a) (bottom b)) x y = holds_between _ _ _ _ x y h in
-    let p : At a x y = record { left = omega (arith, ints, clamps); right = omega (arith, ints, clamps); top = omega (arith, ints, clamps); bottom = omega (arith, ints, clamps) } in
-    let q : At b x y = record { left = omega (arith, ints, clamps); right = omega (arith, ints, clamps); top = omega (arith, ints, clamps); bottom = omega (arith, ints, clamps) } in
+    (λ h. let m : AtBetween (int_max a.x b.x) (int_max a.y b.y) (int_min (right a) (right b)) (int_min (bottom a) (bottom b)) x y = holds_between _ _ _ _ x y
+    h in
+    let p : At a x y = record {
+      left = omega (arith, ints, clamps);
+      right = omega (arith, ints, clamps);
+      top = omega (arith, ints, clamps);
+      bottom = omega (arith, ints, clamps);
+    } in
+    let q : At b x y = record {
+      left = omega (arith, ints, clamps);
+      right = omega (arith, ints, clamps);
+      top = omega (arith, ints, clamps);
+      bottom = omega (arith, ints, clamps);
+    } in
     both_true _ _ (at_holds a x y p) (at_holds b x y q))
     (λ h. let hp : IsTrue (holds_pixel a x y) = grind arith in
     let hq : IsTrue (holds_pixel b x y) = grind arith in
     let p : At a x y = holds_at a x y hp in
     let q : At b x y = holds_at b x y hq in
-    between_holds (int_max a.x b.x) (int_max a.y b.y) (int_min (right a) (right b)) (int_min (bottom a) (bottom b)) x y (record { left = omega (arith, ints, clamps); right = omega (arith, ints, clamps); top = omega (arith, ints, clamps); bottom = omega (arith, ints, clamps) }))
+    between_holds (int_max a.x b.x) (int_max a.y b.y) (int_min (right a) (right b)) (int_min (bottom a) (bottom b)) x y
+    (record {
+      left = omega (arith, ints, clamps);
+      right = omega (arith, ints, clamps);
+      top = omega (arith, ints, clamps);
+      bottom = omega (arith, ints, clamps);
+    }))
 
 pub inset_pixels : (r : Rectangle) (top end down left : ℕ) (x y : ℤ)
     → holds_pixel (inset r top end down left) x y ≡ (holds_pixel r (x -ℤ pos left) (y -ℤ pos top) && holds_pixel r (x +ℤ pos end) (y +ℤ pos down))
 inset_pixels r top end down left x y =
     same_test _ _
     (λ h. let m : AtBetween (r.x +ℤ pos left) (r.y +ℤ pos top) (right r -ℤ pos end) (bottom r -ℤ pos down) x y = holds_between _ _ _ _ x y h in
-    let p : At r (x -ℤ pos left) (y -ℤ pos top) = record { left = omega (arith, ints); right = omega (arith, ints); top = omega (arith, ints); bottom = omega (arith, ints) } in
-    let q : At r (x +ℤ pos end) (y +ℤ pos down) = record { left = omega (arith, ints); right = omega (arith, ints); top = omega (arith, ints); bottom = omega (arith, ints) } in
+    let p : At r (x -ℤ pos left) (y -ℤ pos top) = record {
+      left = omega (arith, ints);
+      right = omega (arith, ints);
+      top = omega (arith, ints);
+      bottom = omega (arith, ints);
+    } in
+    let q : At r (x +ℤ pos end) (y +ℤ pos down) = record {
+      left = omega (arith, ints);
+      right = omega (arith, ints);
+      top = omega (arith, ints);
+      bottom = omega (arith, ints);
+    } in
     both_true _ _ (at_holds r _ _ p) (at_holds r _ _ q))
     (λ h. let hp : IsTrue (holds_pixel r (x -ℤ pos left) (y -ℤ pos top)) = grind arith in
     let hq : IsTrue (holds_pixel r (x +ℤ pos end) (y +ℤ pos down)) = grind arith in
     let p : At r (x -ℤ pos left) (y -ℤ pos top) = holds_at r _ _ hp in
     let q : At r (x +ℤ pos end) (y +ℤ pos down) = holds_at r _ _ hq in
-    between_holds (r.x +ℤ pos left) (r.y +ℤ pos top) (right r -ℤ pos end) (bottom r -ℤ pos down) x y (record { left = omega (arith, ints); right = omega (arith, ints); top = omega (arith, ints); bottom = omega (arith, ints) }))
+    between_holds (r.x +ℤ pos left) (r.y +ℤ pos top) (right r -ℤ pos end) (bottom r -ℤ pos down) x y (record {
+      left = omega (arith, ints);
+      right = omega (arith, ints);
+      top = omega (arith, ints);
+      bottom = omega (arith, ints);
+    }))
 
 -- a rectangle with a pixel has columns and rows
 pub record HasSome (r : Rectangle) : Type 0 where
@@ -98,14 +130,26 @@ none_is_within a r e x y h = let p : At a x y = holds_at a x y h in grind (arith
 pub within_around_left : (a b : Rectangle) → IsWithin a (around a b)
 within_around_left a b x y h =
     let p : At a x y = holds_at a x y h in
-    between_holds (int_min a.x b.x) (int_min a.y b.y) (int_max (right a) (right b)) (int_max (bottom a) (bottom b)) x y (record { left = omega (arith, ints, clamps); right = omega (arith, ints, clamps); top = omega (arith, ints, clamps); bottom = omega (arith, ints, clamps) })
+    between_holds (int_min a.x b.x) (int_min a.y b.y) (int_max (right a) (right b)) (int_max (bottom a) (bottom b)) x y
+    (record {
+      left = omega (arith, ints, clamps);
+      right = omega (arith, ints, clamps);
+      top = omega (arith, ints, clamps);
+      bottom = omega (arith, ints, clamps);
+    })
 
 pub within_around_right : (a b : Rectangle) → IsWithin b (around a b)
 within_around_right a b x y h =
     let p : At b x y = holds_at b x y h in
-    between_holds (int_min a.x b.x) (int_min a.y b.y) (int_max (right a) (right b)) (int_max (bottom a) (bottom b)) x y (record { left = omega (arith, ints, clamps); right = omega (arith, ints, clamps); top = omega (arith, ints, clamps); bottom = omega (arith, ints, clamps) })
+    between_holds (int_min a.x b.x) (int_min a.y b.y) (int_max (right a) (right b)) (int_max (bottom a) (bottom b)) x y
+    (record {
+      left = omega (arith, ints, clamps);
+      right = omega (arith, ints, clamps);
+      top = omega (arith, ints, clamps);
+      bottom = omega (arith, ints, clamps);
+    })
 
--- what holds both holds all that is between them
+-- what holds both holds all that is spanning them
 pub around_least : (a b r : Rectangle) → has_none a ≡ false → has_none b ≡ false → IsWithin a r → IsWithin b r → IsWithin (around a b) r
 around_least a b r ea eb wa wb x y h =
     let sa : HasSome a = some_of a ea in
@@ -115,7 +159,12 @@ around_least a b r ea eb wa wb x y h =
     let qa : At r (right a -ℤ pos 1) (bottom a -ℤ pos 1) = holds_at r _ _ (wa _ _ (at_holds a _ _ (last_at a sa))) in
     let qb : At r (right b -ℤ pos 1) (bottom b -ℤ pos 1) = holds_at r _ _ (wb _ _ (at_holds b _ _ (last_at b sb))) in
     let m : AtBetween (int_min a.x b.x) (int_min a.y b.y) (int_max (right a) (right b)) (int_max (bottom a) (bottom b)) x y = holds_between _ _ _ _ x y h in
-    let p : At r x y = record { left = omega (arith, ints, clamps); right = omega (arith, ints, clamps); top = omega (arith, ints, clamps); bottom = omega (arith, ints, clamps) } in
+    let p : At r x y = record {
+      left = omega (arith, ints, clamps);
+      right = omega (arith, ints, clamps);
+      top = omega (arith, ints, clamps);
+      bottom = omega (arith, ints, clamps);
+    } in
     at_holds r x y p
 
 -- two rectangles meet exactly where they share a pixel

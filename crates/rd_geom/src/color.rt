@@ -1,7 +1,7 @@
 //! Colours of 8 bits a channel, plain and premultiplied.
 
 ghost use Rattle.std.specs.Prelude.{◌≡◌, ◌≤◌, ◌+◌, ◌*◌};
-ghost use Rattle.rd_geom.specs.Colors.{Premultiplied, IsPremultiplied, times, premultiplied, laid_over, scaled, white, clear};
+ghost use Rattle.rd_geom.specs.Colors.{Premultiplied, IsPremultiplied, times, premultiplied, laid_over, scaled, white, clear, transparent, black};
 
 use std::marker::Model;
 
@@ -12,6 +12,24 @@ pub struct Color {
     pub g: u8,
     pub b: u8,
     pub a: u8,
+}
+
+impl Color {
+    /// The keyword `transparent` (CSS Color 3 section 4.2.3).
+    pub const TRANSPARENT: Color = Color {
+        r: 0,
+        g: 0,
+        b: 0,
+        a: 0,
+    };
+
+    /// The keyword `black` (CSS Color 3 section 4.1).
+    pub const BLACK: Color = Color {
+        r: 0,
+        g: 0,
+        b: 0,
+        a: 255,
+    };
 }
 
 /// A pixel: a colour whose channels were multiplied by its opacity, so that none exceeds it (CSS Color 3 section 3.2).
@@ -136,4 +154,14 @@ pub fn px_of(c: Color) -> Px
         b: mul(c.b, c.a),
         a: c.a,
     }
+}
+
+/// The constants, so that clauses can say what they are.
+fn constants() -> (Px, Px)
+    ensures white { result.0 ≡ white }
+    ensures clear { result.1 ≡ clear }
+    ensures transparent { Color.TRANSPARENT ≡ transparent }
+    ensures black { Color.BLACK ≡ black }
+{
+    (Px::WHITE, Px::CLEAR)
 }

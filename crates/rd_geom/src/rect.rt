@@ -2,13 +2,19 @@
 
 ghost use Rattle.std.specs.Prelude.{◌≡◌, ℕ, ℤ, pos, ◌+ℤ◌, ◌-ℤ◌, ◌≤ℤ◌, ◌↔◌, IfSome, IfNone, IsTrue, ◌&&◌, int_le, int_lt, Bool};
 ghost use Rattle.rd_geom.specs.Plane as plane;
-ghost use Rattle.rd_geom.specs.Plane.{Rectangle, meet, IsWithin, SharesPixel, around, hull_of, has_none, holds_pixel, right, bottom, IsPlaced, between, int_low, inset, outset};
+ghost use Rattle.rd_geom.specs.Plane.{meet, SharesPixel, has_none, holds_pixel, right, bottom, IsPlaced, spanning, int_low, inset, outset};
 
 use std::marker::Model;
 
+/// How far from the canvas's corner a rectangle may reach, to any side, in canvas pixels.
+pub const MAX_REACH: i32 = 1_000_000_000;
+
+/// The largest width and height of a canvas, in pixels.
+pub const MAX_CANVAS_SIDE: i32 = 4096;
+
 /// A rectangle of pixels: its left upper pixel, and how many it has across and down (CSS 2.2 section 8.1).
 ///
-/// `w` and `h` are not negative, `x` and `y` are at least -1,000,000,000, and `x + w` and `y + h` are at most 1,000,000,000.
+/// `w` and `h` are not negative, `x` and `y` are at least `-MAX_REACH`, and `x + w` and `y + h` are at most `MAX_REACH`.
 #[derive(Clone, Copy, PartialEq, Eq, Debug)]
 pub struct Rect {
     x: i32,
@@ -48,7 +54,7 @@ pub struct Sides {
 impl Size {
     ghost use Rattle.rd_geom.specs.Canvas.{IsCanvas, canvas_of};
 
-    /// The rectangle of a canvas of this size, which is from 1 to 4,096 pixels wide and high (CSS 2.2 section 10.1).
+    /// The rectangle of a canvas of this size, which is from 1 to `MAX_CANVAS_SIDE` pixels wide and high (CSS 2.2 section 10.1).
     pub fn rect(&self) -> Rect
         requires { IsCanvas self.now }
         ensures { result ≡ canvas_of self.now }
@@ -77,12 +83,10 @@ impl Rect {
         ensures placed { IfSome result (λ r. IsPlaced r) }
         ensures none { IfNone result (IsPlaced (record { x = x; y = y; w = w; h = h }) → ⊥) }
     {
-        let low = -1_000_000_000;
-        let high = 1_000_000_000;
-        if w < 0 || h < 0 || x < low || y < low {
+        if w < 0 || h < 0 || x < -MAX_REACH || y < -MAX_REACH {
             return None;
         }
-        if x > high - w || y > high - h {
+        if x > MAX_REACH - w || y > MAX_REACH - h {
             return None;
         }
         Some(Rect { x, y, w, h })
@@ -120,6 +124,22 @@ impl Rect {
         self.h
     }
 
+    /// The first column right of it.
+    pub fn right(&self) -> i32
+        ensures value { result ≡ right self.now }
+        ensures placed { IsPlaced self.now }
+    {
+        self.x + self.w
+    }
+
+    /// The first row below it.
+    pub fn bottom(&self) -> i32
+        ensures value { result ≡ bottom self.now }
+        ensures placed { IsPlaced self.now }
+    {
+        self.y + self.h
+    }
+
     /// Is there no pixel in it?
     pub fn is_empty(&self) -> bool
         ensures { result ≡ has_none self.now }
@@ -129,12 +149,12 @@ impl Rect {
 }
 
 /// The pixels from column `left` up to `right` and from row `top` up to `bottom`.
-fn spanning(left: i32, top: i32, right: i32, bottom: i32) -> Rect
+pub(crate) fn spanning(left: i32, top: i32, right: i32, bottom: i32) -> Rect
     requires from_left { int_low ≤ℤ left }
     requires from_top { int_low ≤ℤ top }
-    requires to_right { right ≤ℤ pos 1000000000 }
-    requires to_bottom { bottom ≤ℤ pos 1000000000 }
-    ensures { result ≡ between left top right bottom }
+    requires to_right { right ≤ℤ MAX_REACH }
+    requires to_bottom { bottom ≤ℤ MAX_REACH }
+    ensures { result ≡ spanning left top right bottom }
 {
     if left < right && top < bottom {
         Rect {
@@ -144,29 +164,8 @@ fn spanning(left: i32, top: i32, right: i32, bottom: i32) -> Rect
             h: bottom - top,
         }
     } else {
-        Rect {
-            x: 0,
-            y: 0,
-            w: 0,
-            h: 0,
-        }
+        Rect::EMPTY
     }
-}
-
-/// The first column right of a rectangle.
-fn right_of(r: Rect) -> i32
-    ensures value { result ≡ right r }
-    ensures placed { IsPlaced r }
-{
-    r.x + r.w
-}
-
-/// The first row below a rectangle.
-fn bottom_of(r: Rect) -> i32
-    ensures value { result ≡ bottom r }
-    ensures placed { IsPlaced r }
-{
-    r.y + r.h
 }
 
 /// The common pixels of both, or `Rect::EMPTY`.
@@ -176,8 +175,8 @@ pub fn meet(a: Rect, b: Rect) -> Rect
 {
     let left = a.x().max(b.x());
     let top = a.y().max(b.y());
-    let right = right_of(a).min(right_of(b));
-    let bottom = bottom_of(a).min(bottom_of(b));
+    let right = a.right().min(b.right());
+    let bottom = a.bottom().min(b.bottom());
     spanning(left, top, right, bottom)
 }
 
@@ -189,41 +188,15 @@ pub fn meets(a: Rect, b: Rect) -> bool
     !meet(a, b).is_empty()
 }
 
-/// The least rectangle that holds the pixels of both, or `Rect::EMPTY` where there are none.
-pub fn hull(a: Rect, b: Rect) -> Rect
-    ensures value { result ≡ hull_of a b }
-    ensures first { IsWithin a result }
-    ensures second { IsWithin b result }
-    ensures least { (r : Rectangle) → IsWithin a r → IsWithin b r → IsWithin result r }
-{
-    match (a.is_empty(), b.is_empty()) {
-        (true, true) => Rect::EMPTY,
-        (true, false) => b,
-        (false, true) => a,
-        (false, false) => enclosing(a, b),
-    }
-}
-
-/// From the first column and row of either to the last of either.
-fn enclosing(a: Rect, b: Rect) -> Rect
-    ensures { result ≡ around a b }
-{
-    let left = a.x().min(b.x());
-    let top = a.y().min(b.y());
-    let right = right_of(a).max(right_of(b));
-    let bottom = bottom_of(a).max(bottom_of(b));
-    spanning(left, top, right, bottom)
-}
-
 /// Is the pixel at column `x` and row `y` in the rectangle?
 pub fn holds(r: Rect, x: i32, y: i32) -> bool
     ensures { result ≡ holds_pixel r x y }
 {
-    is_within(r.x(), right_of(r), x) && is_within(r.y(), bottom_of(r), y)
+    is_from_to(r.x(), r.right(), x) && is_from_to(r.y(), r.bottom(), y)
 }
 
 /// Is `at` at least `from` and below `to`?
-fn is_within(from: i32, to: i32, at: i32) -> bool
+fn is_from_to(from: i32, to: i32, at: i32) -> bool
     ensures { result ≡ (int_le from at && int_lt at to) }
 {
     from <= at && at < to
@@ -234,12 +207,13 @@ pub fn inset(r: Rect, s: Sides) -> Rect
     ensures value { result ≡ inset r s.top s.right s.bottom s.left }
 
     // A pixel is left where those by the four widths away from it are in the rectangle.
-    ensures pixels { (x y : ℤ) → holds_pixel result x y ≡ (holds_pixel r (x -ℤ pos s.left) (y -ℤ pos s.top) && holds_pixel r (x +ℤ pos s.right) (y +ℤ pos s.bottom)) }
+    ensures pixels { (x y : ℤ) → holds_pixel result x y ≡
+        (holds_pixel r (x -ℤ pos s.left) (y -ℤ pos s.top) && holds_pixel r (x +ℤ pos s.right) (y +ℤ pos s.bottom)) }
 {
     let left = r.x() + s.left as i32;
     let top = r.y() + s.top as i32;
-    let right = right_of(r) - s.right as i32;
-    let bottom = bottom_of(r) - s.bottom as i32;
+    let right = r.right() - s.right as i32;
+    let bottom = r.bottom() - s.bottom as i32;
     spanning(left, top, right, bottom)
 }
 

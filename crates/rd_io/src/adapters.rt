@@ -3,7 +3,7 @@
 ghost use Rattle.std.specs.Prelude.{ℕ, ◌≡◌, ◌≤◌, ◌<◌, length, take, IfOk, OnErr, None};
 ghost use Rattle.std.specs.Io.{WritesAtMost};
 ghost use Rattle.std.specs.Io.KnownBytes.{Appends, WriteAppends};
-ghost use Rattle.rd_io.specs.Causes.{GainsPart, HasCause, FaultsRose};
+ghost use Rattle.rd_io.specs.Causes.{GainsPart, HasCause, one_more};
 ghost use Rattle.rd_io.specs.Readers.{reader_of, faults_of};
 ghost use Rattle.rd_io.specs.Writers.{writer_of, sink_faults_of};
 
@@ -64,8 +64,7 @@ impl<W: Write> WriteSink<W> {
     }
 
     fn fail(&mut self) -> Failed
-        ensures later { sink_faults_of self.old ≤ sink_faults_of self.new }
-        ensures rose { FaultsRose (sink_faults_of self.old) (sink_faults_of self.new) }
+        ensures counted { sink_faults_of self.new ≡ one_more (sink_faults_of self.old) }
         ensures writer { writer_of self.new ≡ writer_of self.old }
     {
         self.faults = self.faults.saturating_add(1);
@@ -81,15 +80,17 @@ impl<W: Write> Sink for WriteSink<W> {
 
     ghost faults = { λ s. sink_faults_of s };
 
-    /// The writer has gained what is said to be taken, and after `Failed` a front of the piece.
+    /// The writer has gained what is said to be taken, and after `Failed` a prefix of the piece.
     #[tactic(auto, using(crate::proofs::Bytes::gains_part))]
     fn write(&mut self, piece: &[u8]) -> Result<usize, Failed>
         ensures bound { WritesAtMost result piece.now }
         ensures some { IfOk result (λ n. 0 < length piece.now → 0 < n) }
         ensures bytes { WriteAppends None None result piece.now }
         ensures cause { HasCause (sink_faults_of self.old) (sink_faults_of self.new) result }
-        ensures taken { IfOk result (λ n. Appends (W.contents (writer_of self.old)) (W.contents (writer_of self.new)) (take n piece.now)) }
-        ensures part { OnErr result (GainsPart (W.contents (writer_of self.old)) (W.contents (writer_of self.new)) piece.now) }
+        ensures taken { IfOk result (λ n. Appends (W.contents (writer_of self.old))
+            (W.contents (writer_of self.new)) (take n piece.now)) }
+        ensures part { OnErr result (GainsPart (W.contents (writer_of self.old))
+            (W.contents (writer_of self.new)) piece.now) }
     {
         match self.writer.write(piece) {
             Ok(count) => {

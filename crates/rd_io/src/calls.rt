@@ -1,7 +1,7 @@
 //! Calls that are to fail by their number.
 
-ghost use Rattle.std.specs.Prelude.{◌≡◌, ◌≤◌, OkIff};
-ghost use Rattle.rd_io.specs.Causes.{HasCause, FaultsRose};
+ghost use Rattle.std.specs.Prelude.{◌≡◌, OkIff};
+ghost use Rattle.rd_io.specs.Causes.{HasCause, one_more};
 ghost use Rattle.rd_io.specs.Memory.{Calls as SeenCalls, MayPass, NextCall, first_call};
 
 use crate::source::Failed;
@@ -35,7 +35,7 @@ impl Calls {
     /// Counts a call, which fails where it is to.
     pub(crate) fn begin(&mut self) -> Result<(), Failed>
         ensures passes { OkIff result (MayPass self.old) tt }
-        ensures next { NextCall self.old self.new result }
+        ensures next { NextCall self.old self.new }
         ensures cause { HasCause self.old.faults self.new.faults result }
     {
         let call = self.call;
@@ -49,8 +49,7 @@ impl Calls {
 
     /// Counts a fault of a call that had begun.
     pub(crate) fn fail(&mut self) -> Failed
-        ensures rose { FaultsRose self.old.faults self.new.faults }
-        ensures later { self.old.faults ≤ self.new.faults }
+        ensures counted { self.new.faults ≡ one_more self.old.faults }
         ensures call { self.new.call ≡ self.old.call }
         ensures failing { self.new.failing ≡ self.old.failing }
     {

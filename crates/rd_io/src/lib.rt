@@ -3,14 +3,14 @@
 //! [`read_all`] takes a source to its end, and [`write_all`] gives a sink a whole text.
 #![tactic(auto)]
 
-pub mod adapters;
+mod adapters;
 mod calls;
-pub mod memory_sink;
-pub mod memory_source;
-pub mod reading;
-pub mod sink;
-pub mod source;
-pub mod writing;
+mod memory_sink;
+mod memory_source;
+mod reading;
+mod sink;
+mod source;
+mod writing;
 
 pub use adapters::{ReadSource, WriteSink};
 pub use memory_sink::{MemorySink, SureSink};

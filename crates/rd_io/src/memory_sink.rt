@@ -16,14 +16,15 @@ fn copy_at(bytes: &[u8], out: &mut [u8], at: usize) -> usize
     requires { at ≤ length out.old }
     ensures count { result ≡ min (length bytes.now) (length out.old - at) }
     ensures bytes { take (at + result) out.new ≡ take at out.old ++ take result bytes.now }
+    ensures behind { drop (at + result) out.new ≡ drop (at + result) out.old }
 {
     let count = bytes.len().min(out.len() - at);
     out[at..at + count].copy_from_slice(&bytes[..count]);
     count
 }
 
-/// A sink into a slice, which fails only where the slice is full. Contracts see the bytes written, the room that is left
-/// and the count of faults.
+/// A sink into a slice, which fails only where the slice is full. Contracts see the bytes written, those
+/// behind them in the slice, and the count of faults.
 #[derive(Drop)]
 pub struct SureSink<'a> {
     out: &'a mut [u8],
@@ -34,7 +35,7 @@ pub struct SureSink<'a> {
 impl<'a> Model for SureSink<'a> {
     ghost Value = { Filled };
 
-    ghost view = { λ s. record { written = take s.at s.out.now; room = length s.out.now - s.at; faults = s.faults } };
+    ghost view = { λ s. record { written = take s.at s.out.now; behind = drop s.at s.out.now; faults = s.faults } };
 
     ghost invariant = { λ s. s.at ≤ length s.out.now };
 }
@@ -42,7 +43,7 @@ impl<'a> Model for SureSink<'a> {
 impl<'a> SureSink<'a> {
     /// A sink that writes to the front of `out`.
     pub fn new(out: &'a mut [u8]) -> SureSink<'a>
-        ensures { result ≡ record { written = []; room = length out.old; faults = 0 } }
+        ensures { result ≡ record { written = []; behind = out.old; faults = 0 } }
     {
         SureSink {
             out,
@@ -55,7 +56,7 @@ impl<'a> SureSink<'a> {
     pub fn written(&self) -> usize
         ensures { result ≡ length self.now.written }
     {
-        self.at
+        self.bytes().len()
     }
 
     fn bytes(&self) -> &[u8]
@@ -77,7 +78,7 @@ impl<'a> Sink for SureSink<'a> {
         ensures some { IfOk result (λ n. 0 < length piece.now → 0 < n) }
         ensures bytes { WriteAppends (Some self.old.written) (Some self.new.written) result piece.now }
         ensures cause { HasCause self.old.faults self.new.faults result }
-        ensures answer { Fills ⊤ piece.now self.old.room self.new.room result }
+        ensures answer { Fills ⊤ piece.now self.old.behind self.new.behind result }
     {
         let count = copy_at(piece, self.out, self.at);
         if count == 0 && !piece.is_empty() {
@@ -90,7 +91,7 @@ impl<'a> Sink for SureSink<'a> {
 }
 
 /// A sink into a slice of which the calls of given numbers fail, counted from 0, and those for which the slice has no
-/// room. Contracts see the bytes written, the room that is left, and the calls: the number of the next one, those
+/// room. Contracts see the bytes written, those behind them in the slice, and the calls: the number of the next one, those
 /// numbers and the count of faults.
 #[derive(Drop)]
 pub struct MemorySink<'a> {
@@ -101,13 +102,17 @@ pub struct MemorySink<'a> {
 impl<'a> Model for MemorySink<'a> {
     ghost Value = { Taken };
 
-    ghost view = { λ s. record { written = s.out.written; room = s.out.room; calls = s.calls } };
+    ghost view = { λ s. record { written = s.out.written; behind = s.out.behind; calls = s.calls } };
 }
 
 impl<'a> MemorySink<'a> {
     /// A sink that writes to the front of `out`, and of which the calls numbered in `failing` fail.
     pub fn new(out: &'a mut [u8], failing: Vec<u64>) -> MemorySink<'a>
-        ensures { result ≡ record { written = []; room = length out.old; calls = first_call failing.items } }
+        ensures { result ≡ record {
+          written = [];
+          behind = out.old;
+          calls = first_call failing.items;
+        } }
     {
         MemorySink {
             out: SureSink::new(out),
@@ -135,8 +140,8 @@ impl<'a> Sink for MemorySink<'a> {
         ensures some { IfOk result (λ n. 0 < length piece.now → 0 < n) }
         ensures bytes { WriteAppends (Some self.old.written) (Some self.new.written) result piece.now }
         ensures cause { HasCause self.old.calls.faults self.new.calls.faults result }
-        ensures answer { Fills (MayPass self.old.calls) piece.now self.old.room self.new.room result }
-        ensures call { NextCall self.old.calls self.new.calls result }
+        ensures answer { Fills (MayPass self.old.calls) piece.now self.old.behind self.new.behind result }
+        ensures call { NextCall self.old.calls self.new.calls }
     {
         self.calls.begin()?;
         match self.out.write(piece) {

@@ -35,7 +35,7 @@ impl SureSource {
 }
 
 /// Copies as many of the bytes to the front of `buf` as it has room for, and says how many.
-fn copy_front(bytes: &[u8], buf: &mut [u8]) -> usize
+fn copy_prefix(bytes: &[u8], buf: &mut [u8]) -> usize
     ensures count { result ≡ min (length buf.old) (length bytes.now) }
     ensures bytes { take result buf.new ≡ take result bytes.now }
 {
@@ -58,7 +58,7 @@ impl Source for SureSource {
         ensures cause { HasCause 0 0 result }
         ensures answer { IsOkAnd result (λ n. n ≡ min (length buf.new) (length self.old)) }
     {
-        let count = copy_front(&self.bytes[self.at..], buf);
+        let count = copy_prefix(&self.bytes[self.at..], buf);
         self.at += count;
         Ok(count)
     }
@@ -102,8 +102,9 @@ impl Source for MemorySource {
         ensures bound { ReadsAtMost result buf.new }
         ensures bytes { ReadConsumes (Some self.old.left) (Some self.new.left) result buf.new }
         ensures cause { HasCause self.old.calls.faults self.new.calls.faults result }
-        ensures answer { OkIff result (MayPass self.old.calls) (min (length buf.new) (length self.old.left)) }
-        ensures call { NextCall self.old.calls self.new.calls result }
+        ensures answer { OkIff result (MayPass self.old.calls)
+            (min (length buf.new) (length self.old.left)) }
+        ensures call { NextCall self.old.calls self.new.calls }
     {
         self.calls.begin()?;
         self.bytes.read(buf)

@@ -2,7 +2,7 @@
 
 ghost use Rattle.std.specs.Prelude.{ℕ, List, ◌≡◌, ◌≤◌, ◌<◌, ◌+◌, ◌-◌, ◌++◌, length, IfOk, IsErrOf, Bool, false, IsTrue, vec_len, []};
 ghost use Rattle.std.specs.Io.KnownBytes.{Consumes, IsAtEnd};
-ghost use Rattle.rd_io.specs.Causes.{HasCauseAt, TakesTo, Takes};
+ghost use Rattle.rd_io.specs.Causes.{HasReadCause, TakesTo, Takes};
 
 use crate::source::{Failed, Source};
 use std::alloc::{AllocError, Global};
@@ -39,7 +39,7 @@ impl From<Failed> for ReadAll {
 }
 
 // So many bytes are asked for at a time.
-const PIECE: usize = 16384;
+const PIECE: usize = 65_536;
 
 /// Reads some of the bytes that are left onto the end of those read so far, until there are `limit + 1`, and tells
 /// whether there may be more. `buf` is room to read into.
@@ -52,31 +52,38 @@ fn read_some<S: Source>(
     requires room { vec_len bytes.old ≤ limit }
     requires limit { limit < usize.MAX }
     requires buf { 0 < length buf.old }
-    ensures more { IfOk result (λ more. (taken : List ℕ) × (bytes.new.items ≡ bytes.old.items ++ taken)
+    ensures more { IfOk result (λ more. (taken : List ℕ)
+        × (bytes.new.items ≡ bytes.old.items ++ taken)
         × Consumes (S.left source.old) (S.left source.new) taken
         × (length taken + vec_len bytes.old ≤ limit + 1)
         × (IsTrue more → 0 < length taken)
         × (more ≡ false → IsAtEnd (S.left source.new) × (taken ≡ []))) }
-    ensures fault { IsErrOf result ReadAll.Fault → Takes (S.left source.old) (S.left source.new) 0 × (bytes.new.items ≡ bytes.old.items) }
+    ensures fault { IsErrOf result ReadAll.Fault → Takes (S.left source.old) (S.left source.new) 0 }
     ensures not_large { IsErrOf result ReadAll.TooLarge → ⊥ }
-    ensures memory { IsErrOf result ReadAll.NoMemory → TakesTo (S.left source.old) (S.left source.new) (limit + 1 - vec_len bytes.old) }
-    ensures cause { HasCauseAt (IsErrOf result ReadAll.Fault) (S.faults source.old) (S.faults source.new) }
+    ensures memory { IsErrOf result ReadAll.NoMemory
+        → Takes (S.left source.old) (S.left source.new) 0 }
+    ensures cause { HasReadCause (S.faults source.old) (S.faults source.new) result }
 {
     let room = (limit - bytes.len()).min(buf.len() - 1) + 1;
+    bytes.reserve(room)?;
     let n = source.read(&mut buf[..room])?;
     bytes.extend_from_slice(&buf[..n])?;
     Ok(0 < n)
 }
 
-/// Reads all bytes that are left, where these are at most `limit`. After a refusal the bytes that were taken are gone.
+/// Reads all bytes that are left, where these are at most `limit`. After a refusal the bytes that were taken are gone: `limit + 1`
+/// of them where there are too many, and else at most `limit`.
 pub fn read_all<S: Source>(alloc: Global, source: &mut S, limit: usize) -> Result<Vec<u8>, ReadAll>
     requires { limit < usize.MAX }
     ensures all { IfOk result (λ v. Consumes (S.left source.old) (S.left source.new) v.items
         × IsAtEnd (S.left source.new) × (vec_len v ≤ limit)) }
-    ensures too_large { IsErrOf result ReadAll.TooLarge → Takes (S.left source.old) (S.left source.new) (limit + 1) }
-    ensures fault { IsErrOf result ReadAll.Fault → TakesTo (S.left source.old) (S.left source.new) limit }
-    ensures memory { IsErrOf result ReadAll.NoMemory → TakesTo (S.left source.old) (S.left source.new) (limit + 1) }
-    ensures cause { HasCauseAt (IsErrOf result ReadAll.Fault) (S.faults source.old) (S.faults source.new) }
+    ensures too_large { IsErrOf result ReadAll.TooLarge
+        → Takes (S.left source.old) (S.left source.new) (limit + 1) }
+    ensures fault { IsErrOf result ReadAll.Fault
+        → TakesTo (S.left source.old) (S.left source.new) limit }
+    ensures memory { IsErrOf result ReadAll.NoMemory
+        → TakesTo (S.left source.old) (S.left source.new) limit }
+    ensures cause { HasReadCause (S.faults source.old) (S.faults source.new) result }
 {
     let mut buf = [0u8; PIECE];
     let mut bytes = Vec::new(alloc);

@@ -7,7 +7,7 @@ ghost use Rattle.rd_io.specs.Causes.{HasCause, GainsPart};
 use crate::sink::Sink;
 use crate::source::Failed;
 
-/// Writes all of the bytes. After `Failed` a front of them was written.
+/// Writes all of the bytes. After `Failed` a prefix of them was written.
 pub fn write_all<O: Sink>(sink: &mut O, bytes: &[u8]) -> Result<(), Failed>
     ensures all { OnOk result (Appends (O.written sink.old) (O.written sink.new) bytes.now) }
     ensures part { OnErr result (GainsPart (O.written sink.old) (O.written sink.new) bytes.now) }

@@ -1,2 +1,3 @@
-pub mod Leaves
+pub mod Internal
 pub mod Items
+pub mod Leaves

@@ -19,7 +19,8 @@ pub struct Item<A: Ledger> {
 }
 
 impl<A: Ledger> Model for Item<A> {
-    ghost use Rattle.rd_item.specs.Items.{Made, IsShown};
+    ghost use Rattle.rd_item.specs.Items.{Made};
+    ghost use Rattle.rd_item.specs.Internal.Shown.{IsShown};
 
     ghost Value = { Made };
 
@@ -43,7 +44,10 @@ impl<A: Ledger> Item<A> {
     ) -> Item<A>
         requires some { has_none visible ≡ false }
         requires within { IsWithin visible shape.outer }
-        ensures made { result ≡ record { leaf = record { owner = owner; part = part; visible = visible; shape = shape; color = color; hits = hits }; made_at = made_at } }
+        ensures made { result ≡ record {
+          leaf = record { owner = owner; part = part; visible = visible; shape = shape; color = color; hits = hits };
+          made_at = made_at;
+        } }
         ensures cost { steps.new ≡ steps.old + 1 }
     {
         steps.tick();

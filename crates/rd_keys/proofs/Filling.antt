@@ -19,12 +19,14 @@ module _ {T : Type 0} where
   same_bit h None k = refl
   same_bit h (Some p) k = k p refl
 
-  pub live_seen : (h : Slab T) (slots : List inner.Place) → ((s p : ℕ) → held_place (place_at slots s).state ≡ Some p → IsSome (get h p)) → count_by (λ y. is_some y.holds) (seen_slots h slots) ≡ count_by is_held slots
+  pub live_seen : (h : Slab T) (slots : List inner.Place) → ((s p : ℕ) → held_place (place_at slots s).state ≡ Some p → IsSome (get h p))
+      → count_by (λ y. is_some y.holds) (seen_slots h slots) ≡ count_by is_held slots
   live_seen h [] k = refl
   live_seen h (y ∷ ys) k =
       let r : count_by (λ y. is_some y.holds) (seen_slots h ys) ≡ count_by is_held ys = live_seen h ys (λ s p e. k (suc s) p e) in
       let e : is_some (held_at h (held_place y.state)) ≡ is_some (held_place y.state) = same_bit h (held_place y.state) (λ p e. k 0 p e) in
-      let a : count_by (λ y. is_some y.holds) (seen_slots h (y ∷ ys)) ≡ bit (is_some (held_at h (held_place y.state))) + count_by (λ y. is_some y.holds) (seen_slots h ys) = sum_by-cons (λ y. bit (is_some y.holds)) (seen_slot h y) (seen_slots h ys) in
+      let a : count_by (λ y. is_some y.holds) (seen_slots h (y ∷ ys)) ≡ bit (is_some (held_at h (held_place y.state))) + count_by (λ y. is_some y.holds)
+      (seen_slots h ys) = sum_by-cons (λ y. bit (is_some y.holds)) (seen_slot h y) (seen_slots h ys) in
       let b : count_by is_held (y ∷ ys) ≡ bit (is_some (held_place y.state)) + count_by is_held ys = sum_by-cons (λ s. bit (is_held s)) y ys in
       a ∙ (rw (e, r) refl ∙ sym b)
 
@@ -32,8 +34,10 @@ module _ {T : Type 0} where
   retired_seen h [] = refl
   retired_seen h (y ∷ ys) =
       let r : count_by (λ y. y.retired) (seen_slots h ys) ≡ count_by (λ s. is_retired s.state) ys = retired_seen h ys in
-      let a : count_by (λ y. y.retired) (seen_slots h (y ∷ ys)) ≡ bit (is_retired y.state) + count_by (λ y. y.retired) (seen_slots h ys) = sum_by-cons (λ y. bit y.retired) (seen_slot h y) (seen_slots h ys) in
-      let b : count_by (λ s. is_retired s.state) (y ∷ ys) ≡ bit (is_retired y.state) + count_by (λ s. is_retired s.state) ys = sum_by-cons (λ s. bit (is_retired s.state)) y ys in
+      let a : count_by (λ y. y.retired) (seen_slots h (y ∷ ys)) ≡ bit (is_retired y.state) + count_by (λ y. y.retired) (seen_slots h ys) =
+      sum_by-cons (λ y. bit y.retired) (seen_slot h y) (seen_slots h ys) in
+      let b : count_by (λ s. is_retired s.state) (y ∷ ys) ≡ bit (is_retired y.state) + count_by (λ s. is_retired s.state) ys =
+      sum_by-cons (λ s. bit (is_retired s.state)) y ys in
       a ∙ (rw r refl ∙ sym b)
 
   -- a slot that was taken, and has no value yet
@@ -54,7 +58,8 @@ module _ {T : Type 0} where
     pub taken_made : s < length slots
     pub taken_out : (i : ℕ) → i < length free → slice_index free i ≢ s
 
-  pub filled : (h1 h2 : Slab T) (slots : List inner.Place) (free : List ℕ) (room first limit live retired s p : ℕ) (x : T) → Ready h1 slots free room first limit live retired s →
+  pub filled : (h1 h2 : Slab T) (slots : List inner.Place) (free : List ℕ) (room first limit live retired s p : ℕ) (x : T)
+      → Ready h1 slots free room first limit live retired s →
       Updates h1 h2 p (Some x) → get h1 p ≡ None →
       IsLaidOut h2 (slice_set slots s (record { generation = (place_at slots s).generation; state = Held p })) free room first limit (live + 1) retired
   filled h1 h2 slots free room first limit live retired s p x r u none =
@@ -62,9 +67,11 @@ module _ {T : Type 0} where
       let new : List inner.Place = slice_set slots s n in
       let len : length new ≡ length slots = length-set slots s n in
       let off : (q : ℕ) → IsSome (get h1 q) → q ≢ p = λ q i e. never_some (ap (get h1) e ∙ none) i in
-      let c1 : count_by is_held new + bit (is_held (place_at slots s)) ≡ count_by is_held slots + 1 = sum_by-set (λ y. bit (is_held y)) slots s n unmade_place r.taken_made in
+      let c1 : count_by is_held new + bit (is_held (place_at slots s)) ≡ count_by is_held slots + 1 =
+      sum_by-set (λ y. bit (is_held y)) slots s n unmade_place r.taken_made in
       let z1 : bit (is_held (place_at slots s)) ≡ 0 = ap (λ t. bit (is_some (held_place t))) r.taken_free in
-      let c2 : count_by (λ y. is_retired y.state) new + bit (is_retired (place_at slots s).state) ≡ count_by (λ y. is_retired y.state) slots + 0 = sum_by-set (λ y. bit (is_retired y.state)) slots s n unmade_place r.taken_made in
+      let c2 : count_by (λ y. is_retired y.state) new + bit (is_retired (place_at slots s).state) ≡ count_by (λ y. is_retired y.state) slots + 0 =
+      sum_by-set (λ y. bit (is_retired y.state)) slots s n unmade_place r.taken_made in
       let z2 : bit (is_retired (place_at slots s).state) ≡ 0 = ap (λ t. bit (is_retired t)) r.taken_free in
       record {
         small = r.small;
@@ -74,7 +81,8 @@ module _ {T : Type 0} where
         is_free = λ i l. ap (λ y. y.state) (get_or-set_other slots s (slice_index free i) n unmade_place (r.taken_out i l)) ∙ r.is_free i l;
         free_apart = r.free_apart;
         holding = λ t q e. elim (at_set slots s n unmade_place t r.taken_made) [
-          | inl a ↦ let f : Some p ≡ Some q = sym (ap (λ y. held_place y.state) a.1) ∙ e in let g : p ≡ q = cc (f) in ap is_some (ap (get h2) (sym g) ∙ u.changed)
+          | inl a ↦ let f : Some p ≡ Some q = sym (ap (λ y. held_place y.state) a.1) ∙ e in let g : p ≡ q = cc (f) in
+              ap is_some (ap (get h2) (sym g) ∙ u.changed)
           | inr a ↦
               let f : held_place (place_at slots t).state ≡ Some q = sym (ap (λ y. held_place y.state) a.1) ∙ e in
               let i : IsSome (get h1 q) = r.holding t q f in

@@ -27,7 +27,8 @@ held_busy : (t : State) (p : ℕ) → held_place t ≡ Some p → t ≡ Free →
 held_busy t p e f = cc (sym (ap held_place f) ∙ e)
 
 module _ {T : Type 0} (h1 h2 : Slab T) (slots : List inner.Place) (free : List ℕ) (room first limit live retired s p g : ℕ) (t : State)
-    (x : IsLaidOut h1 slots free room first limit live retired) (here : held_place (place_at slots s).state ≡ Some p) (u : Updates h1 h2 p None) (none : held_place t ≡ None) (later : first ≤ g) where
+    (x : IsLaidOut h1 slots free room first limit live retired) (here : held_place (place_at slots s).state ≡ Some p) (u : Updates h1 h2 p None)
+    (none : held_place t ≡ None) (later : first ≤ g) where
   made : s < length slots
   made = held_made slots s p here
 
@@ -36,7 +37,8 @@ module _ {T : Type 0} (h1 h2 : Slab T) (slots : List inner.Place) (free : List �
 
   live_less : live ≡ count_by is_held (slice_set slots s (placed g t)) + 1
   live_less =
-      let c : count_by is_held (slice_set slots s (placed g t)) + bit (is_held (place_at slots s)) ≡ count_by is_held slots + bit (is_some (held_place t)) = sum_by-set (λ y. bit (is_held y)) slots s (placed g t) unmade_place made in
+      let c : count_by is_held (slice_set slots s (placed g t)) + bit (is_held (place_at slots s)) ≡ count_by is_held slots + bit (is_some (held_place t)) =
+      sum_by-set (λ y. bit (is_held y)) slots s (placed g t) unmade_place made in
       let a : bit (is_held (place_at slots s)) ≡ 1 = ap (λ o. bit (is_some o)) here in
       let b : bit (is_some (held_place t)) ≡ 0 = ap (λ o. bit (is_some o)) none in
       omega (arith, c, a, b, x.live_is)
@@ -53,7 +55,8 @@ module _ {T : Type 0} (h1 h2 : Slab T) (slots : List inner.Place) (free : List �
 
   retired_more : count_by (λ y. is_retired y.state) (slice_set slots s (placed g t)) ≡ retired + bit (is_retired t)
   retired_more =
-      let c : count_by (λ y. is_retired y.state) (slice_set slots s (placed g t)) + bit (is_retired (place_at slots s).state) ≡ count_by (λ y. is_retired y.state) slots + bit (is_retired t) = sum_by-set (λ y. bit (is_retired y.state)) slots s (placed g t) unmade_place made in
+      let c : count_by (λ y. is_retired y.state) (slice_set slots s (placed g t)) + bit (is_retired (place_at slots s).state)
+      ≡ count_by (λ y. is_retired y.state) slots + bit (is_retired t) = sum_by-set (λ y. bit (is_retired y.state)) slots s (placed g t) unmade_place made in
       let a : bit (is_retired (place_at slots s).state) ≡ 0 = ap bit never in
       omega (arith, c, a, x.retired_is)
 
@@ -104,7 +107,8 @@ module _ {T : Type 0} (h1 h2 : Slab T) (slots : List inner.Place) (free : List �
       let n : length (free ++ s ∷ []) ≡ length free + 1 = length-append free (s ∷ []) in
       let last : slice_index (free ++ s ∷ []) (length free) ≡ s = get_or-append_seam free s [] 0 in
       let same : (i : ℕ) → i < length free → slice_index (free ++ s ∷ []) i ≡ slice_index free i = λ i l. get_or_append_left free (s ∷ []) 0 i l in
-      let which : (i : ℕ) → i < length (free ++ s ∷ []) → ((i < length free) × (slice_index (free ++ s ∷ []) i ≡ slice_index free i)) ⊎ ((i ≡ length free) × (slice_index (free ++ s ∷ []) i ≡ s)) =
+      let which : (i : ℕ) → i < length (free ++ s ∷ []) → ((i < length free) × (slice_index (free ++ s ∷ []) i ≡ slice_index free i))
+      ⊎ ((i ≡ length free) × (slice_index (free ++ s ∷ []) i ≡ s)) =
       λ i l. elim (cases_lt i (length free)) [
         | inl b ↦ inl (b, same i b)
         | inr b ↦ let e : i ≡ length free = omega (arith, n) in inr (e, ap (slice_index (free ++ s ∷ [])) e ∙ last)
@@ -134,10 +138,12 @@ module _ {T : Type 0} (h1 h2 : Slab T) (slots : List inner.Place) (free : List �
       }
 
   -- what is seen
-  pub seen_left : seen_slots h2 (slice_set slots s (placed g t)) ≡ slice_set (seen_slots h1 slots) s (record { generation = g; holds = None; retired = is_retired t })
+  pub seen_left : seen_slots h2 (slice_set slots s (placed g t))
+      ≡ slice_set (seen_slots h1 slots) s (record { generation = g; holds = None; retired = is_retired t })
   seen_left =
       let of : Option ℕ → Slot T = λ o. record { generation = g; holds = seen_held o; retired = is_retired t } in
-      seen_change h1 h2 slots s p None (placed g t) u (λ j q n e f. n (x.apart j s p (subst (λ y. held_place (place_at slots j).state ≡ Some y) f e) here)) ∙ ap (slice_set (seen_slots h1 slots) s) (ap of none) where
+      seen_change h1 h2 slots s p None (placed g t) u (λ j q n e f. n (x.apart j s p (subst (λ y. held_place (place_at slots j).state ≡ Some y) f e) here))
+      ∙ ap (slice_set (seen_slots h1 slots) s) (ap of none) where
         seen_held : Option ℕ → Option T
         seen_held None = None
         seen_held (Some q) = get h2 q

@@ -1,6 +1,6 @@
 //! The slots and generations of keys, by hand.
 
-use super::*;
+use crate::*;
 
 #[test]
 fn the_last_generation_is_retired(rt: HostRuntime) {
@@ -35,7 +35,8 @@ fn a_slot_gives_its_next_key(rt: HostRuntime) {
         panic!(&rt; "no memory")
     };
     assert_eq!(rt; second.slot, first.slot);
-    assert_eq!(rt; second.generation, 1);
+    assert_eq!(rt; second.generation(), 1);
+    assert!(rt; second.is(Key::new(first.slot(), 1)) && !second.is(first));
     assert!(rt; arena.get(first).is_none());
     assert_eq!(rt; arena.get(second).copied(), Some(2));
     if let Some(value) = arena.get_mut(second) {

@@ -1,5 +1,6 @@
+-- Changes of style. What a change touches is this project's own choice.
 use Rattle.std.specs.Prelude.{Bool, ◌&&◌, ◌||◌, None, is_some, unwrap_or}
-use Rattle.rd_geom.specs.declared.color.Color.{Color}
+pub use Rattle.rd_geom.specs.Colors.{black, transparent}
 use Rattle.rd_style.specs.declared.styles.Style.{Style}
 use Rattle.rd_style.specs.declared.styles.StyleChange.{StyleChange}
 use Rattle.rd_style.specs.declared.kinds.Position.TheVariants as position
@@ -10,15 +11,7 @@ use Rattle.rd_style.specs.declared.kinds.Visibility.TheVariants as visibility
 use Rattle.rd_style.specs.declared.kinds.Pointer.TheVariants as pointer
 use Rattle.rd_style.specs.Classes.{clips}
 
--- CSS Color 3 section 4.1: the keyword black
-abbrev pub black : Color
-black = record { r = 0; g = 0; b = 0; a = 255 }
-
--- CSS Color 3 section 4.1: the keyword transparent
-abbrev pub transparent : Color
-transparent = record { r = 0; g = 0; b = 0; a = 0 }
-
--- the initial values of CSS 2.2's and CSS Color 3's property tables; those of borders, content and outlines are this project's own choice
+-- the initial values of CSS 2.2's and CSS Color 3's property tables; a border and an outline of no width, and no content
 abbrev pub plain : Style
 plain = record {
   position = position.Static;
@@ -37,7 +30,7 @@ plain = record {
   pointer = pointer.Auto;
 }
 
--- this project's own choice: a style with the named members replaced
+-- a style with the named members replaced
 abbrev pub changed : Style → StyleChange → Style
 changed s c = record {
   position = unwrap_or c.position s.position;
@@ -56,10 +49,39 @@ changed s c = record {
   pointer = unwrap_or c.pointer s.pointer;
 }
 
--- this project's own choice: the members from which classes, levels and clips of a box and of those below it follow
-abbrev pub names_class : StyleChange → Bool
-names_class c = is_some c.position || is_some c.z || is_some c.opacity || is_some c.overflow || is_some c.display || is_some c.float
+-- the change that names no member
+abbrev pub nothing_named : StyleChange
+nothing_named = record {
+  position = None;
+  z = None;
+  opacity = None;
+  overflow = None;
+  display = None;
+  float = None;
+  background = None;
+  border_width = None;
+  border_color = None;
+  content = None;
+  outline_width = None;
+  outline_color = None;
+  visibility = None;
+  pointer = None;
+}
 
--- this project's own choice: a change touches the whole subtree where it names one of these, or the border widths of a box that clips
+-- Is a member named from which the class, the level or the clip of the box and of those below it follow?
+abbrev pub names_class : StyleChange → Bool
+names_class c =
+    is_some c.position || is_some c.z || is_some c.opacity
+    || is_some c.overflow || is_some c.display || is_some c.float
+
+-- Is a member named at all?
+abbrev pub names_any : StyleChange → Bool
+names_any c =
+    names_class c || is_some c.background || is_some c.border_width || is_some c.border_color
+    || is_some c.content
+    || is_some c.outline_width || is_some c.outline_color || is_some c.visibility
+    || is_some c.pointer
+
+-- Does the change touch the whole subtree? So it does where a class may follow, and where the borders of a box that clips change.
 abbrev pub whole : Style → Bool → StyleChange → Bool
 whole s root c = names_class c || (is_some c.border_width && clips s root)

@@ -1,49 +1,49 @@
 //! What CSS makes of one style.
 
 ghost use Rattle.std.specs.Prelude.{◌≡◌};
-ghost use Rattle.rd_style.specs.Classes as boxes;
+ghost use Rattle.rd_style.specs.Classes as classes;
 
 use crate::kinds::{Class, Display, Floating, Overflow, Position};
 use crate::styles::Style;
 
 /// Is its position relative, absolute or fixed (CSS 2.2 section 9.3.2)?
 pub fn is_positioned(s: &Style) -> bool
-    ensures { result ≡ boxes.positioned s.now }
+    ensures { result ≡ classes.positioned s.now }
 {
     !matches!(s.position, Position::Static)
 }
 
 /// Is its position absolute or fixed (CSS 2.2 section 9.3.1)?
 fn is_out_of_flow(s: &Style) -> bool
-    ensures { result ≡ boxes.out_of_flow s.now }
+    ensures { result ≡ classes.out_of_flow s.now }
 {
     matches!(s.position, Position::Absolute | Position::Fixed)
 }
 
 /// Does it float (CSS 2.2 section 9.7)?
 fn is_floating(s: &Style, is_root: bool) -> bool
-    ensures { result ≡ boxes.floats s.now is_root }
+    ensures { result ≡ classes.floats s.now is_root }
 {
     !matches!(s.float, Floating::No) && !is_out_of_flow(s) && !is_root
 }
 
 /// Is it laid out as a block, inside or outside the flow (CSS 2.2 section 9.7)?
 pub fn blocky(s: &Style, is_root: bool) -> bool
-    ensures { result ≡ boxes.blocky s.now is_root }
+    ensures { result ≡ classes.blocky s.now is_root }
 {
     is_root || !matches!(s.display, Display::Inline) || is_floating(s, is_root) || is_out_of_flow(s)
 }
 
 /// Does it clip what is in it (CSS 2.2 section 11.1.1)? The root never does: its overflow goes to the viewport.
 pub fn clips(s: &Style, is_root: bool) -> bool
-    ensures { result ≡ boxes.clips s.now is_root }
+    ensures { result ≡ classes.clips s.now is_root }
 {
     !is_root && blocky(s, is_root) && !matches!(s.overflow, Overflow::Visible)
 }
 
 /// How it takes part in painting (CSS 2.2 Appendix E.2).
 pub fn class_of(s: &Style, is_root: bool) -> Class
-    ensures { result ≡ boxes.class s.now is_root }
+    ensures { result ≡ classes.class s.now is_root }
 {
     if !is_root && (is_positioned(s) || s.opacity < 255) {
         Class::Layer
@@ -63,7 +63,7 @@ pub fn class_of(s: &Style, is_root: bool) -> Class
 /// The used z-index of a positioned or translucent box (CSS 2.2 section 9.9.1, CSS Color 3 section 3.2); the root's is 0.
 /// None is auto, or that the box is neither positioned nor translucent.
 pub fn level(s: &Style, is_root: bool) -> Option<i32>
-    ensures { result ≡ boxes.level s.now is_root }
+    ensures { result ≡ classes.level s.now is_root }
 {
     if is_root {
         return Some(0);
@@ -76,7 +76,7 @@ pub fn level(s: &Style, is_root: bool) -> Option<i32>
 
 /// The z-index of a positioned box, where auto is 0 for a translucent and for a fixed one.
 fn used_z(s: &Style) -> Option<i32>
-    ensures { result ≡ boxes.used_z s.now s.now.z }
+    ensures { result ≡ classes.used_z s.now s.now.z }
 {
     match s.z {
         Some(z) => Some(z),
@@ -87,7 +87,7 @@ fn used_z(s: &Style) -> Option<i32>
 
 /// Does it make a stacking context (CSS 2.2 section 9.9.1, CSS Color 3 section 3.2)?
 pub fn real(s: &Style, is_root: bool) -> bool
-    ensures { result ≡ boxes.real s.now is_root }
+    ensures { result ≡ classes.real s.now is_root }
 {
     level(s, is_root).is_some()
 }

@@ -1,49 +1,57 @@
 //! The limits of widths and rectangles.
 
-ghost use Rattle.std.specs.Prelude.{◌↔◌, IsTrue, pos};
-ghost use Rattle.rd_style.specs.Limits.{Fits, FitsRect, IsBetween, farthest_left};
+ghost use Rattle.std.specs.Prelude.{◌≡◌};
+ghost use Rattle.rd_style.specs.Limits as limits;
 
 use crate::styles::Style;
 use rd_geom::Rect;
 
-const WIDEST: u16 = 1000;
+/// The widest border or outline, in canvas pixels.
+pub const MAX_LINE_WIDTH: u16 = 1000;
 
-const FARTHEST: i32 = 1_000_000;
+/// How far from the canvas's corner a box may begin, to either side, in canvas pixels.
+pub const MAX_COORDINATE: i32 = 1_000_000;
 
-/// Is every border and outline width at most 1,000 pixels?
+/// The largest width and height of a box, in canvas pixels.
+pub const MAX_EXTENT: i32 = 1_000_000;
+
+/// Is every border and outline width at most `MAX_LINE_WIDTH`?
+#[tactic(auto, unfolding(crate::specs::Limits::fits))]
 pub fn fits(s: &Style) -> bool
-    ensures { IsTrue result ↔ Fits s.now }
+    ensures { result ≡ limits.fits s.now }
 {
     let b = s.border_width;
-    b.top <= WIDEST
-        && b.right <= WIDEST
-        && b.bottom <= WIDEST
-        && b.left <= WIDEST
-        && s.outline_width <= WIDEST
+    b.top <= MAX_LINE_WIDTH
+        && b.right <= MAX_LINE_WIDTH
+        && b.bottom <= MAX_LINE_WIDTH
+        && b.left <= MAX_LINE_WIDTH
+        && s.outline_width <= MAX_LINE_WIDTH
 }
 
-/// Are x and y from -1,000,000 to 1,000,000, and w and h at most 1,000,000?
+/// Are x and y from `-MAX_COORDINATE` to `MAX_COORDINATE`, and w and h at most `MAX_EXTENT`?
+#[tactic(auto, unfolding(crate::specs::Limits::fits_rect))]
 pub fn fits_rect(r: Rect) -> bool
-    ensures { IsTrue result ↔ FitsRect r }
+    ensures { result ≡ limits.fits_rect r }
 {
     starts_near(r) && is_small(r)
 }
 
-/// Are x and y within reach of the canvas's corner?
+/// Does it begin within reach of the canvas's corner?
 fn starts_near(r: Rect) -> bool
-    ensures { IsTrue result ↔ (IsBetween farthest_left r.x (pos 1000000) × IsBetween farthest_left r.y (pos 1000000)) }
+    ensures { result ≡ limits.starts_near r }
 {
-    is_between(-FARTHEST, r.x(), FARTHEST) && is_between(-FARTHEST, r.y(), FARTHEST)
+    let least = -MAX_COORDINATE;
+    is_between(least, r.x(), MAX_COORDINATE) && is_between(least, r.y(), MAX_COORDINATE)
 }
 
 fn is_small(r: Rect) -> bool
-    ensures { IsTrue result ↔ (IsBetween (pos 0) r.w (pos 1000000) × IsBetween (pos 0) r.h (pos 1000000)) }
+    ensures { result ≡ limits.is_small r }
 {
-    is_between(0, r.w(), FARTHEST) && is_between(0, r.h(), FARTHEST)
+    is_between(0, r.w(), MAX_EXTENT) && is_between(0, r.h(), MAX_EXTENT)
 }
 
 fn is_between(low: i32, v: i32, high: i32) -> bool
-    ensures { IsTrue result ↔ IsBetween low v high }
+    ensures { result ≡ limits.is_between low v high }
 {
     low <= v && v <= high
 }

@@ -49,20 +49,6 @@ pub struct StyleChange {
     pub pointer: Option<Pointer>,
 }
 
-const TRANSPARENT: Color = Color {
-    r: 0,
-    g: 0,
-    b: 0,
-    a: 0,
-};
-
-const BLACK: Color = Color {
-    r: 0,
-    g: 0,
-    b: 0,
-    a: 255,
-};
-
 impl Style {
     /// The style of a box for which nothing is said: every member has its default.
     pub fn plain() -> Style
@@ -75,19 +61,43 @@ impl Style {
             overflow: Overflow::Visible,
             display: Display::Block,
             float: Floating::No,
-            background: TRANSPARENT,
+            background: Color::TRANSPARENT,
             border_width: Sides {
                 top: 0,
                 right: 0,
                 bottom: 0,
                 left: 0,
             },
-            border_color: BLACK,
+            border_color: Color::BLACK,
             content: None,
             outline_width: 0,
-            outline_color: BLACK,
+            outline_color: Color::BLACK,
             visibility: Visibility::Visible,
             pointer: Pointer::Auto,
+        }
+    }
+}
+
+impl StyleChange {
+    /// The change that names no member.
+    pub fn none() -> StyleChange
+        ensures { result ≡ changes.nothing_named }
+    {
+        StyleChange {
+            position: None,
+            z: None,
+            opacity: None,
+            overflow: None,
+            display: None,
+            float: None,
+            background: None,
+            border_width: None,
+            border_color: None,
+            content: None,
+            outline_width: None,
+            outline_color: None,
+            visibility: None,
+            pointer: None,
         }
     }
 }
@@ -131,4 +141,19 @@ fn names_class(c: &StyleChange) -> bool
         || c.overflow.is_some()
         || c.display.is_some()
         || c.float.is_some()
+}
+
+/// Is a member named at all?
+pub fn names_any(c: &StyleChange) -> bool
+    ensures { result ≡ changes.names_any c.now }
+{
+    names_class(c)
+        || c.background.is_some()
+        || c.border_width.is_some()
+        || c.border_color.is_some()
+        || c.content.is_some()
+        || c.outline_width.is_some()
+        || c.outline_color.is_some()
+        || c.visibility.is_some()
+        || c.pointer.is_some()
 }

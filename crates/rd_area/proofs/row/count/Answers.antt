@@ -19,7 +19,8 @@ width-count-requires-clause-to c = (rising_at (pos 0) (pos 4096) c.args.row.now 
 pub overflow_add-count : goal.overflow_add-count
 overflow_add-count c =
     let b = widths_bound (pos 0) (pos 4096) c.args.row.now c.loop-s.s-index (omega (arith, ints)) c.requires in
-    let k : IsSpan (pos 0) (pos 4096) (get_or c.args.row.now c.loop-s.s-index none) = rising_at (pos 0) (pos 4096) c.args.row.now c.loop-s.s-index none (search rules) c.requires in
+    let k : IsSpan (pos 0) (pos 4096) (get_or c.args.row.now c.loop-s.s-index none) = rising_at (pos 0) (pos 4096) c.args.row.now c.loop-s.s-index none
+    (search rules) c.requires in
     omega (arith, ints, b, c.loop-s.invariant, c.width-count.ensures)
 
 pub loop-s-preserved : goal.loop-s-preserved

@@ -1,5 +1,5 @@
 use Rattle.std.proofs.Common.{◌≡◌, drop}
-use Rattle.rd_area.specs.Rows.{row_meets}
+use Rattle.rd_area.specs.Internal.Joining.{row_meets}
 use Rattle.rd_area.proofs.row.meets.Given as goal
 
 abbrev pub invariant-loop-s : goal.invariant-loop-s

@@ -7,5 +7,6 @@ use Rattle.rd_area.proofs.rows.count.Given as goal
 abbrev pub invariant-loop-row : goal.invariant-loop-row
 invariant-loop-row l = record {
   few : l.count ≤ 4097 * l.row-index;
-  so_far : (n : ℕ) → ((y : ℕ) → IsRising (pos 0) (pos n) (get_or (spans_of l.rows) y [])) → l.count ≡ sum_by (λ ss. columns_in ss n) (take l.row-index (spans_of l.rows));
+  so_far : (n : ℕ) → ((y : ℕ) → IsRising (pos 0) (pos n) (get_or (spans_of l.rows) y [])) → l.count
+      ≡ sum_by (λ ss. columns_in ss n) (take l.row-index (spans_of l.rows));
 }

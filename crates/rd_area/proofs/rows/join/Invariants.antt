@@ -1,5 +1,5 @@
 use Rattle.std.proofs.Common.{◌≡◌, ℕ, ◌<◌, ◌≤◌, ◌⊎◌, [], get_or, vec_len}
-use Rattle.rd_area.specs.Rows.{Joins}
+use Rattle.rd_area.specs.Internal.Joining.{Joins}
 use Rattle.rd_area.specs.Internal.Normal.{spans_of}
 use Rattle.rd_area.specs.Internal.Room.{room_at}
 use Rattle.rd_area.proofs.rows.join.Given as goal

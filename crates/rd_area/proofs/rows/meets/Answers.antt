@@ -1,5 +1,5 @@
 use Rattle.std.proofs.Common.{◌<◌, length, rules, IsFalse}
-use Rattle.rd_area.specs.Rows.{row_meets}
+use Rattle.rd_area.specs.Internal.Joining.{row_meets}
 use Rattle.rd_area.proofs.Spans.{meets_more}
 use Rattle.rd_area.proofs.rows.meets.Goals as goal
 

@@ -1,5 +1,5 @@
 use Rattle.std.proofs.Common.{ℕ, ◌<◌, ◌≤◌, [], get_or, IsFalse}
-use Rattle.rd_area.specs.Rows.{row_meets}
+use Rattle.rd_area.specs.Internal.Joining.{row_meets}
 use Rattle.rd_area.specs.Internal.Normal.{spans_of}
 use Rattle.rd_area.proofs.rows.meets.Given as goal
 

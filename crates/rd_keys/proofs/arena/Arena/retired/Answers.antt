@@ -11,4 +11,5 @@ pub returns-clause-together : goal.returns-clause-together
 returns-clause-together g c =
     rw (← c.self.view_is)
     (ap (λ n. n + c.self.inside.retired) (live_seen c.self.inside.held c.self.inside.slots.items c.self.invariant.holding ∙ sym c.self.invariant.live_is)
-    ∙ sym (occupied_seen c.self.inside.held c.self.inside.slots.items c.self.inside.free.items (vec_capacity c.self.inside.free) c.self.inside.first c.self.inside.limit c.self.inside.live c.self.inside.retired c.self.invariant))
+    ∙ sym (occupied_seen c.self.inside.held c.self.inside.slots.items c.self.inside.free.items (vec_capacity c.self.inside.free) c.self.inside.first
+    c.self.inside.limit c.self.inside.live c.self.inside.retired c.self.invariant))
