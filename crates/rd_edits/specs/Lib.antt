@@ -1,4 +1,3 @@
 pub mod Edited
-pub mod Faults
-pub mod Limits
+pub mod Ranges
 pub mod Refusals

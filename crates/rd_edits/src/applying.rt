@@ -1,9 +1,8 @@
 //! An edit is done, or refused.
 
 ghost use Rattle.std.specs.Prelude.{◌≡◌, IfErr, OnOk, OnErr, None};
-ghost use Rattle.rd_edits.specs.Edited.{IsEdited, IsInsert, TakesNext};
-ghost use Rattle.rd_edits.specs.Faults.{test_of};
-ghost use Rattle.rd_edits.specs.Refusals.{refusal_of};
+ghost use Rattle.rd_edits.specs.Edited.{IsEdited};
+ghost use Rattle.rd_edits.specs.Refusals.{IsRefused, refusal_of};
 
 use crate::edit::Edit;
 use crate::fault::EditFault;
@@ -16,12 +15,10 @@ use std::sync::ledger::Ledger;
 /// Does the edit, and touches the boxes that it changes. It is refused by the first test of the list in [`EditFault`] that
 /// holds, and the tree is as before then. Only an insertion takes memory.
 pub fn apply<B: Ledger>(tree: &mut Tree<B>, edit: &Edit) -> Result<(), EditFault>
-    ensures refused { IfErr result (λ f. refusal_of tree.old edit.now ≡ test_of f) }
+    ensures refused { IfErr result (λ f. IsRefused tree.old edit.now f) }
     ensures accepted { OnOk result (refusal_of tree.old edit.now ≡ None) }
     ensures done { OnOk result (IsEdited edit.now tree.old tree.new) }
-    ensures next { OnOk result (TakesNext edit.now tree.old tree.new) }
     ensures kept { OnErr result (tree.new ≡ tree.old) }
-    ensures memory { IfErr result (λ f. f ≡ EditFault.NoMemory → IsInsert edit.now) }
 {
     match edit {
         Edit::Insert {

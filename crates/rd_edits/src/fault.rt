@@ -1,7 +1,7 @@
 //! Why an edit is refused.
 
 ghost use Rattle.std.specs.Prelude.{◌≡◌};
-ghost use Rattle.rd_edits.specs.Faults.{number_of};
+ghost use Rattle.rd_edits.specs.Refusals.{number_of};
 
 use std::alloc::AllocError;
 use thiserror::Error;

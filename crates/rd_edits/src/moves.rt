@@ -2,8 +2,7 @@
 
 ghost use Rattle.std.specs.Prelude.{◌≡◌, IfErr, OnOk, OnErr, None};
 ghost use Rattle.rd_edits.specs.Edited.{IsEdited};
-ghost use Rattle.rd_edits.specs.Faults.{test_of};
-ghost use Rattle.rd_edits.specs.Refusals.{refusal_of};
+ghost use Rattle.rd_edits.specs.Refusals.{IsRefused, refusal_of};
 ghost use Rattle.rd_edits.specs.declared.edit.Edit.TheVariants.{Remove, Move};
 
 use crate::checks::{is_before_itself, is_root, is_too_deep, place_of};
@@ -12,13 +11,12 @@ use rd_tree::{Id, Tree};
 use std::sync::ledger::Ledger;
 
 /// Takes away a box and all below it.
-#[tactic(auto, using(rd_tree::proofs::Naming::named_there))]
+#[tactic(auto, using(rd_tree::proofs::Nodes::Naming::named_there))]
 pub(crate) fn remove<B: Ledger>(tree: &mut Tree<B>, id: &Id) -> Result<(), EditFault>
-    ensures refused { IfErr result (λ f. refusal_of tree.old (Remove id.now) ≡ test_of f) }
+    ensures refused { IfErr result (λ f. IsRefused tree.old (Remove id.now) f) }
     ensures accepted { OnOk result (refusal_of tree.old (Remove id.now) ≡ None) }
     ensures done { OnOk result (IsEdited (Remove id.now) tree.old tree.new) }
     ensures kept { OnErr result (tree.new ≡ tree.old) }
-    ensures memory { IfErr result (λ f. f ≡ EditFault.NoMemory → ⊥) }
 {
     let Some(key) = tree.find(id) else {
         return Err(EditFault::UnknownId);
@@ -31,18 +29,18 @@ pub(crate) fn remove<B: Ledger>(tree: &mut Tree<B>, id: &Id) -> Result<(), EditF
 }
 
 /// Puts a box and all below it at another place.
-#[tactic(auto, using(rd_tree::proofs::Naming::named_there))]
+#[tactic(auto, using(rd_tree::proofs::Nodes::Naming::named_there))]
 pub(crate) fn move_to<B: Ledger>(
     tree: &mut Tree<B>,
     id: &Id,
     parent: &Id,
     before: &Option<Id>,
 ) -> Result<(), EditFault>
-    ensures refused { IfErr result (λ f. refusal_of tree.old (Move id.now parent.now before.now) ≡ test_of f) }
-    ensures accepted { OnOk result (refusal_of tree.old (Move id.now parent.now before.now) ≡ None) }
+    ensures refused { IfErr result (λ f. IsRefused tree.old (Move id.now parent.now before.now) f) }
+    ensures accepted { OnOk result (refusal_of tree.old (Move id.now parent.now before.now)
+        ≡ None) }
     ensures done { OnOk result (IsEdited (Move id.now parent.now before.now) tree.old tree.new) }
     ensures kept { OnErr result (tree.new ≡ tree.old) }
-    ensures memory { IfErr result (λ f. f ≡ EditFault.NoMemory → ⊥) }
 {
     let Some(key) = tree.find(id) else {
         return Err(EditFault::UnknownId);

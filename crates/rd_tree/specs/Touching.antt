@@ -1,16 +1,14 @@
 -- Which boxes a change touches, and so what a paint looks at anew. The table is this project's own choice.
-use Rattle.std.specs.Prelude.{Bool, false, ◌&&◌, if◌then◌else◌}
+use Rattle.std.specs.Prelude.{Bool, true, false, ◌&&◌, if◌then◌else◌}
 use Rattle.std.specs.Option.{option_map_or}
 use Rattle.rd_style.specs.Classes.{clips}
-use Rattle.rd_style.specs.Changes.{whole}
+use Rattle.rd_style.specs.Changes.{whole, names_any}
 use Rattle.rd_keys.specs.Keys.{same_key}
 use Rattle.rd_tree.specs.Forest.{map_where, in_subtree, item_of}
 use Rattle.rd_tree.specs.Document.{Document, BoxKey, Item}
-use Rattle.rd_tree.specs.Works.{touch}
-use Rattle.rd_tree.specs.Edits.{names_any}
 use Rattle.rd_tree.specs.Changes.{Change, insertion, removal, moving, styling, placing, shifting, after}
 
--- does this hold of the item of a box, where there is one?
+-- Does this hold of the item of a box, where there is one?
 abbrev pub holds_of : (Item → Bool) → BoxKey → Document → Bool
 holds_of p k t = option_map_or p (item_of same_key k t.boxes) false
 
@@ -20,9 +18,21 @@ abbrev pub touched_by : Change → Document → BoxKey → Bool
 touched_by (insertion p before k d) t j = same_key j k
 touched_by (removal k) t j = in_subtree same_key j k t.boxes
 touched_by (moving k p before) t j = in_subtree same_key j k t.boxes
-touched_by (styling k c) t j = holds_of (λ d. if whole d.style (same_key k t.root) c then in_subtree same_key j k t.boxes else names_any c && same_key j k) k t
-touched_by (placing k r) t j = holds_of (λ d. if clips d.style (same_key k t.root) then in_subtree same_key j k t.boxes else same_key j k) k t
+touched_by (styling k c) t j =
+    holds_of (λ d. if whole d.style (same_key k t.root) c then in_subtree same_key j k t.boxes
+    else names_any c && same_key j k) k t
+touched_by (placing k r) t j =
+    holds_of (λ d. if clips d.style (same_key k t.root) then in_subtree same_key j k t.boxes
+    else same_key j k) k t
 touched_by (shifting k dx dy) t j = in_subtree same_key j k t.boxes
+
+-- a box that is touched, as it is from a change to the next paint
+abbrev pub touch : Item → Item
+touch d = record d { touched = true }
+
+-- a box that is touched no more
+abbrev pub settled : Item → Item
+settled d = record d { touched = false }
 
 -- with these boxes marked as touched
 abbrev pub with_marks : (BoxKey → Bool) → Document → Document

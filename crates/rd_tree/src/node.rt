@@ -1,4 +1,7 @@
 //! Boxes with their links.
+ghost use Rattle.std.specs.Prelude.{◌≡◌};
+ghost use Rattle.rd_tree.specs.Changes.{new_item};
+ghost use Rattle.rd_tree.specs.Touching.{touch};
 
 use crate::id::Id;
 use rd_geom::Rect;
@@ -12,6 +15,20 @@ pub struct Item {
     pub rect: Rect,
     pub style: Style,
     pub touched: bool,
+}
+
+impl Item {
+    /// What a tree holds of a new box, which is touched.
+    pub(crate) fn new(id: Id, rect: Rect, style: Style) -> Item
+        ensures { result ≡ touch (new_item id rect style) }
+    {
+        Item {
+            id,
+            rect,
+            style,
+            touched: true,
+        }
+    }
 }
 
 /// The neighbours of a box.

@@ -76,7 +76,7 @@ fn build<B: Ledger>(rt: &impl Abort, alloc: Global, looks: &mut Steps<B>) -> Res
 }
 
 /// The box with this id.
-#[tactic(auto, using(crate::proofs::Naming::named_there))]
+#[tactic(auto, using(crate::proofs::Nodes::Naming::named_there))]
 fn box_of<B: Ledger>(rt: &impl Abort, tree: &Tree<B>, id: &Id) -> BoxKey
     ensures { contains tree.now result ≡ true }
 {
@@ -98,8 +98,9 @@ fn put<B: Ledger>(
     assert!(rt; fits_rect(rect));
     assert!(rt; fits(&style));
     assert!(rt; tree.find(id).is_none());
-    assert!(rt; u64::from(tree.boxes()) + u64::from(tree.retired()) < 20_000);
+    assert!(rt; u64::from(tree.boxes()) + u64::from(tree.retired()) < u64::from(MAX_BOXES));
     let parent = box_of(rt, tree, parent);
+    assert!(rt; u64::from(tree.depth(parent)) < u64::from(MAX_DEPTH));
     Ok(tree.insert(parent, None, id, rect, style)?)
 }
 
@@ -116,6 +117,9 @@ fn move_last<B: Ledger>(rt: &impl Abort, tree: &mut Tree<B>, id: &Id, parent: &I
     let parent = box_of(rt, tree, parent);
     assert!(rt; !key.is(tree.root()));
     assert!(rt; !tree.inside(parent, key));
+    assert!(rt;
+        u64::from(tree.depth(parent)) + u64::from(tree.height(key)) <= u64::from(MAX_DEPTH)
+    );
     tree.relink(key, parent, None);
 }
 
@@ -126,6 +130,9 @@ fn move_before<B: Ledger>(rt: &impl Abort, tree: &mut Tree<B>, id: &Id, parent: 
     let before = box_of(rt, tree, before);
     assert!(rt; !key.is(tree.root()));
     assert!(rt; !tree.inside(parent, key));
+    assert!(rt;
+        u64::from(tree.depth(parent)) + u64::from(tree.height(key)) <= u64::from(MAX_DEPTH)
+    );
     assert!(rt; tree.is_child(before, parent));
     assert!(rt; !before.is(key));
     tree.relink(key, parent, Some(before));

@@ -4,8 +4,8 @@ ghost use Rattle.std.specs.Prelude.{◌≡◌};
 ghost use Rattle.rd_tree.specs.Shown.{told};
 ghost use Rattle.rd_tree.specs.Internal.Linked.{shown_of};
 
-use crate::near::Near;
 use crate::node::Node;
+use crate::table::row::Summary;
 use rd_geom::Rect;
 use rd_keys::BoxKey;
 use rd_style::Style;
@@ -37,7 +37,7 @@ pub struct BoxView<'a> {
 }
 
 /// What a node and its row show of its box.
-pub(crate) fn view_of(key: BoxKey, is_root: bool, node: &Node, row: Near) -> BoxView<'_>
+pub(crate) fn view_of(key: BoxKey, is_root: bool, node: &Node, row: Summary) -> BoxView<'_>
     ensures { told result ≡ shown_of key is_root node.now row }
 {
     BoxView {

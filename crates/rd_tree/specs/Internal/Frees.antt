@@ -5,7 +5,7 @@ use Rattle.rd_keys.specs.Keys.{same_key}
 use Rattle.rd_keys.specs.Arena.{Arena, live, occupied}
 use Rattle.rd_tree.specs.declared.node.Node as inner
 use Rattle.rd_tree.specs.Forest.{empty, tree, keys, size, has}
-use Rattle.rd_tree.specs.Internal.Links.{Node, onward_of}
+use Rattle.rd_tree.specs.Internal.Links.{Node, child_and_sibling}
 use Rattle.rd_tree.specs.Document.{BoxKey, Item, BoxForest, named, with_all_left}
 use Rattle.rd_tree.specs.Internal.Linked.{linked, marks, seen_from}
 
@@ -19,8 +19,10 @@ pub record Frees (old new : Arena inner.Node) (gone : BoxForest) : Type 0 where
   pub first : new.first ≡ old.first
 
 -- The index has the ids of these boxes no more, and all else as it was.
-abbrev pub DropsTexts : {Y S : Type 0} → BoxForest → HashMap (String Y) BoxKey S → HashMap (String Y) BoxKey S → Type 0
-DropsTexts gone old new = (i : List ℕ) → get_by_text new i ≡ (if is_some (named i gone) then None else get_by_text old i)
+abbrev pub DropsTexts : {Y S : Type 0} → BoxForest → HashMap (String Y) BoxKey S
+    → HashMap (String Y) BoxKey S → Type 0
+DropsTexts gone old new = (i : List ℕ) → get_by_text new i ≡ (if is_some (named i gone)
+    then None else get_by_text old i)
 
 -- a box, where there is a node, with these below it
 abbrev pub topped : BoxKey → Option (Node BoxKey Item) → BoxForest → BoxForest
@@ -29,4 +31,4 @@ topped k (Some n) below = tree k n.item below empty
 
 -- a box with all that its links tell below it
 abbrev pub branch_at : Arena inner.Node → BoxKey → BoxForest
-branch_at a k = topped k (linked a k) (seen_from a (onward_of (linked a k)).0)
+branch_at a k = topped k (linked a k) (seen_from a (child_and_sibling (linked a k)).0)

@@ -6,16 +6,24 @@ use Rattle.std.specs.Str.{bytes_eq}
 use Rattle.rd_keys.specs.Keys.{same_key}
 use Rattle.rd_keys.specs.Arena as inner_slot
 use Rattle.rd_keys.specs.Arena.{Arena, value, live, occupied, is_taken}
+use Rattle.rd_tree.specs.declared.limits.TheConstants.{MAX_BOXES}
 use Rattle.rd_tree.specs.declared.node.Node as inner
 use Rattle.rd_tree.specs.Forest.{size, has, IsApart}
 use Rattle.rd_tree.specs.Internal.Links.{Node, Stands, read}
 use Rattle.rd_tree.specs.Document.{BoxKey, Item, BoxForest, Slot}
 use Rattle.rd_style.specs.Limits.{FitsRect, Fits}
-use Rattle.rd_tree.specs.declared.near.Near.{Near}
+use Rattle.rd_tree.specs.declared.table.row.Summary.{Summary}
 use Rattle.rd_tree.specs.Shown.{Shown}
 
 abbrev pub plain : inner.Node → Node BoxKey Item
-plain n = record { item = n.item; up = n.links.up; prev = n.links.prev; first = n.links.first; last = n.links.last; next = n.links.next }
+plain n = record {
+  item = n.item;
+  up = n.links.up;
+  prev = n.links.prev;
+  first = n.links.first;
+  last = n.links.last;
+  next = n.links.next;
+}
 
 abbrev pub linked : Arena inner.Node → BoxKey → Option (Node BoxKey Item)
 linked a k = option_map plain (value a k.slot k.generation)
@@ -28,7 +36,8 @@ abbrev pub marks : Arena inner.Node → List Slot
 marks a = map mark_of a.slots
 
 -- The nodes are linked so, under the same keys.
-pub record Relinks (old new : Arena inner.Node) (at : BoxKey → Option (Node BoxKey Item)) : Type 0 where
+pub record Relinks (old new : Arena inner.Node) (at : BoxKey → Option (Node BoxKey Item)) :
+    Type 0 where
   pub links : (j : BoxKey) → linked new j ≡ at j
   pub same_slots : marks new ≡ marks old
   pub same_live : live new ≡ live old
@@ -52,30 +61,35 @@ abbrev pub item_at : Arena inner.Node → BoxKey → Option Item
 item_at a k = option_map (λ n. n.item) (linked a k)
 
 -- The index has the key of each item under its id, and no other.
-pub record IsIndexed {Y S : Type 0} (at : BoxKey → Option Item) (ids : HashMap (String Y) BoxKey S) : Type 0 where
+pub record IsIndexed {Y S : Type 0} (at : BoxKey → Option Item) (ids : HashMap
+    (String Y) BoxKey S) : Type 0 where
   pub named : (k : BoxKey) (d : Item) → at k ≡ Some d → get_by_text ids d.id ≡ Some k
-  pub live : (i : List ℕ) (k : BoxKey) → get_by_text ids i ≡ Some k → option_map (λ d. d.id) (at k) ≡ Some i
+  pub live : (i : List ℕ) (k : BoxKey) → get_by_text ids i ≡ Some k → option_map (λ d. d.id)
+      (at k) ≡ Some i
 
 -- The new index has k under this id, and all else as it was.
-abbrev pub AddsText : {Y S : Type 0} → List ℕ → BoxKey → HashMap (String Y) BoxKey S → HashMap (String Y) BoxKey S → Type 0
-AddsText i k old new = (j : List ℕ) → get_by_text new j ≡ (if bytes_eq i j then Some k else get_by_text old j)
+abbrev pub AddsText : {Y S : Type 0} → List ℕ → BoxKey → HashMap (String Y) BoxKey S
+    → HashMap (String Y) BoxKey S → Type 0
+AddsText i k old new = (j : List ℕ) → get_by_text new j ≡ (if bytes_eq i j then Some k
+    else get_by_text old j)
 
 abbrev pub EachFits : (BoxKey → Option Item) → Type 0
 EachFits at = (k : BoxKey) (d : Item) → at k ≡ Some d → FitsRect d.rect × Fits d.style
 
 -- What the nodes, the root and the index of a tree always keep.
-pub record IsConsistent {Y S : Type 0} (a : Arena inner.Node) (root : BoxKey) (ids : HashMap (String Y) BoxKey S) : Type 0 where
+pub record IsConsistent {Y S : Type 0} (a : Arena inner.Node) (root : BoxKey) (ids : HashMap
+    (String Y) BoxKey S) : Type 0 where
   pub tree : IsTree a root
   pub indexed : IsIndexed (item_at a) ids
   pub fits : EachFits (item_at a)
-  pub limit : a.limit ≡ 20000
+  pub limit : a.limit ≡ MAX_BOXES
   pub first : a.first ≡ 0
 
 abbrev pub seen : Arena inner.Node → BoxKey → BoxForest
 seen a root = read a.limit (linked a) (Some root)
 
 -- what a node and its row show of its box
-abbrev pub shown_of : BoxKey → Bool → inner.Node → Near → Shown
+abbrev pub shown_of : BoxKey → Bool → inner.Node → Summary → Shown
 shown_of k is_root n row =
     record {
       key = k;

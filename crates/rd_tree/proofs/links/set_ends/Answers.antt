@@ -1,6 +1,6 @@
 use Rattle.std.proofs.Common.{refl, sym}
 use Rattle.rd_tree.specs.Internal.Links.{with_ends}
-use Rattle.rd_tree.proofs.Marks.{relinks_written}
+use Rattle.rd_tree.proofs.Nodes.Marks.{relinks_written}
 use Rattle.rd_tree.proofs.links.set_ends.Goals as goal
 
 pub returns-in-Some : goal.returns-in-Some

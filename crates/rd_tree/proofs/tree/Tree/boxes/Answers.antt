@@ -1,5 +1,5 @@
 use Rattle.std.proofs.Common.{◌∙◌, sym}
-use Rattle.rd_tree.proofs.Grow.{size_seen}
+use Rattle.rd_tree.proofs.Nodes.Grow.{size_seen}
 use Rattle.rd_tree.proofs.tree.Tree.boxes.Goals as goal
 
 pub returns : goal.returns

@@ -4,7 +4,11 @@ use Rattle.rd_tree.specs.Forest.{has, depth, in_subtree}
 use Rattle.rd_tree.proofs.tree.Tree.inside.Given as goal
 
 abbrev pub invariant-loop-self : goal.invariant-loop-self
-invariant-loop-self g l = record { there : has same_key l.at l.self.boxes ≡ true; same : in_subtree same_key l.fn.key l.of l.self.boxes ≡ in_subtree same_key l.at l.of l.self.boxes }
+invariant-loop-self g l = record {
+  there : has same_key l.at l.self.boxes ≡ true;
+  same : in_subtree same_key l.fn.key l.of l.self.boxes
+      ≡ in_subtree same_key l.at l.of l.self.boxes;
+}
 
 abbrev pub decreases-loop-self : goal.decreases-loop-self
 decreases-loop-self g l = depth same_key l.at l.self.boxes

@@ -2,116 +2,210 @@ use Rattle.std.proofs.Common.{◌≡◌, refl, ap, ◌∙◌, sym}
 use Rattle.rd_keys.specs.Keys.{same_key}
 use Rattle.rd_tree.specs.Forest.{without_branch}
 use Rattle.rd_tree.specs.Internal.Linked.{IsConsistent, marks, seen}
-use Rattle.rd_tree.specs.Near.{near_at}
+use Rattle.rd_tree.specs.Internal.Summaries.{summary_at}
 use Rattle.rd_tree.specs.Internal.Renews.{IsRightIn, KeepsOutside}
-use Rattle.rd_tree.specs.Edits.{moved}
-use Rattle.rd_tree.proofs.Each.{under_box, all_items}
-use Rattle.rd_tree.proofs.Moving.{relink_sound}
-use Rattle.rd_tree.proofs.Above.{above_self}
-use Rattle.rd_tree.proofs.TreeRows.{seen_stands}
-use Rattle.rd_tree.proofs.Renewing.{whole_is, few_touched}
-use Rattle.rd_tree.proofs.NearRemoved.{IsLeft, parent_above, is_parent}
-use Rattle.rd_tree.proofs.NearMoved.{IsLanded, touched_stands, touched_limit, still_there, touched_climbs, touched_left, landed}
+use Rattle.rd_tree.specs.Internal.Reaching.{moved}
+use Rattle.rd_tree.proofs.Nodes.Each.{under_box, all_items}
+use Rattle.rd_tree.proofs.Nodes.Moving.{relink_sound}
+use Rattle.rd_tree.proofs.Tables.Above.{above_self}
+use Rattle.rd_tree.proofs.Tables.TreeRows.{seen_stands}
+use Rattle.rd_tree.proofs.Tables.Renewing.{whole_is, few_touched}
+use Rattle.rd_tree.proofs.Tables.Removed.{IsLeft, parent_above, is_parent}
+use Rattle.rd_tree.proofs.Tables.Moved.{IsLanded, touched_stands, touched_limit, still_there, touched_climbs, touched_left, landed}
+use Rattle.rd_tree.proofs.Nodes.Looking.{apart_seen}
+use Rattle.rd_tree.proofs.Changing.Effects.{by_that, edited-moving}
+use Rattle.rd_tree.proofs.Changing.Shallow.{shallow_moved}
 use Rattle.rd_tree.proofs.tree.Tree.relink.Goals as goal
 
 pub unreachable-requires : goal.unreachable-requires
 unreachable-requires g c =
-    let h = parent_above c.self.inside.nodes c.self.inside.root c.args.key c.self.invariant.sound.tree (rw (← c.self.view_is) at c.requires.live) (rw (← c.self.view_is) at c.requires.below) in
-    cc (h.up_is, c.up_of.ensures, c.in-None.is)
+    let h = parent_above c.self.inside.nodes c.self.inside.root c.args.key c.self.invariant.sound.tree (rw (← c.self.view_is) at c.requires.live)
+    (rw (← c.self.view_is) at c.requires.below) in
+    cc (h.up_is, c.parent_of.ensures, c.in-None.is)
 
 pub whole_of-old-requires-clause-few : goal.whole_of-old-requires-clause-few
-whole_of-old-requires-clause-few g c = few_touched c.self.inside.nodes c.self.inside.root (seen c.self.inside.nodes c.self.inside.root) (seen_stands c.self.inside.nodes c.self.inside.root c.self.invariant.sound.tree) c.args.key (rw (← c.self.view_is) at c.requires.live) c.deref.result.now (ap (λ r. near_at r c.args.key) c.deref.ensures.value ∙ c.self.invariant.near.right c.args.key (rw (← c.self.view_is) at c.requires.live)) c.self.invariant.sound.limit
+whole_of-old-requires-clause-few g c = few_touched c.self.inside.nodes c.self.inside.root (seen c.self.inside.nodes c.self.inside.root) (seen_stands
+    c.self.inside.nodes c.self.inside.root c.self.invariant.sound.tree) c.args.key (rw (← c.self.view_is) at c.requires.live) c.deref.result.now
+    (ap (λ r. summary_at r c.args.key) c.deref.ensures.value ∙ c.self.invariant.table.right c.args.key (rw (← c.self.view_is) at c.requires.live))
+    c.self.invariant.sound.limit
 
 pub work_below-requires-clause-read : goal.work_below-requires-clause-read
-work_below-requires-clause-read g c = (under_box c.self.inside.nodes c.self.inside.root c.args.key c.self.invariant.sound.tree (rw (← c.self.view_is) at c.requires.live)).read
+work_below-requires-clause-read g c = (under_box c.self.inside.nodes c.self.inside.root c.args.key c.self.invariant.sound.tree (rw (← c.self.view_is) at
+    c.requires.live)).read
 
 pub work_below-requires-clause-apart : goal.work_below-requires-clause-apart
-work_below-requires-clause-apart g c = (under_box c.self.inside.nodes c.self.inside.root c.args.key c.self.invariant.sound.tree (rw (← c.self.view_is) at c.requires.live)).out
+work_below-requires-clause-apart g c = (under_box c.self.inside.nodes c.self.inside.root c.args.key c.self.invariant.sound.tree (rw (← c.self.view_is) at
+    c.requires.live)).out
 
 pub work_below-requires-clause-allowed : goal.work_below-requires-clause-allowed
 work_below-requires-clause-allowed g c = all_items _ _ (λ d. tt)
 
 pub renew-requires : goal.renew-requires
 renew-requires g c =
-    let up = is_parent c.self.inside.nodes c.self.inside.root c.args.key c.in-Some.up c.self.invariant.sound.tree (rw (← c.self.view_is) at c.requires.live) (rw (← c.self.view_is) at c.requires.below) (sym c.in-Some.is ∙ c.up_of.ensures) in
-    touched_climbs c.self.inside.nodes c.work_below.new.nodes c.self.inside.root c.args.key c.in-Some.up c.self.inside.ids c.self.inside.near.items c.self.invariant.sound (rw (← c.self.view_is) at c.requires.live) (rw (← c.self.view_is) at c.requires.below) c.work_below.ensures c.self.invariant.near up
+    let up = is_parent c.self.inside.nodes c.self.inside.root c.args.key c.in-Some.up c.self.invariant.sound.tree (rw (← c.self.view_is) at
+    c.requires.live) (rw (← c.self.view_is) at c.requires.below) (sym c.in-Some.is ∙ c.parent_of.ensures) in
+    touched_climbs c.self.inside.nodes c.work_below.new.nodes c.self.inside.root c.args.key c.in-Some.up c.self.inside.ids c.self.inside.table.items
+    c.self.invariant.sound (rw (← c.self.view_is) at c.requires.live) (rw (← c.self.view_is) at c.requires.below) c.work_below.ensures
+    c.self.invariant.table up
 
 pub whole_of-new-requires-clause-few : goal.whole_of-new-requires-clause-few
 whole_of-new-requires-clause-few g c =
-    let up = is_parent c.self.inside.nodes c.self.inside.root c.args.key c.in-Some.up c.self.invariant.sound.tree (rw (← c.self.view_is) at c.requires.live) (rw (← c.self.view_is) at c.requires.below) (sym c.in-Some.is ∙ c.up_of.ensures) in
-    let stands = touched_stands c.self.inside.nodes c.work_below.new.nodes c.self.inside.root c.args.key c.in-Some.up c.self.inside.ids c.self.inside.near.items c.self.invariant.sound (rw (← c.self.view_is) at c.requires.live) (rw (← c.self.view_is) at c.requires.below) c.work_below.ensures c.self.invariant.near up in
-    let there = still_there c.self.inside.nodes c.work_below.new.nodes c.self.inside.root c.args.key c.in-Some.up c.self.inside.ids c.self.inside.near.items c.self.invariant.sound (rw (← c.self.view_is) at c.requires.live) (rw (← c.self.view_is) at c.requires.below) c.work_below.ensures c.self.invariant.near up in
-    let within : IsRightIn c.renew.new.near.items (seen c.work_below.new.nodes c.self.inside.root) c.args.key = c.renew.ensures.right c.self.inside.root (seen c.work_below.new.nodes c.self.inside.root) stands there tt in
-    few_touched c.work_below.new.nodes c.self.inside.root (seen c.work_below.new.nodes c.self.inside.root) stands c.args.key there c.deref-2.result.now (ap (λ r. near_at r c.args.key) c.deref-2.ensures.value ∙ within c.args.key (above_self c.work_below.new.nodes c.self.inside.root (seen c.work_below.new.nodes c.self.inside.root) stands c.args.key there)) (touched_limit c.self.inside.nodes c.work_below.new.nodes c.self.inside.root c.args.key c.in-Some.up c.self.inside.ids c.self.inside.near.items c.self.invariant.sound (rw (← c.self.view_is) at c.requires.live) (rw (← c.self.view_is) at c.requires.below) c.work_below.ensures c.self.invariant.near up)
+    let up = is_parent c.self.inside.nodes c.self.inside.root c.args.key c.in-Some.up c.self.invariant.sound.tree (rw (← c.self.view_is) at
+    c.requires.live) (rw (← c.self.view_is) at c.requires.below) (sym c.in-Some.is ∙ c.parent_of.ensures) in
+    let stands = touched_stands c.self.inside.nodes c.work_below.new.nodes c.self.inside.root c.args.key c.in-Some.up c.self.inside.ids
+    c.self.inside.table.items c.self.invariant.sound (rw (← c.self.view_is) at c.requires.live) (rw (← c.self.view_is) at
+    c.requires.below) c.work_below.ensures c.self.invariant.table up in
+    let there = still_there c.self.inside.nodes c.work_below.new.nodes c.self.inside.root c.args.key c.in-Some.up c.self.inside.ids
+    c.self.inside.table.items c.self.invariant.sound (rw (← c.self.view_is) at c.requires.live) (rw (← c.self.view_is) at
+    c.requires.below) c.work_below.ensures c.self.invariant.table up in
+    let within : IsRightIn c.renew.new.table.items (seen c.work_below.new.nodes c.self.inside.root) c.args.key = c.renew.ensures.right c.self.inside.root
+    (seen c.work_below.new.nodes c.self.inside.root) stands there tt in
+    few_touched c.work_below.new.nodes c.self.inside.root (seen c.work_below.new.nodes c.self.inside.root) stands c.args.key there c.deref-2.result.now
+    (ap (λ r. summary_at r c.args.key) c.deref-2.ensures.value ∙ within c.args.key (above_self c.work_below.new.nodes c.self.inside.root
+    (seen c.work_below.new.nodes c.self.inside.root) stands c.args.key there)) (touched_limit c.self.inside.nodes c.work_below.new.nodes
+    c.self.inside.root c.args.key c.in-Some.up c.self.inside.ids c.self.inside.table.items c.self.invariant.sound (rw (← c.self.view_is)
+    at c.requires.live) (rw (← c.self.view_is) at c.requires.below) c.work_below.ensures c.self.invariant.table up)
 
 pub lose-requires : goal.lose-requires
 lose-requires g c =
-    let up = is_parent c.self.inside.nodes c.self.inside.root c.args.key c.in-Some.up c.self.invariant.sound.tree (rw (← c.self.view_is) at c.requires.live) (rw (← c.self.view_is) at c.requires.below) (sym c.in-Some.is ∙ c.up_of.ensures) in
-    let stands = touched_stands c.self.inside.nodes c.work_below.new.nodes c.self.inside.root c.args.key c.in-Some.up c.self.inside.ids c.self.inside.near.items c.self.invariant.sound (rw (← c.self.view_is) at c.requires.live) (rw (← c.self.view_is) at c.requires.below) c.work_below.ensures c.self.invariant.near up in
-    let there = still_there c.self.inside.nodes c.work_below.new.nodes c.self.inside.root c.args.key c.in-Some.up c.self.inside.ids c.self.inside.near.items c.self.invariant.sound (rw (← c.self.view_is) at c.requires.live) (rw (← c.self.view_is) at c.requires.below) c.work_below.ensures c.self.invariant.near up in
-    let within : IsRightIn c.renew.new.near.items (seen c.work_below.new.nodes c.self.inside.root) c.args.key = c.renew.ensures.right c.self.inside.root (seen c.work_below.new.nodes c.self.inside.root) stands there tt in
-    let outer : KeepsOutside c.work_below.new.nodes (seen c.work_below.new.nodes c.self.inside.root) c.self.inside.near.items c.renew.new.near.items c.args.key = c.renew.ensures.others c.self.inside.root (seen c.work_below.new.nodes c.self.inside.root) stands there in
-    let left : IsLeft c.unlink.new.nodes c.self.inside.root c.in-Some.up (without_branch same_key c.args.key (seen c.work_below.new.nodes c.self.inside.root)) c.renew.new.near.items c.whole_of-old.result =
-    touched_left c.self.inside.nodes c.work_below.new.nodes c.self.inside.root c.args.key c.in-Some.up c.self.inside.ids c.self.inside.near.items c.self.invariant.sound (rw (← c.self.view_is) at c.requires.live) (rw (← c.self.view_is) at c.requires.below) c.work_below.ensures c.self.invariant.near up
-    c.unlink.new.nodes c.renew.new.near.items c.unlink.ensures within outer c.renew.ensures.same_length
-    c.whole_of-old.result (c.whole_of-old.ensures ∙ whole_is c.self.inside.nodes c.self.inside.root (seen c.self.inside.nodes c.self.inside.root) (seen_stands c.self.inside.nodes c.self.inside.root c.self.invariant.sound.tree) c.args.key (rw (← c.self.view_is) at c.requires.live) c.deref.result.now (ap (λ r. near_at r c.args.key) c.deref.ensures.value ∙ c.self.invariant.near.right c.args.key (rw (← c.self.view_is) at c.requires.live))) in
+    let up = is_parent c.self.inside.nodes c.self.inside.root c.args.key c.in-Some.up c.self.invariant.sound.tree (rw (← c.self.view_is) at
+    c.requires.live) (rw (← c.self.view_is) at c.requires.below) (sym c.in-Some.is ∙ c.parent_of.ensures) in
+    let stands = touched_stands c.self.inside.nodes c.work_below.new.nodes c.self.inside.root c.args.key c.in-Some.up c.self.inside.ids
+    c.self.inside.table.items c.self.invariant.sound (rw (← c.self.view_is) at c.requires.live) (rw (← c.self.view_is) at
+    c.requires.below) c.work_below.ensures c.self.invariant.table up in
+    let there = still_there c.self.inside.nodes c.work_below.new.nodes c.self.inside.root c.args.key c.in-Some.up c.self.inside.ids
+    c.self.inside.table.items c.self.invariant.sound (rw (← c.self.view_is) at c.requires.live) (rw (← c.self.view_is) at
+    c.requires.below) c.work_below.ensures c.self.invariant.table up in
+    let within : IsRightIn c.renew.new.table.items (seen c.work_below.new.nodes c.self.inside.root) c.args.key = c.renew.ensures.right c.self.inside.root
+    (seen c.work_below.new.nodes c.self.inside.root) stands there tt in
+    let outer : KeepsOutside c.work_below.new.nodes (seen c.work_below.new.nodes c.self.inside.root) c.self.inside.table.items c.renew.new.table.items
+    c.args.key = c.renew.ensures.others c.self.inside.root (seen c.work_below.new.nodes c.self.inside.root) stands there in
+    let left : IsLeft c.unlink.new.nodes c.self.inside.root c.in-Some.up (without_branch same_key c.args.key (seen c.work_below.new.nodes
+    c.self.inside.root)) c.renew.new.table.items c.whole_of-old.result =
+    touched_left c.self.inside.nodes c.work_below.new.nodes c.self.inside.root c.args.key c.in-Some.up c.self.inside.ids c.self.inside.table.items
+    c.self.invariant.sound (rw (← c.self.view_is) at c.requires.live) (rw (← c.self.view_is) at c.requires.below) c.work_below.ensures
+    c.self.invariant.table up
+    c.unlink.new.nodes c.renew.new.table.items c.unlink.ensures within outer c.renew.ensures.same_length
+    c.whole_of-old.result (c.whole_of-old.ensures ∙ whole_is c.self.inside.nodes c.self.inside.root (seen c.self.inside.nodes c.self.inside.root)
+    (seen_stands c.self.inside.nodes c.self.inside.root c.self.invariant.sound.tree) c.args.key (rw (← c.self.view_is) at c.requires.live)
+    c.deref.result.now (ap (λ r. summary_at r c.args.key) c.deref.ensures.value ∙ c.self.invariant.table.right c.args.key (rw (← c.self.view_is) at
+    c.requires.live))) in
     left.climbs
 
 pub gain-requires : goal.gain-requires
 gain-requires g c =
-    let up = is_parent c.self.inside.nodes c.self.inside.root c.args.key c.in-Some.up c.self.invariant.sound.tree (rw (← c.self.view_is) at c.requires.live) (rw (← c.self.view_is) at c.requires.below) (sym c.in-Some.is ∙ c.up_of.ensures) in
-    let stands = touched_stands c.self.inside.nodes c.work_below.new.nodes c.self.inside.root c.args.key c.in-Some.up c.self.inside.ids c.self.inside.near.items c.self.invariant.sound (rw (← c.self.view_is) at c.requires.live) (rw (← c.self.view_is) at c.requires.below) c.work_below.ensures c.self.invariant.near up in
-    let there = still_there c.self.inside.nodes c.work_below.new.nodes c.self.inside.root c.args.key c.in-Some.up c.self.inside.ids c.self.inside.near.items c.self.invariant.sound (rw (← c.self.view_is) at c.requires.live) (rw (← c.self.view_is) at c.requires.below) c.work_below.ensures c.self.invariant.near up in
-    let within : IsRightIn c.renew.new.near.items (seen c.work_below.new.nodes c.self.inside.root) c.args.key = c.renew.ensures.right c.self.inside.root (seen c.work_below.new.nodes c.self.inside.root) stands there tt in
-    let outer : KeepsOutside c.work_below.new.nodes (seen c.work_below.new.nodes c.self.inside.root) c.self.inside.near.items c.renew.new.near.items c.args.key = c.renew.ensures.others c.self.inside.root (seen c.work_below.new.nodes c.self.inside.root) stands there in
-    let left : IsLeft c.unlink.new.nodes c.self.inside.root c.in-Some.up (without_branch same_key c.args.key (seen c.work_below.new.nodes c.self.inside.root)) c.renew.new.near.items c.whole_of-old.result =
-    touched_left c.self.inside.nodes c.work_below.new.nodes c.self.inside.root c.args.key c.in-Some.up c.self.inside.ids c.self.inside.near.items c.self.invariant.sound (rw (← c.self.view_is) at c.requires.live) (rw (← c.self.view_is) at c.requires.below) c.work_below.ensures c.self.invariant.near up
-    c.unlink.new.nodes c.renew.new.near.items c.unlink.ensures within outer c.renew.ensures.same_length
-    c.whole_of-old.result (c.whole_of-old.ensures ∙ whole_is c.self.inside.nodes c.self.inside.root (seen c.self.inside.nodes c.self.inside.root) (seen_stands c.self.inside.nodes c.self.inside.root c.self.invariant.sound.tree) c.args.key (rw (← c.self.view_is) at c.requires.live) c.deref.result.now (ap (λ r. near_at r c.args.key) c.deref.ensures.value ∙ c.self.invariant.near.right c.args.key (rw (← c.self.view_is) at c.requires.live))) in
-    let t : IsConsistent c.graft.new.nodes c.self.inside.root c.self.inside.ids × (seen c.graft.new.nodes c.self.inside.root ≡ moved c.args.key c.args.parent c.args.before (seen c.self.inside.nodes c.self.inside.root)) × (marks c.graft.new.nodes ≡ marks c.self.inside.nodes) =
-    relink_sound c.self.inside.nodes c.work_below.new.nodes c.unlink.new.nodes c.set_place.new.nodes c.graft.new.nodes c.self.inside.root c.args.key c.args.parent c.args.before c.left_of-prev.result c.ends_of-ends.result c.self.inside.ids c.self.invariant.sound
-    (rw (← c.self.view_is) at c.requires.live) (rw (← c.self.view_is) at c.requires.below) (rw (← c.self.view_is) at c.requires.parent) (rw (← c.self.view_is) at c.requires.outside) (rw (← c.self.view_is) at c.requires.place) c.requires.other
+    let up = is_parent c.self.inside.nodes c.self.inside.root c.args.key c.in-Some.up c.self.invariant.sound.tree (rw (← c.self.view_is) at
+    c.requires.live) (rw (← c.self.view_is) at c.requires.below) (sym c.in-Some.is ∙ c.parent_of.ensures) in
+    let stands = touched_stands c.self.inside.nodes c.work_below.new.nodes c.self.inside.root c.args.key c.in-Some.up c.self.inside.ids
+    c.self.inside.table.items c.self.invariant.sound (rw (← c.self.view_is) at c.requires.live) (rw (← c.self.view_is) at
+    c.requires.below) c.work_below.ensures c.self.invariant.table up in
+    let there = still_there c.self.inside.nodes c.work_below.new.nodes c.self.inside.root c.args.key c.in-Some.up c.self.inside.ids
+    c.self.inside.table.items c.self.invariant.sound (rw (← c.self.view_is) at c.requires.live) (rw (← c.self.view_is) at
+    c.requires.below) c.work_below.ensures c.self.invariant.table up in
+    let within : IsRightIn c.renew.new.table.items (seen c.work_below.new.nodes c.self.inside.root) c.args.key = c.renew.ensures.right c.self.inside.root
+    (seen c.work_below.new.nodes c.self.inside.root) stands there tt in
+    let outer : KeepsOutside c.work_below.new.nodes (seen c.work_below.new.nodes c.self.inside.root) c.self.inside.table.items c.renew.new.table.items
+    c.args.key = c.renew.ensures.others c.self.inside.root (seen c.work_below.new.nodes c.self.inside.root) stands there in
+    let left : IsLeft c.unlink.new.nodes c.self.inside.root c.in-Some.up (without_branch same_key c.args.key (seen c.work_below.new.nodes
+    c.self.inside.root)) c.renew.new.table.items c.whole_of-old.result =
+    touched_left c.self.inside.nodes c.work_below.new.nodes c.self.inside.root c.args.key c.in-Some.up c.self.inside.ids c.self.inside.table.items
+    c.self.invariant.sound (rw (← c.self.view_is) at c.requires.live) (rw (← c.self.view_is) at c.requires.below) c.work_below.ensures
+    c.self.invariant.table up
+    c.unlink.new.nodes c.renew.new.table.items c.unlink.ensures within outer c.renew.ensures.same_length
+    c.whole_of-old.result (c.whole_of-old.ensures ∙ whole_is c.self.inside.nodes c.self.inside.root (seen c.self.inside.nodes c.self.inside.root)
+    (seen_stands c.self.inside.nodes c.self.inside.root c.self.invariant.sound.tree) c.args.key (rw (← c.self.view_is) at c.requires.live)
+    c.deref.result.now (ap (λ r. summary_at r c.args.key) c.deref.ensures.value ∙ c.self.invariant.table.right c.args.key (rw (← c.self.view_is) at
+    c.requires.live))) in
+    let t : IsConsistent c.graft.new.nodes c.self.inside.root c.self.inside.ids × (seen c.graft.new.nodes c.self.inside.root
+    ≡ moved c.args.key c.args.parent c.args.before (seen c.self.inside.nodes c.self.inside.root)) × (marks c.graft.new.nodes
+    ≡ marks c.self.inside.nodes) =
+    relink_sound c.self.inside.nodes c.work_below.new.nodes c.unlink.new.nodes c.set_place.new.nodes c.graft.new.nodes c.self.inside.root c.args.key
+    c.args.parent c.args.before c.left_of-prev.result c.ends_of-ends.result c.self.inside.ids c.self.invariant.sound
+    (rw (← c.self.view_is) at c.requires.live) (rw (← c.self.view_is) at c.requires.below) (rw (← c.self.view_is) at c.requires.parent)
+    (rw (← c.self.view_is) at c.requires.outside) (rw (← c.self.view_is) at c.requires.place) c.requires.other
     c.work_below.ensures c.unlink.ensures c.ends_of-ends.ensures c.left_of-prev.ensures c.set_place.ensures c.graft.ensures in
-    let right = c.lose.ensures.right c.self.inside.root (without_branch same_key c.args.key (seen c.work_below.new.nodes c.self.inside.root)) left.stands left.there left.loses in
-    let others = c.lose.ensures.others c.self.inside.root (without_branch same_key c.args.key (seen c.work_below.new.nodes c.self.inside.root)) left.stands left.there in
-    let land : IsLanded c.graft.new.nodes c.self.inside.root c.args.parent c.lose.new.near.items c.whole_of-new.result =
-    landed c.self.inside.nodes c.work_below.new.nodes c.self.inside.root c.args.key c.in-Some.up c.self.inside.ids c.self.inside.near.items c.self.invariant.sound (rw (← c.self.view_is) at c.requires.live) (rw (← c.self.view_is) at c.requires.below) c.work_below.ensures c.self.invariant.near up
-    c.unlink.new.nodes c.renew.new.near.items c.unlink.ensures within outer c.renew.ensures.same_length
-    c.args.parent c.args.before (rw (← c.self.view_is) at c.requires.parent) (rw (← c.self.view_is) at c.requires.outside) (rw (← c.self.view_is) at c.requires.place) c.requires.other c.graft.new.nodes c.lose.new.near.items left.there right others c.lose.ensures.same_length t.0 t.1 t.2
-    c.whole_of-new.result (c.whole_of-new.ensures ∙ whole_is c.work_below.new.nodes c.self.inside.root (seen c.work_below.new.nodes c.self.inside.root) stands c.args.key there c.deref-2.result.now (ap (λ r. near_at r c.args.key) c.deref-2.ensures.value ∙ within c.args.key (above_self c.work_below.new.nodes c.self.inside.root (seen c.work_below.new.nodes c.self.inside.root) stands c.args.key there))) in
+    let right = c.lose.ensures.right c.self.inside.root (without_branch same_key c.args.key (seen c.work_below.new.nodes c.self.inside.root)) left.stands
+    left.there left.loses in
+    let others = c.lose.ensures.others c.self.inside.root (without_branch same_key c.args.key (seen c.work_below.new.nodes c.self.inside.root)) left.stands
+    left.there in
+    let land : IsLanded c.graft.new.nodes c.self.inside.root c.args.parent c.lose.new.table.items c.whole_of-new.result =
+    landed c.self.inside.nodes c.work_below.new.nodes c.self.inside.root c.args.key c.in-Some.up c.self.inside.ids c.self.inside.table.items
+    c.self.invariant.sound (rw (← c.self.view_is) at c.requires.live) (rw (← c.self.view_is) at c.requires.below) c.work_below.ensures
+    c.self.invariant.table up
+    c.unlink.new.nodes c.renew.new.table.items c.unlink.ensures within outer c.renew.ensures.same_length
+    c.args.parent c.args.before (rw (← c.self.view_is) at c.requires.parent) (rw (← c.self.view_is) at c.requires.outside) (rw (← c.self.view_is) at
+    c.requires.place) c.requires.other c.graft.new.nodes c.lose.new.table.items left.there right others c.lose.ensures.same_length t.0 t.1 t.2
+    c.whole_of-new.result (c.whole_of-new.ensures ∙ whole_is c.work_below.new.nodes c.self.inside.root (seen c.work_below.new.nodes c.self.inside.root)
+    stands c.args.key there c.deref-2.result.now (ap (λ r. summary_at r c.args.key) c.deref-2.ensures.value
+    ∙ within c.args.key (above_self c.work_below.new.nodes c.self.inside.root (seen c.work_below.new.nodes c.self.inside.root) stands c.args.key
+    there))) in
     land.climbs
 
 pub invariant_of-self : goal.invariant_of-self
 invariant_of-self g c =
-    let up = is_parent c.self.inside.nodes c.self.inside.root c.args.key c.in-Some.up c.self.invariant.sound.tree (rw (← c.self.view_is) at c.requires.live) (rw (← c.self.view_is) at c.requires.below) (sym c.in-Some.is ∙ c.up_of.ensures) in
-    let stands = touched_stands c.self.inside.nodes c.work_below.new.nodes c.self.inside.root c.args.key c.in-Some.up c.self.inside.ids c.self.inside.near.items c.self.invariant.sound (rw (← c.self.view_is) at c.requires.live) (rw (← c.self.view_is) at c.requires.below) c.work_below.ensures c.self.invariant.near up in
-    let there = still_there c.self.inside.nodes c.work_below.new.nodes c.self.inside.root c.args.key c.in-Some.up c.self.inside.ids c.self.inside.near.items c.self.invariant.sound (rw (← c.self.view_is) at c.requires.live) (rw (← c.self.view_is) at c.requires.below) c.work_below.ensures c.self.invariant.near up in
-    let within : IsRightIn c.renew.new.near.items (seen c.work_below.new.nodes c.self.inside.root) c.args.key = c.renew.ensures.right c.self.inside.root (seen c.work_below.new.nodes c.self.inside.root) stands there tt in
-    let outer : KeepsOutside c.work_below.new.nodes (seen c.work_below.new.nodes c.self.inside.root) c.self.inside.near.items c.renew.new.near.items c.args.key = c.renew.ensures.others c.self.inside.root (seen c.work_below.new.nodes c.self.inside.root) stands there in
-    let left : IsLeft c.unlink.new.nodes c.self.inside.root c.in-Some.up (without_branch same_key c.args.key (seen c.work_below.new.nodes c.self.inside.root)) c.renew.new.near.items c.whole_of-old.result =
-    touched_left c.self.inside.nodes c.work_below.new.nodes c.self.inside.root c.args.key c.in-Some.up c.self.inside.ids c.self.inside.near.items c.self.invariant.sound (rw (← c.self.view_is) at c.requires.live) (rw (← c.self.view_is) at c.requires.below) c.work_below.ensures c.self.invariant.near up
-    c.unlink.new.nodes c.renew.new.near.items c.unlink.ensures within outer c.renew.ensures.same_length
-    c.whole_of-old.result (c.whole_of-old.ensures ∙ whole_is c.self.inside.nodes c.self.inside.root (seen c.self.inside.nodes c.self.inside.root) (seen_stands c.self.inside.nodes c.self.inside.root c.self.invariant.sound.tree) c.args.key (rw (← c.self.view_is) at c.requires.live) c.deref.result.now (ap (λ r. near_at r c.args.key) c.deref.ensures.value ∙ c.self.invariant.near.right c.args.key (rw (← c.self.view_is) at c.requires.live))) in
-    let t : IsConsistent c.graft.new.nodes c.self.inside.root c.self.inside.ids × (seen c.graft.new.nodes c.self.inside.root ≡ moved c.args.key c.args.parent c.args.before (seen c.self.inside.nodes c.self.inside.root)) × (marks c.graft.new.nodes ≡ marks c.self.inside.nodes) =
-    relink_sound c.self.inside.nodes c.work_below.new.nodes c.unlink.new.nodes c.set_place.new.nodes c.graft.new.nodes c.self.inside.root c.args.key c.args.parent c.args.before c.left_of-prev.result c.ends_of-ends.result c.self.inside.ids c.self.invariant.sound
-    (rw (← c.self.view_is) at c.requires.live) (rw (← c.self.view_is) at c.requires.below) (rw (← c.self.view_is) at c.requires.parent) (rw (← c.self.view_is) at c.requires.outside) (rw (← c.self.view_is) at c.requires.place) c.requires.other
+    let up = is_parent c.self.inside.nodes c.self.inside.root c.args.key c.in-Some.up c.self.invariant.sound.tree (rw (← c.self.view_is) at
+    c.requires.live) (rw (← c.self.view_is) at c.requires.below) (sym c.in-Some.is ∙ c.parent_of.ensures) in
+    let stands = touched_stands c.self.inside.nodes c.work_below.new.nodes c.self.inside.root c.args.key c.in-Some.up c.self.inside.ids
+    c.self.inside.table.items c.self.invariant.sound (rw (← c.self.view_is) at c.requires.live) (rw (← c.self.view_is) at
+    c.requires.below) c.work_below.ensures c.self.invariant.table up in
+    let there = still_there c.self.inside.nodes c.work_below.new.nodes c.self.inside.root c.args.key c.in-Some.up c.self.inside.ids
+    c.self.inside.table.items c.self.invariant.sound (rw (← c.self.view_is) at c.requires.live) (rw (← c.self.view_is) at
+    c.requires.below) c.work_below.ensures c.self.invariant.table up in
+    let within : IsRightIn c.renew.new.table.items (seen c.work_below.new.nodes c.self.inside.root) c.args.key = c.renew.ensures.right c.self.inside.root
+    (seen c.work_below.new.nodes c.self.inside.root) stands there tt in
+    let outer : KeepsOutside c.work_below.new.nodes (seen c.work_below.new.nodes c.self.inside.root) c.self.inside.table.items c.renew.new.table.items
+    c.args.key = c.renew.ensures.others c.self.inside.root (seen c.work_below.new.nodes c.self.inside.root) stands there in
+    let left : IsLeft c.unlink.new.nodes c.self.inside.root c.in-Some.up (without_branch same_key c.args.key (seen c.work_below.new.nodes
+    c.self.inside.root)) c.renew.new.table.items c.whole_of-old.result =
+    touched_left c.self.inside.nodes c.work_below.new.nodes c.self.inside.root c.args.key c.in-Some.up c.self.inside.ids c.self.inside.table.items
+    c.self.invariant.sound (rw (← c.self.view_is) at c.requires.live) (rw (← c.self.view_is) at c.requires.below) c.work_below.ensures
+    c.self.invariant.table up
+    c.unlink.new.nodes c.renew.new.table.items c.unlink.ensures within outer c.renew.ensures.same_length
+    c.whole_of-old.result (c.whole_of-old.ensures ∙ whole_is c.self.inside.nodes c.self.inside.root (seen c.self.inside.nodes c.self.inside.root)
+    (seen_stands c.self.inside.nodes c.self.inside.root c.self.invariant.sound.tree) c.args.key (rw (← c.self.view_is) at c.requires.live)
+    c.deref.result.now (ap (λ r. summary_at r c.args.key) c.deref.ensures.value ∙ c.self.invariant.table.right c.args.key (rw (← c.self.view_is) at
+    c.requires.live))) in
+    let t : IsConsistent c.graft.new.nodes c.self.inside.root c.self.inside.ids × (seen c.graft.new.nodes c.self.inside.root
+    ≡ moved c.args.key c.args.parent c.args.before (seen c.self.inside.nodes c.self.inside.root)) × (marks c.graft.new.nodes
+    ≡ marks c.self.inside.nodes) =
+    relink_sound c.self.inside.nodes c.work_below.new.nodes c.unlink.new.nodes c.set_place.new.nodes c.graft.new.nodes c.self.inside.root c.args.key
+    c.args.parent c.args.before c.left_of-prev.result c.ends_of-ends.result c.self.inside.ids c.self.invariant.sound
+    (rw (← c.self.view_is) at c.requires.live) (rw (← c.self.view_is) at c.requires.below) (rw (← c.self.view_is) at c.requires.parent)
+    (rw (← c.self.view_is) at c.requires.outside) (rw (← c.self.view_is) at c.requires.place) c.requires.other
     c.work_below.ensures c.unlink.ensures c.ends_of-ends.ensures c.left_of-prev.ensures c.set_place.ensures c.graft.ensures in
-    let right = c.lose.ensures.right c.self.inside.root (without_branch same_key c.args.key (seen c.work_below.new.nodes c.self.inside.root)) left.stands left.there left.loses in
-    let others = c.lose.ensures.others c.self.inside.root (without_branch same_key c.args.key (seen c.work_below.new.nodes c.self.inside.root)) left.stands left.there in
-    let land : IsLanded c.graft.new.nodes c.self.inside.root c.args.parent c.lose.new.near.items c.whole_of-new.result =
-    landed c.self.inside.nodes c.work_below.new.nodes c.self.inside.root c.args.key c.in-Some.up c.self.inside.ids c.self.inside.near.items c.self.invariant.sound (rw (← c.self.view_is) at c.requires.live) (rw (← c.self.view_is) at c.requires.below) c.work_below.ensures c.self.invariant.near up
-    c.unlink.new.nodes c.renew.new.near.items c.unlink.ensures within outer c.renew.ensures.same_length
-    c.args.parent c.args.before (rw (← c.self.view_is) at c.requires.parent) (rw (← c.self.view_is) at c.requires.outside) (rw (← c.self.view_is) at c.requires.place) c.requires.other c.graft.new.nodes c.lose.new.near.items left.there right others c.lose.ensures.same_length t.0 t.1 t.2
-    c.whole_of-new.result (c.whole_of-new.ensures ∙ whole_is c.work_below.new.nodes c.self.inside.root (seen c.work_below.new.nodes c.self.inside.root) stands c.args.key there c.deref-2.result.now (ap (λ r. near_at r c.args.key) c.deref-2.ensures.value ∙ within c.args.key (above_self c.work_below.new.nodes c.self.inside.root (seen c.work_below.new.nodes c.self.inside.root) stands c.args.key there))) in
+    let right = c.lose.ensures.right c.self.inside.root (without_branch same_key c.args.key (seen c.work_below.new.nodes c.self.inside.root)) left.stands
+    left.there left.loses in
+    let others = c.lose.ensures.others c.self.inside.root (without_branch same_key c.args.key (seen c.work_below.new.nodes c.self.inside.root)) left.stands
+    left.there in
+    let land : IsLanded c.graft.new.nodes c.self.inside.root c.args.parent c.lose.new.table.items c.whole_of-new.result =
+    landed c.self.inside.nodes c.work_below.new.nodes c.self.inside.root c.args.key c.in-Some.up c.self.inside.ids c.self.inside.table.items
+    c.self.invariant.sound (rw (← c.self.view_is) at c.requires.live) (rw (← c.self.view_is) at c.requires.below) c.work_below.ensures
+    c.self.invariant.table up
+    c.unlink.new.nodes c.renew.new.table.items c.unlink.ensures within outer c.renew.ensures.same_length
+    c.args.parent c.args.before (rw (← c.self.view_is) at c.requires.parent) (rw (← c.self.view_is) at c.requires.outside) (rw (← c.self.view_is) at
+    c.requires.place) c.requires.other c.graft.new.nodes c.lose.new.table.items left.there right others c.lose.ensures.same_length t.0 t.1 t.2
+    c.whole_of-new.result (c.whole_of-new.ensures ∙ whole_is c.work_below.new.nodes c.self.inside.root (seen c.work_below.new.nodes c.self.inside.root)
+    stands c.args.key there c.deref-2.result.now (ap (λ r. summary_at r c.args.key) c.deref-2.ensures.value
+    ∙ within c.args.key (above_self c.work_below.new.nodes c.self.inside.root (seen c.work_below.new.nodes c.self.inside.root) stands c.args.key
+    there))) in
     record {
       sound = t.0;
-      near = land.near c.gain.new.near.items c.gain.ensures.same_length (c.gain.ensures.right c.self.inside.root (seen c.graft.new.nodes c.self.inside.root) (seen_stands c.graft.new.nodes c.self.inside.root t.0.tree) land.there land.gains);
+      table = land.table c.gain.new.table.items c.gain.ensures.same_length (c.gain.ensures.right c.self.inside.root (seen c.graft.new.nodes
+          c.self.inside.root) (seen_stands c.graft.new.nodes c.self.inside.root t.0.tree) land.there land.gains);
+      shallow = shallow_moved c.args.key c.args.parent c.args.before (seen c.self.inside.nodes c.self.inside.root) (seen c.graft.new.nodes
+          c.self.inside.root) t.1 (apart_seen c.self.inside.nodes c.self.inside.root c.self.invariant.sound.tree)
+          (rw (← c.self.view_is) at c.requires.live) (rw (← c.self.view_is) at c.requires.parent) (rw (← c.self.view_is) at
+          c.requires.outside) c.self.invariant.shallow (rw (← c.self.view_is) at c.requires.depth);
     }
 
 pub returns : goal.returns
 returns g c =
-    let t : IsConsistent c.graft.new.nodes c.self.inside.root c.self.inside.ids × (seen c.graft.new.nodes c.self.inside.root ≡ moved c.args.key c.args.parent c.args.before (seen c.self.inside.nodes c.self.inside.root)) × (marks c.graft.new.nodes ≡ marks c.self.inside.nodes) =
-    relink_sound c.self.inside.nodes c.work_below.new.nodes c.unlink.new.nodes c.set_place.new.nodes c.graft.new.nodes c.self.inside.root c.args.key c.args.parent c.args.before c.left_of-prev.result c.ends_of-ends.result c.self.inside.ids c.self.invariant.sound
-    (rw (← c.self.view_is) at c.requires.live) (rw (← c.self.view_is) at c.requires.below) (rw (← c.self.view_is) at c.requires.parent) (rw (← c.self.view_is) at c.requires.outside) (rw (← c.self.view_is) at c.requires.place) c.requires.other
+    let t : IsConsistent c.graft.new.nodes c.self.inside.root c.self.inside.ids × (seen c.graft.new.nodes c.self.inside.root
+    ≡ moved c.args.key c.args.parent c.args.before (seen c.self.inside.nodes c.self.inside.root)) × (marks c.graft.new.nodes
+    ≡ marks c.self.inside.nodes) =
+    relink_sound c.self.inside.nodes c.work_below.new.nodes c.unlink.new.nodes c.set_place.new.nodes c.graft.new.nodes c.self.inside.root c.args.key
+    c.args.parent c.args.before c.left_of-prev.result c.ends_of-ends.result c.self.inside.ids c.self.invariant.sound
+    (rw (← c.self.view_is) at c.requires.live) (rw (← c.self.view_is) at c.requires.below) (rw (← c.self.view_is) at c.requires.parent)
+    (rw (← c.self.view_is) at c.requires.outside) (rw (← c.self.view_is) at c.requires.place) c.requires.other
     c.work_below.ensures c.unlink.ensures c.ends_of-ends.ensures c.left_of-prev.ensures c.set_place.ensures c.graft.ensures in
-    rw (← c.self.view_is, t.1, t.2) refl
+    by_that _ _ _ (edited-moving c.args.key c.args.parent c.args.before c.args.self.now) (rw (← c.self.view_is, t.1, t.2) refl)

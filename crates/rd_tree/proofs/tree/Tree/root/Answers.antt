@@ -1,7 +1,7 @@
-use Rattle.rd_tree.proofs.Rooting.{rooted_seen}
-use Rattle.rd_tree.proofs.Naming.{fits_seen}
-use Rattle.rd_tree.proofs.Looking.{apart_seen}
-use Rattle.rd_tree.proofs.TreeRows.{seen_keyed}
+use Rattle.rd_tree.proofs.Nodes.Rooting.{rooted_seen}
+use Rattle.rd_tree.proofs.Nodes.Naming.{fits_seen}
+use Rattle.rd_tree.proofs.Nodes.Looking.{apart_seen}
+use Rattle.rd_tree.proofs.Tables.TreeRows.{seen_keyed}
 use Rattle.rd_tree.proofs.tree.Tree.root.Goals as goal
 
 pub returns-clause-rooted : goal.returns-clause-rooted
@@ -15,3 +15,6 @@ returns-clause-apart g c = rw (← c.self.view_is) (apart_seen c.self.inside.nod
 
 pub returns-clause-keyed : goal.returns-clause-keyed
 returns-clause-keyed g c = rw (← c.self.view_is) (λ k h. seen_keyed c.self.inside.nodes c.self.inside.root k c.self.invariant.sound.tree h)
+
+pub returns-clause-depth : goal.returns-clause-depth
+returns-clause-depth g c = rw (← c.self.view_is) c.self.invariant.shallow

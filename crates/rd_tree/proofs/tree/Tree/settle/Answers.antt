@@ -1,29 +1,45 @@
-use Rattle.std.proofs.Common.{◌≡◌, refl, true}
-use Rattle.rd_tree.specs.declared.walk.Work.TheVariants.{Settle}
+use Rattle.std.proofs.Common.{◌≡◌, refl, ap, true}
 use Rattle.rd_tree.specs.Forest.{map_where}
 use Rattle.rd_tree.specs.Internal.Linked.{seen, marks, IsConsistent}
-use Rattle.rd_tree.specs.Works.{settled, Allows}
-use Rattle.rd_tree.proofs.Each.{read_root, all_items}
-use Rattle.rd_tree.proofs.Editing.{settled_sound}
-use Rattle.rd_tree.proofs.NearKeeping.{settled_near}
+use Rattle.rd_tree.specs.Touching.{settled}
+use Rattle.rd_tree.proofs.Nodes.Each.{read_root}
+use Rattle.rd_tree.proofs.Nodes.Editing.{settled_sound}
+use Rattle.rd_tree.proofs.Tables.Above.{is_live}
+use Rattle.rd_tree.proofs.Tables.TreeRows.{seen_stands, each_has_row}
+use Rattle.rd_tree.proofs.Tables.Keeping.{settled_table}
+use Rattle.rd_tree.proofs.Changing.Shallow.{shallow_items}
 use Rattle.rd_tree.proofs.tree.Tree.settle.Goals as goal
 
-pub work_from-requires-clause-read : goal.work_from-requires-clause-read
-work_from-requires-clause-read g c = read_root c.self.inside.nodes c.self.inside.root c.self.invariant.sound.tree
+pub settle_from-requires-clause-read : goal.settle_from-requires-clause-read
+settle_from-requires-clause-read g c = read_root c.self.inside.nodes c.self.inside.root c.self.invariant.sound.tree
 
-pub work_from-requires-clause-allowed : goal.work_from-requires-clause-allowed
-work_from-requires-clause-allowed g c = all_items (Allows Settle) _ (λ d. tt)
+pub settle_from-requires-clause-has_rows : goal.settle_from-requires-clause-has_rows
+settle_from-requires-clause-has_rows g c =
+    each_has_row c.self.inside.nodes c.self.inside.root (seen c.self.inside.nodes c.self.inside.root) c.self.inside.table.items (seen_stands
+    c.self.inside.nodes c.self.inside.root c.self.invariant.sound.tree) c.self.invariant.table.all_rows
+
+pub settle_from-requires-clause-counted : goal.settle_from-requires-clause-counted
+settle_from-requires-clause-counted g c = λ k h. ap (λ r. r.touched) (c.self.invariant.table.right k h)
 
 pub invariant_of-self : goal.invariant_of-self
 invariant_of-self g c =
-    let s = settled_sound c.self.inside.nodes c.work_from.new.nodes c.self.inside.root c.self.inside.ids c.self.invariant.sound c.work_from.ensures in
+    let s = settled_sound c.self.inside.nodes c.settle_from.new.nodes c.self.inside.root c.self.inside.ids c.self.invariant.sound
+    c.settle_from.ensures.settled in
     record {
       sound = s.0;
-      near = settled_near c.self.inside.nodes c.work_from.new.nodes c.self.inside.root c.self.inside.near.items c.unmark.new.near.items c.work_from.ensures.same_slots s.1 c.unmark.ensures c.self.invariant.near;
+      shallow = shallow_items (λ j. true) settled (seen c.self.inside.nodes c.self.inside.root) (seen c.settle_from.new.nodes c.self.inside.root) s.1
+          c.self.invariant.shallow;
+      table = settled_table c.self.inside.nodes c.settle_from.new.nodes c.self.inside.root c.self.inside.table.items c.settle_from.new.table.items
+          c.settle_from.ensures.settled.same_slots s.1
+          (is_live c.self.inside.nodes c.self.inside.root (seen c.self.inside.nodes c.self.inside.root) (seen_stands c.self.inside.nodes c.self.inside.root
+          c.self.invariant.sound.tree))
+          c.settle_from.ensures.rows c.settle_from.ensures.same_length c.self.invariant.table;
     }
 
 pub returns : goal.returns
 returns g c =
-    let s : IsConsistent c.work_from.new.nodes c.self.inside.root c.self.inside.ids × (seen c.work_from.new.nodes c.self.inside.root ≡ map_where (λ j. true) settled (seen c.self.inside.nodes c.self.inside.root)) = settled_sound c.self.inside.nodes c.work_from.new.nodes c.self.inside.root c.self.inside.ids c.self.invariant.sound c.work_from.ensures in
-    let k : marks c.work_from.new.nodes ≡ marks c.self.inside.nodes = c.work_from.ensures.same_slots in
+    let s : IsConsistent c.settle_from.new.nodes c.self.inside.root c.self.inside.ids × (seen c.settle_from.new.nodes c.self.inside.root ≡ map_where
+    (λ j. true) settled (seen c.self.inside.nodes c.self.inside.root)) = settled_sound c.self.inside.nodes c.settle_from.new.nodes c.self.inside.root
+    c.self.inside.ids c.self.invariant.sound c.settle_from.ensures.settled in
+    let k : marks c.settle_from.new.nodes ≡ marks c.self.inside.nodes = c.settle_from.ensures.settled.same_slots in
     rw (← c.self.view_is, s.1, k) refl

@@ -1,0 +1,9 @@
+-- Facts about forests.
+pub mod Under
+pub mod Without
+pub mod Restoring
+pub mod Staying
+pub mod EachBranch
+pub mod Heights
+pub mod Subtrees
+pub mod Parent

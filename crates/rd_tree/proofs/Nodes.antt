@@ -1,0 +1,19 @@
+-- The arena of nodes and the index of ids, as each call leaves them.
+pub mod Marks
+pub mod Grow
+pub mod Looking
+pub mod Rooting
+pub mod Items
+pub mod Naming
+pub mod Adding
+pub mod Works
+pub mod Each
+pub mod Editing
+pub mod Unlinking
+pub mod Relinking
+pub mod Moving
+pub mod Freeing
+pub mod Removing
+pub mod Putting
+pub mod Telling
+pub mod Shifts

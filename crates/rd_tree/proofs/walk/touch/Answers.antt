@@ -1,7 +1,0 @@
-use Rattle.rd_tree.specs.declared.walk.Work.TheVariants.{Touch}
-use Rattle.rd_tree.specs.Works.{Allows}
-use Rattle.rd_tree.proofs.Each.{all_items}
-use Rattle.rd_tree.proofs.walk.touch.Goals as goal
-
-pub work_below-requires-clause-allowed : goal.work_below-requires-clause-allowed
-work_below-requires-clause-allowed c = all_items (Allows Touch) _ (λ d. tt)

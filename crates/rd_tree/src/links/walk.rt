@@ -1,0 +1,299 @@
+//! Work on all boxes of a subtree.
+ghost use Rattle.std.specs.Prelude.{◌≡◌, ◌↔◌, ◌||◌, ◌≤◌, ◌+ℤ◌, ◌-ℤ◌, ◌≤ℤ◌, pos, false, IsTrue};
+ghost use Rattle.rd_keys.specs.Keys.{same_key};
+ghost use Rattle.rd_tree.specs.Forest.{has, height, AllItems};
+ghost use Rattle.rd_tree.specs.Internal.Links.{edit, with_item, on_each, child_and_sibling};
+ghost use Rattle.rd_tree.specs.Internal.Linked.{Relinks, IsRead, linked, seen_from};
+ghost use Rattle.rd_tree.specs.Internal.Works.{done, Allows};
+ghost use Rattle.rd_tree.specs.Changes.{shifted};
+ghost use Rattle.rd_tree.specs.Touching.{touch};
+ghost use Rattle.rd_style.specs.Limits.{FitsRect};
+ghost use Rattle.rd_tree.specs.Internal.Works.{AllowsAt, FitsAt, ShiftFitsAt, item_under};
+ghost use Rattle.rd_tree.specs.Internal.Reaching.{reached};
+ghost use Rattle.rd_tree.specs.Changes as changes;
+ghost use Rattle.rd_tree.specs.Internal.Reaching as reaching;
+ghost use Rattle.std.specs.Option.{option_map_or};
+
+use crate::limits::MAX_BOXES;
+use crate::node::{Item, Node};
+use crate::reach::{Reach, rect_reach, style_reach};
+use rd_geom::Rect;
+use rd_keys::{Arena, BoxKey, BoxMark};
+use rd_style::{MAX_COORDINATE, StyleChange, changed};
+
+/// What is done to a box.
+#[derive(Clone, Copy)]
+pub(crate) enum Work {
+    /// It is touched.
+    Touch,
+    /// It is touched no more.
+    Settle,
+    /// It moves right and down by canvas pixels, and is touched.
+    Shift(i32, i32),
+}
+
+impl Work {
+    /// The work that moves a box right and down.
+    pub(crate) fn shift(dx: i32, dy: i32) -> Work
+        ensures { result ≡ Work.Shift dx dy }
+    {
+        Work::Shift(dx, dy)
+    }
+}
+
+fn shift_side(at: i32, by: i32) -> i32
+    requires low { (pos 0 -ℤ MAX_COORDINATE) ≤ℤ (at +ℤ by) }
+    requires high { (at +ℤ by) ≤ℤ MAX_COORDINATE }
+    ensures { result ≡ at +ℤ by }
+{
+    at + by
+}
+
+fn shift_rect(r: &Rect, dx: i32, dy: i32) -> Rect
+    requires { FitsRect (shifted dx dy r.now) }
+    ensures { result ≡ shifted dx dy r.now }
+{
+    match Rect::new(shift_side(r.x(), dx), shift_side(r.y(), dy), r.w(), r.h()) {
+        Some(rect) => rect,
+        None => unreachable!(),
+    }
+}
+
+fn do_work(item: &mut Item, work: Work)
+    requires { Allows work item.old }
+    ensures { item.new ≡ done work item.old }
+{
+    match work {
+        Work::Touch => item.touched = true,
+        Work::Settle => item.touched = false,
+        Work::Shift(dx, dy) => {
+            item.rect = shift_rect(&item.rect, dx, dy);
+            item.touched = true;
+        }
+    }
+}
+
+/// Does the work on one box. Its first child and its next sibling.
+pub(crate) fn work_on(
+    nodes: &mut Arena<Node, BoxMark>,
+    key: BoxKey,
+    work: Work,
+) -> (Option<BoxKey>, Option<BoxKey>)
+    requires { AllowsAt work (linked nodes.old key) }
+    ensures worked { Relinks nodes.old nodes.new (edit same_key key (with_item (done work))
+        (linked nodes.old)) }
+    ensures onward { result ≡ child_and_sibling (linked nodes.old key) }
+{
+    match nodes.get_mut(key) {
+        Some(node) => {
+            do_work(&mut node.item, work);
+            (node.links.first, node.links.next)
+        }
+        None => (None, None),
+    }
+}
+
+/// Does the work on a box, on those below it, and on its later siblings with theirs.
+pub(crate) fn work_from(nodes: &mut Arena<Node, BoxMark>, first: Option<BoxKey>, work: Work)
+    requires read { IsRead nodes.old first }
+    requires allowed { AllItems (Allows work) (seen_from nodes.old first) }
+    ensures { Relinks nodes.old nodes.new (on_each (λ j. has same_key j (seen_from nodes.old
+        first)) (done work) (linked nodes.old)) }
+{
+    let mut at = first;
+    while let Some(key) = at {
+        let onward = work_on(nodes, key, work);
+        work_from(nodes, onward.0, work);
+        at = onward.1;
+    }
+}
+
+/// Does the work on a box and on all below it.
+pub(crate) fn work_below(nodes: &mut Arena<Node, BoxMark>, key: BoxKey, work: Work)
+    requires here { AllowsAt work (linked nodes.old key) }
+    requires read { IsRead nodes.old (child_and_sibling (linked nodes.old key)).0 }
+    requires apart { has same_key key (seen_from nodes.old (child_and_sibling (linked nodes.old
+        key)).0) ≡ false }
+    requires allowed { AllItems (Allows work) (seen_from nodes.old (child_and_sibling
+        (linked nodes.old key)).0) }
+    ensures { Relinks nodes.old nodes.new (on_each (λ j. same_key j key || has same_key j
+        (seen_from nodes.old (child_and_sibling (linked nodes.old key)).0)) (done work)
+        (linked nodes.old)) }
+{
+    let onward = work_on(nodes, key, work);
+    work_from(nodes, onward.0, work);
+}
+
+/// The first child and the next sibling of a box.
+pub(crate) fn child_and_sibling(
+    nodes: &Arena<Node, BoxMark>,
+    key: BoxKey,
+) -> (Option<BoxKey>, Option<BoxKey>)
+    ensures { result ≡ child_and_sibling (linked nodes.now key) }
+{
+    match nodes.get(key) {
+        Some(node) => (node.links.first, node.links.next),
+        None => (None, None),
+    }
+}
+
+/// How many levels a box, those below it, and its later siblings with theirs have.
+pub(crate) fn height_from(nodes: &Arena<Node, BoxMark>, first: Option<BoxKey>) -> u32
+    requires read { IsRead nodes.now first }
+    requires small { nodes.now.limit ≤ MAX_BOXES }
+    ensures height { result ≡ height (seen_from nodes.now first) }
+    ensures most { result ≤ nodes.now.limit }
+{
+    let mut most = 0;
+    let mut at = first;
+    while let Some(key) = at {
+        let (below, next) = child_and_sibling(nodes, key);
+        most = most.max(height_from(nodes, below) + 1);
+        at = next;
+    }
+    most
+}
+
+/// Touches as far as an edit reaches.
+pub(crate) fn touch(nodes: &mut Arena<Node, BoxMark>, key: BoxKey, reach: Reach)
+    requires read { IsRead nodes.old (child_and_sibling (linked nodes.old key)).0 }
+    requires apart { has same_key key (seen_from nodes.old (child_and_sibling (linked nodes.old
+        key)).0) ≡ false }
+    ensures { Relinks nodes.old nodes.new (on_each (reached reach key (seen_from nodes.old
+        (child_and_sibling (linked nodes.old key)).0)) touch (linked nodes.old)) }
+{
+    match reach {
+        Reach::Nothing => {}
+        Reach::Alone => {
+            work_on(nodes, key, Work::Touch);
+        }
+        Reach::Subtree => work_below(nodes, key, Work::Touch),
+    }
+}
+
+/// Changes the style of a box. How far that touches.
+pub(crate) fn restyle(
+    nodes: &mut Arena<Node, BoxMark>,
+    key: BoxKey,
+    is_root: bool,
+    c: &StyleChange,
+) -> Reach
+    ensures restyled { Relinks nodes.old nodes.new (edit same_key key (with_item (changes.restyle
+        c.now)) (linked nodes.old)) }
+    ensures reach { result ≡ option_map_or (λ d. reaching.style_reach d.style is_root c.now)
+        (item_under (linked nodes.old key)) Reach.Nothing }
+{
+    match nodes.get_mut(key) {
+        Some(node) => {
+            let reach = style_reach(&node.item.style, is_root, c);
+            node.item.style = changed(&node.item.style, c);
+            reach
+        }
+        None => Reach::Nothing,
+    }
+}
+
+/// Gives a box another rectangle. How far that touches.
+pub(crate) fn put_rect(
+    nodes: &mut Arena<Node, BoxMark>,
+    key: BoxKey,
+    is_root: bool,
+    rect: Rect,
+) -> Reach
+    ensures put { Relinks nodes.old nodes.new (edit same_key key (with_item (changes.with_rect
+        rect)) (linked nodes.old)) }
+    ensures reach { result ≡ option_map_or (λ d. reaching.rect_reach d.style is_root) (item_under
+        (linked nodes.old key)) Reach.Nothing }
+{
+    match nodes.get_mut(key) {
+        Some(node) => {
+            node.item.rect = rect;
+            rect_reach(&node.item.style, is_root)
+        }
+        None => Reach::Nothing,
+    }
+}
+
+/// How far boxes are moved right and down, in canvas pixels.
+#[derive(Clone, Copy)]
+pub(crate) struct Offset {
+    pub(crate) dx: i32,
+    pub(crate) dy: i32,
+}
+
+impl Offset {
+    pub(crate) fn new(dx: i32, dy: i32) -> Offset
+        ensures dx { result.dx ≡ dx }
+        ensures dy { result.dy ≡ dy }
+    {
+        Offset { dx, dy }
+    }
+}
+
+fn side_fits(at: i32, by: i32) -> bool
+    ensures low { IsTrue result → (pos 0 -ℤ MAX_COORDINATE) ≤ℤ (at +ℤ by) }
+    ensures high { IsTrue result → (at +ℤ by) ≤ℤ MAX_COORDINATE }
+    ensures fits { (pos 0 -ℤ MAX_COORDINATE) ≤ℤ (at +ℤ by) → (at +ℤ by) ≤ℤ MAX_COORDINATE
+        → IsTrue result }
+{
+    let sum = i64::from(at) + i64::from(by);
+    let most = i64::from(MAX_COORDINATE);
+    -most <= sum && sum <= most
+}
+
+/// Does the rectangle stay within the limits once it is moved?
+fn shift_fits(r: &Rect, by: &Offset) -> bool
+    requires { FitsRect r.now }
+    ensures { IsTrue result ↔ FitsRect (shifted by.now.dx by.now.dy r.now) }
+{
+    let x = r.x();
+    let y = r.y();
+    let across = side_fits(x, by.dx);
+    let down = side_fits(y, by.dy);
+    across && down
+}
+
+/// Does a box stay within the limits once it is moved? Its first child and its next sibling.
+pub(crate) fn shift_one_fits(
+    nodes: &Arena<Node, BoxMark>,
+    key: BoxKey,
+    by: &Offset,
+) -> (bool, Option<BoxKey>, Option<BoxKey>)
+    requires { FitsAt (linked nodes.now key) }
+    ensures fits { IsTrue result.0 ↔ ShiftFitsAt by.now.dx by.now.dy (linked nodes.now key) }
+    ensures onward { (result.1, result.2) ≡ child_and_sibling (linked nodes.now key) }
+{
+    match nodes.get(key) {
+        Some(node) => (
+            shift_fits(&node.item.rect, by),
+            node.links.first,
+            node.links.next,
+        ),
+        None => (true, None, None),
+    }
+}
+
+/// Do a box, those below it, and its later siblings with theirs stay within the limits once they are moved?
+pub(crate) fn shift_from_fits(
+    nodes: &Arena<Node, BoxMark>,
+    first: Option<BoxKey>,
+    by: &Offset,
+) -> bool
+    requires read { IsRead nodes.now first }
+    requires fits { AllItems (λ d. FitsRect d.rect) (seen_from nodes.now first) }
+    ensures { IsTrue result ↔ AllItems (λ d. FitsRect (shifted by.now.dx by.now.dy d.rect))
+        (seen_from nodes.now first) }
+{
+    let mut at = first;
+    while let Some(key) = at {
+        let (fits, below, next) = shift_one_fits(nodes, key, by);
+        if !fits {
+            return false;
+        }
+        if !shift_from_fits(nodes, below, by) {
+            return false;
+        }
+        at = next;
+    }
+    true
+}

@@ -1,0 +1,55 @@
+//! From a box up to the root, what the table has of each box is set right.
+ghost use Rattle.std.specs.Prelude.{◌≡◌, length};
+ghost use Rattle.rd_tree.specs.Document.{BoxKey, BoxForest};
+ghost use Rattle.rd_tree.specs.Internal.Rows.{IsStanding, IsIn, CanMark, MarksUp, CanMove, IsMoving, HasHulls, KeepsCounts, KeepsOthers};
+
+use crate::links::parent_of;
+use crate::node::Node;
+use crate::table::hulls::moved_hull;
+use crate::table::row::{Summary, mark, put_hull};
+use rd_geom::Rect;
+use rd_keys::{Arena, BoxKey, BoxMark};
+
+/// So many touched boxes less below a box and below all boxes above it, and so many more.
+pub(crate) fn mark_up(
+    table: &mut Vec<Summary>,
+    nodes: &Arena<Node, BoxMark>,
+    from: Option<BoxKey>,
+    less: u32,
+    more: u32,
+)
+    requires { CanMark nodes.now table.old.items from less more }
+    ensures rows { (root : BoxKey) (f : BoxForest) → IsStanding nodes.now root f → IsIn from f
+        → MarksUp nodes.now f table.old.items table.new.items from less more }
+    ensures same_length { length table.new.items ≡ length table.old.items }
+{
+    let mut at = from;
+    while let Some(key) = at {
+        mark(table, key, less, more);
+        at = parent_of(nodes, key);
+    }
+}
+
+/// Something below a box, or nothing, had the hull `lost` and has now `gained`: the hulls of the box and of all above it.
+pub(crate) fn move_hulls(
+    table: &mut Vec<Summary>,
+    nodes: &Arena<Node, BoxMark>,
+    from: Option<BoxKey>,
+    lost: Rect,
+    gained: Rect,
+)
+    requires { CanMove nodes.now table.old.items from }
+    ensures hulls { (root : BoxKey) (f : BoxForest) → IsStanding nodes.now root f → IsIn from f
+        → IsMoving table.old.items f from lost gained → HasHulls table.new.items f }
+    ensures others { (root : BoxKey) (f : BoxForest) → IsStanding nodes.now root f → IsIn from f
+        → KeepsOthers nodes.now f table.old.items table.new.items from }
+    ensures counts { KeepsCounts table.old.items table.new.items }
+    ensures same_length { length table.new.items ≡ length table.old.items }
+{
+    let mut at = from;
+    while let Some(key) = at {
+        let hull = moved_hull(table, nodes, key, lost, gained);
+        put_hull(table, key, hull);
+        at = parent_of(nodes, key);
+    }
+}

@@ -1,0 +1,102 @@
+//! The table's rows of all boxes below a place, worked out anew.
+ghost use Rattle.std.specs.Prelude.{◌≡◌, ◌+◌, ◌<◌, ◌≤◌, length};
+ghost use Rattle.rd_geom.specs.Plane.{hull_of};
+ghost use Rattle.rd_tree.specs.Forest.{empty};
+ghost use Rattle.rd_tree.specs.Document.{AllFit};
+ghost use Rattle.rd_tree.specs.Internal.Linked.{IsRead, linked, seen_from};
+ghost use Rattle.rd_tree.specs.Internal.Rows.{HasRows, IsFitAt, extent_under, touched_under};
+ghost use Rattle.rd_tree.specs.Internal.Gathers.{Gathers, gathered_in, row_over};
+
+use crate::limits::MAX_BOXES;
+use crate::links::walk::child_and_sibling;
+use crate::node::Node;
+use crate::table::hulls::extent_of;
+use crate::table::row::{Summary, write};
+use rd_geom::{Rect, hull};
+use rd_keys::{Arena, BoxKey, BoxMark};
+
+/// What some siblings are together: how many they are, how many of them and of all below them are touched, and the hull
+/// of all.
+#[derive(Clone, Copy)]
+pub(crate) struct Gathered {
+    pub(crate) breadth: u32,
+    pub(crate) touched: u32,
+    pub(crate) hull: Rect,
+}
+
+impl Gathered {
+    fn none() -> Gathered
+        ensures { result ≡ gathered_in empty }
+    {
+        Gathered {
+            breadth: 0,
+            touched: 0,
+            hull: Rect::EMPTY,
+        }
+    }
+}
+
+/// 1 where the box is touched, and else 0.
+pub(crate) fn touched_at(nodes: &Arena<Node, BoxMark>, key: BoxKey) -> u32
+    ensures { result ≡ touched_under (linked nodes.now key) }
+{
+    match nodes.get(key) {
+        Some(node) => { if node.item.touched { 1 } else { 0 } }
+        None => 0,
+    }
+}
+
+/// The row of a box with these below it.
+pub(crate) fn row_of(nodes: &Arena<Node, BoxMark>, key: BoxKey, below: &Gathered) -> Summary
+    requires { IsFitAt (linked nodes.now key) }
+    ensures { result ≡ row_over (extent_under (linked nodes.now key)) below.now }
+{
+    let own = extent_of(nodes, key);
+    Summary {
+        children: below.breadth,
+        touched: below.touched,
+        hull: hull(own, below.hull),
+    }
+}
+
+/// With one sibling more, of which this is the row. `own` is 1 where it is touched itself.
+fn with_one(all: &Gathered, own: u32, row: &Summary) -> Gathered
+    requires few { all.now.breadth < 4294967295 }
+    requires few_touched { all.now.touched + (own + row.now.touched) < 4294967296 }
+    ensures breadth { result.breadth ≡ all.now.breadth + 1 }
+    ensures touched { result.touched ≡ all.now.touched + (own + row.now.touched) }
+    ensures hull { result.hull ≡ hull_of all.now.hull row.now.hull }
+{
+    Gathered {
+        breadth: all.breadth + 1,
+        touched: all.touched + (own + row.touched),
+        hull: hull(all.hull, row.hull),
+    }
+}
+
+/// Writes the rows of a box, of those below it, and of its later siblings with theirs. What the siblings are together.
+pub(crate) fn gather(
+    table: &mut Vec<Summary>,
+    nodes: &Arena<Node, BoxMark>,
+    first: Option<BoxKey>,
+) -> Gathered
+    requires read { IsRead nodes.now first }
+    requires small { nodes.now.limit ≤ MAX_BOXES }
+    requires has_rows { HasRows table.old.items (seen_from nodes.now first) }
+    requires fits { AllFit (seen_from nodes.now first) }
+    ensures told { result ≡ gathered_in (seen_from nodes.now first) }
+    ensures rows { Gathers nodes.now table.old.items table.new.items (seen_from nodes.now first) }
+    ensures same_length { length table.new.items ≡ length table.old.items }
+{
+    let mut all = Gathered::none();
+    let mut at = first;
+    while let Some(key) = at {
+        let (below, next) = child_and_sibling(nodes, key);
+        let low = gather(table, nodes, below);
+        let row = row_of(nodes, key, &low);
+        all = with_one(&all, touched_at(nodes, key), &row);
+        write(table, key, row);
+        at = next;
+    }
+    all
+}

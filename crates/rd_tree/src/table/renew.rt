@@ -1,0 +1,115 @@
+//! The table's rows once the items of one branch have changed.
+ghost use Rattle.std.specs.Prelude.{◌≡◌, ◌+◌, ◌<◌, ◌↔◌, length, true};
+ghost use Rattle.rd_keys.specs.Keys.{same_key};
+ghost use Rattle.rd_tree.specs.Forest.{has};
+ghost use Rattle.rd_tree.specs.Document.{BoxKey, BoxForest};
+ghost use Rattle.rd_tree.specs.Internal.Linked.{linked};
+ghost use Rattle.rd_tree.specs.Internal.Summaries.{summary_at};
+ghost use Rattle.rd_tree.specs.Internal.Rows.{IsStanding, IsRight, CanClimb, touched_under};
+ghost use Rattle.rd_tree.specs.Internal.Renews.{whole_at, IsRightIn, KeepsOutside, IsStale, IsRenewing};
+
+use crate::links::parent_of;
+use crate::links::walk::child_and_sibling;
+use crate::node::Node;
+use crate::reach::Reach;
+use crate::table::fill::{gather, row_of, touched_at};
+use crate::table::hulls::hull_anew;
+use crate::table::row::{Summary, put_hull, row_at, write};
+use crate::table::whole::{Whole, swap_up};
+use rd_geom::Rect;
+use rd_keys::{Arena, BoxKey, BoxMark};
+
+/// Which rows of a branch are to be worked out anew.
+#[derive(Clone, Copy)]
+pub(crate) enum Stale {
+    /// None.
+    Nothing,
+    /// That of its box, and there the hull alone.
+    Hull,
+    /// All.
+    Branch,
+}
+
+/// Which rows an edit of a box leaves stale, by how far it touches and by the extents of the box before and after.
+pub(crate) fn stale_by(reach: Reach, before: Rect, after: Rect) -> Stale
+    ensures branch { (result ≡ Stale.Branch) ↔ (reach ≡ Reach.Subtree) }
+    ensures nothing { result ≡ Stale.Nothing → before ≡ after }
+    ensures hull { result ≡ Stale.Hull → before ≡ after → ⊥ }
+{
+    match reach {
+        Reach::Subtree => Stale::Branch,
+        Reach::Nothing | Reach::Alone => {
+            if before == after {
+                Stale::Nothing
+            } else {
+                Stale::Hull
+            }
+        }
+    }
+}
+
+/// What a branch is, by the row of its box.
+pub(crate) fn whole_of(table: &[Summary], nodes: &Arena<Node, BoxMark>, key: BoxKey) -> Whole
+    requires here { key.slot < length table.now }
+    requires few { touched_under (linked nodes.now key) + (summary_at table.now key).touched <
+        4294967296 }
+    ensures { result ≡ whole_at nodes.now table.now key }
+{
+    let row = row_at(table, key);
+    Whole {
+        touched: touched_at(nodes, key) + row.touched,
+        hull: row.hull,
+    }
+}
+
+/// Works the stale rows of a branch out anew.
+pub(crate) fn renew(
+    table: &mut Vec<Summary>,
+    nodes: &Arena<Node, BoxMark>,
+    key: BoxKey,
+    stale: Stale,
+)
+    requires { CanClimb nodes.now table.old.items key (λ f. IsStale stale table.old.items f key) }
+    ensures right { (root : BoxKey) (f : BoxForest) → IsStanding nodes.now root f
+        → has same_key key f ≡ true → IsStale stale table.old.items f key
+        → IsRightIn table.new.items f key }
+    ensures others { (root : BoxKey) (f : BoxForest) → IsStanding nodes.now root f
+        → has same_key key f ≡ true → KeepsOutside nodes.now f table.old.items table.new.items
+        key }
+    ensures same_length { length table.new.items ≡ length table.old.items }
+{
+    match stale {
+        Stale::Nothing => {}
+        Stale::Hull => {
+            let hull = hull_anew(table, nodes, key);
+            put_hull(table, key, hull);
+        }
+        Stale::Branch => {
+            let below = child_and_sibling(nodes, key).0;
+            let low = gather(table, nodes, below);
+            let row = row_of(nodes, key, &low);
+            write(table, key, row);
+        }
+    }
+}
+
+/// Sets all rows right once the items of a branch have changed, which was `old`.
+pub(crate) fn renew_up(
+    table: &mut Vec<Summary>,
+    nodes: &Arena<Node, BoxMark>,
+    key: BoxKey,
+    stale: Stale,
+    old: Whole,
+)
+    requires { CanClimb nodes.now table.old.items key (λ f. IsRenewing table.old.items f key
+        stale old) }
+    ensures right { (root : BoxKey) (f : BoxForest) → IsStanding nodes.now root f
+        → has same_key key f ≡ true → IsRenewing table.old.items f key stale old
+        → IsRight table.new.items f }
+    ensures same_length { length table.new.items ≡ length table.old.items }
+{
+    renew(table, nodes, key, stale);
+    let new = whole_of(table, nodes, key);
+    let up = parent_of(nodes, key);
+    swap_up(table, nodes, up, old, new);
+}

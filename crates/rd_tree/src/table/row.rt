@@ -1,0 +1,134 @@
+//! The rows of the table of a tree.
+ghost use Rattle.std.specs.Prelude.{◌≡◌, ◌+◌, ◌-◌, ◌<◌, ◌≤◌, ◌⊎◌, length, vec_len, vec_capacity};
+ghost use Rattle.rd_tree.specs.Forest.{empty};
+ghost use Rattle.rd_tree.specs.Internal.Summaries.{summary_first, summary_at};
+ghost use Rattle.rd_tree.specs.Internal.Rows.{Puts, IsMarkable, alone, with_child_count, with_hull, marked, unmarked};
+
+use rd_geom::Rect;
+use rd_keys::BoxKey;
+
+/// How many children a box has, how many touched boxes are below it, and the hull of it and all below it.
+#[derive(Clone, Copy)]
+pub struct Summary {
+    pub children: u32,
+    pub touched: u32,
+    pub hull: Rect,
+}
+
+/// Of no box at all.
+pub(crate) fn none() -> Summary
+    ensures { result ≡ summary_first empty }
+{
+    Summary {
+        children: 0,
+        touched: 0,
+        hull: Rect::EMPTY,
+    }
+}
+
+/// Of a box without children, whose hull this is.
+pub(crate) fn summary_alone(hull: Rect) -> Summary
+    ensures { result ≡ alone hull }
+{
+    Summary {
+        children: 0,
+        touched: 0,
+        hull,
+    }
+}
+
+/// The row of a box.
+pub(crate) fn row_at(table: &[Summary], key: BoxKey) -> Summary
+    requires { key.slot < length table.now }
+    ensures { result ≡ summary_at table.now key }
+{
+    table[key.slot() as usize]
+}
+
+/// Writes the row of a slot that has one.
+pub(crate) fn write(table: &mut Vec<Summary>, key: BoxKey, row: Summary)
+    requires { key.slot < length table.old.items }
+    ensures rows { Puts table.old.items table.new.items key row }
+    ensures same_length { length table.new.items ≡ length table.old.items }
+{
+    table[key.slot() as usize] = row;
+}
+
+/// Writes the row of a slot that has one, or of the next one.
+pub(crate) fn put(table: &mut Vec<Summary>, key: BoxKey, row: Summary)
+    requires { (key.slot < length table.old.items) ⊎ ((key.slot ≡ length table.old.items)
+        × (vec_len table.old < vec_capacity table.old)) }
+    ensures rows { Puts table.old.items table.new.items key row }
+    ensures there { key.slot < length table.new.items }
+    ensures longer { length table.old.items ≤ length table.new.items }
+    ensures by_one { length table.new.items ≤ length table.old.items + 1 }
+{
+    if (key.slot() as usize) < table.len() {
+        write(table, key, row);
+    } else {
+        table.push_reserved(row);
+    }
+}
+
+/// One child more.
+pub(crate) fn add_child(table: &mut Vec<Summary>, key: BoxKey)
+    requires here { key.slot < length table.old.items }
+    requires few { (summary_at table.old.items key).children < 4294967295 }
+    ensures rows { Puts table.old.items table.new.items key (with_child_count ((summary_at
+        table.old.items key).children + 1) (summary_at table.old.items key)) }
+    ensures same_length { length table.new.items ≡ length table.old.items }
+{
+    let mut row = row_at(table, key);
+    row.children += 1;
+    write(table, key, row);
+}
+
+/// One child less.
+pub(crate) fn drop_child(table: &mut Vec<Summary>, key: BoxKey)
+    requires here { key.slot < length table.old.items }
+    requires some { 0 < (summary_at table.old.items key).children }
+    ensures rows { Puts table.old.items table.new.items key (with_child_count ((summary_at
+        table.old.items key).children - 1) (summary_at table.old.items key)) }
+    ensures same_length { length table.new.items ≡ length table.old.items }
+{
+    let mut row = row_at(table, key);
+    row.children -= 1;
+    write(table, key, row);
+}
+
+/// So many touched boxes less below a box, and so many more.
+pub(crate) fn mark(table: &mut Vec<Summary>, key: BoxKey, less: u32, more: u32)
+    requires here { key.slot < length table.old.items }
+    requires markable { IsMarkable less more (summary_at table.old.items key) }
+    ensures rows { Puts table.old.items table.new.items key (marked less more (summary_at
+        table.old.items key)) }
+    ensures same_length { length table.new.items ≡ length table.old.items }
+{
+    let mut row = row_at(table, key);
+    row.touched = row.touched - less + more;
+    write(table, key, row);
+}
+
+/// Gives a box another hull.
+pub(crate) fn put_hull(table: &mut Vec<Summary>, key: BoxKey, hull: Rect)
+    requires { key.slot < length table.old.items }
+    ensures rows { Puts table.old.items table.new.items key (with_hull hull (summary_at
+        table.old.items key)) }
+    ensures same_length { length table.new.items ≡ length table.old.items }
+{
+    let mut row = row_at(table, key);
+    row.hull = hull;
+    write(table, key, row);
+}
+
+/// No touched box is below a box any more.
+pub(crate) fn unmark(table: &mut Vec<Summary>, key: BoxKey)
+    requires { key.slot < length table.old.items }
+    ensures rows { Puts table.old.items table.new.items key (unmarked (summary_at table.old.items
+        key)) }
+    ensures same_length { length table.new.items ≡ length table.old.items }
+{
+    let mut row = row_at(table, key);
+    row.touched = 0;
+    write(table, key, row);
+}

@@ -1,0 +1,98 @@
+//! What a branch is to the boxes above it.
+ghost use Rattle.std.specs.Prelude.{◌≡◌, length, Some, true};
+ghost use Rattle.rd_keys.specs.Keys.{same_key};
+ghost use Rattle.rd_tree.specs.Forest.{has};
+ghost use Rattle.rd_tree.specs.Document.{BoxKey, BoxForest};
+ghost use Rattle.rd_tree.specs.Internal.Rows.{IsStanding, IsIn, IsSwapping, IsGaining, IsLosing, IsRight, CanSwap, CanClimb, KeepsOthers};
+ghost use Rattle.rd_tree.specs.Internal.Rows as rows;
+
+use crate::node::Node;
+use crate::table::climb::{mark_up, move_hulls};
+use crate::table::row::{Summary, add_child, drop_child};
+use rd_geom::Rect;
+use rd_keys::{Arena, BoxKey, BoxMark};
+
+/// How many boxes of a branch are touched, and the hull of them all.
+#[derive(Clone, Copy)]
+pub(crate) struct Whole {
+    pub(crate) touched: u32,
+    pub(crate) hull: Rect,
+}
+
+/// Below a box, and below all boxes above it, a branch stands in place of another.
+pub(crate) fn swap_up(
+    table: &mut Vec<Summary>,
+    nodes: &Arena<Node, BoxMark>,
+    from: Option<BoxKey>,
+    old: Whole,
+    new: Whole,
+)
+    requires { CanSwap nodes.now table.old.items from old new }
+    ensures right { (root : BoxKey) (f : BoxForest) → IsStanding nodes.now root f → IsIn from f
+        → IsSwapping table.old.items f from old new → IsRight table.new.items f }
+    ensures others { (root : BoxKey) (f : BoxForest) → IsStanding nodes.now root f → IsIn from f
+        → KeepsOthers nodes.now f table.old.items table.new.items from }
+    ensures same_length { length table.new.items ≡ length table.old.items }
+{
+    mark_up(table, nodes, from, old.touched, new.touched);
+    move_hulls(table, nodes, from, old.hull, new.hull);
+}
+
+/// No branch at all.
+fn nothing() -> Whole
+    ensures { result ≡ rows.nothing }
+{
+    Whole {
+        touched: 0,
+        hull: Rect::EMPTY,
+    }
+}
+
+/// A touched box by itself, whose hull this is.
+pub(crate) fn touched_box(hull: Rect) -> Whole
+    ensures { result ≡ rows.touched_box hull }
+{
+    Whole { touched: 1, hull }
+}
+
+/// A branch is a new child of a box.
+pub(crate) fn gain(
+    table: &mut Vec<Summary>,
+    nodes: &Arena<Node, BoxMark>,
+    parent: BoxKey,
+    whole: Whole,
+)
+    requires { CanClimb nodes.now table.old.items parent (λ f. IsGaining table.old.items f parent
+        whole) }
+    ensures right { (root : BoxKey) (f : BoxForest) → IsStanding nodes.now root f
+        → has same_key parent f ≡ true → IsGaining table.old.items f parent whole
+        → IsRight table.new.items f }
+    ensures others { (root : BoxKey) (f : BoxForest) → IsStanding nodes.now root f
+        → has same_key parent f ≡ true → KeepsOthers nodes.now f table.old.items table.new.items
+        (Some parent) }
+    ensures same_length { length table.new.items ≡ length table.old.items }
+{
+    add_child(table, parent);
+    swap_up(table, nodes, Some(parent), nothing(), whole);
+}
+
+/// A branch is a child of a box no more.
+pub(crate) fn lose(
+    table: &mut Vec<Summary>,
+    nodes: &Arena<Node, BoxMark>,
+    parent: BoxKey,
+    whole: Whole,
+)
+    requires { CanClimb nodes.now table.old.items parent (λ f. IsLosing table.old.items f parent
+        whole) }
+    ensures right { (root : BoxKey) (f : BoxForest) → IsStanding nodes.now root f
+        → has same_key parent f ≡ true → IsLosing table.old.items f parent whole
+        → IsRight table.new.items f }
+    ensures others { (root : BoxKey) (f : BoxForest) → IsStanding nodes.now root f
+        → has same_key parent f ≡ true → KeepsOthers nodes.now f table.old.items table.new.items
+        (Some parent) }
+    ensures same_length { length table.new.items ≡ length table.old.items }
+{
+    drop_child(table, parent);
+    swap_up(table, nodes, Some(parent), whole, nothing());
+}
