@@ -7,7 +7,7 @@ use Rattle.rd_list.specs.Kept.{KeptReady, bare}
 use Rattle.rd_list.specs.EntryNames.{entry_names}
 use Rattle.rd_list.proofs.Naming.{display_editing, display_merging}
 use Rattle.rd_tree.specs.Forest.{map_where}
-use Rattle.rd_tree.specs.Works.{settled}
+use Rattle.rd_tree.specs.Touching.{settled}
 use Rattle.rd_tree.specs.Document.{Document, is_touched}
 use Rattle.rd_stack.specs.Fresh.{fresh_list}
 use Rattle.rd_stack.proofs.Promises.{stands_for_itself}
@@ -25,16 +25,16 @@ absorbed true b h = sym (h refl)
 absorbed false b h = refl
 
 pub editing : EditingLaw
-editing e old new kept apart rooted accepted edited ready =
-    let k = edits e old new apart rooted accepted edited in
+editing e old new kept s accepted edited ready =
+    let k = edits e old new s accepted edited in
     let was : BoxKey → Bool = λ j. is_touched j old.boxes in
     let is : BoxKey → Bool = λ j. is_touched j new.boxes in
     let same : without_touched (λ j. was j || is j) (fresh_list old) ≡ without_touched (λ j. was j || is j) (fresh_list new) =
-    k.lists (λ j. was j || is j) (λ j t. or_second (was j) (is j) (k.marked j t)) in
+    k.lists (λ j. was j || is j) (λ j t. or_second (was j) (is j) (subst (λ (z : Document). is_touched j z.boxes ≡ true) (sym k.is) (k.marked j t))) in
     let both : Leaf → Bool = λ l. not (was l.owner || is l.owner) in
     let e : both ≡ stays new = λ i l. not (absorbed (was l.owner) (is l.owner) (k.unchanged.marks l.owner) i) in
     subst (λ (p : Leaf → Bool). KeptReady entry_names (λ m. m.leaf) leaves_meet p kept (fresh_list new)) e
-    (display_editing (fresh_list old) (fresh_list new) kept was is (stands_for_itself old apart) same ready)
+    (display_editing (fresh_list old) (fresh_list new) kept was is (stands_for_itself old s.apart) same ready)
 
 pub painting : PaintingLaw
 painting t kept joined new in_area apart covered ready same merged =

@@ -12,12 +12,16 @@ use Rattle.rd_item.specs.declared.leaf.Leaf.{Leaf}
 use Rattle.rd_list.specs.Wrappers.{Wrapper}
 use Rattle.rd_list.specs.Entries.{Entries, nil, leaf, group, wrappers, only}
 use Rattle.rd_list.specs.Lists as lists
-use Rattle.rd_list.specs.Lists.{same_part, leaves_meet, groups}
+use Rattle.rd_list.specs.Lists.{leaves_meet, groups}
+use Rattle.rd_graph.specs.Names.{same_part}
 use Rattle.rd_list.specs.Levels.{StandsFor}
-use Rattle.rd_list.specs.Laws.{AreNames, IsReady}
+use Rattle.rd_list.specs.Laws.{IsReady}
+use Rattle.rd_list.proofs.Named.{AreNames}
 use Rattle.rd_geom.specs.Plane.{Rectangle, has_none, holds_pixel}
 use Rattle.rd_list.specs.Kept.{bare, bare_new, reach_of}
-use Rattle.rd_list.specs.EntryNames.{same_entry, entry_names, DisplayMerging, DisplayEditing, DisplayBeginning, Covering}
+use Rattle.rd_list.specs.EntryNames.{entry_names}
+use Rattle.rd_list.specs.Display.{DisplayMerging, DisplayEditing, DisplayBeginning, Covering}
+use Rattle.rd_graph.specs.Names.{same_entry}
 use Rattle.rd_list.proofs.Narrowing.{edited, stands_once}
 use Rattle.rd_list.proofs.Linear.{linear_merged}
 use Rattle.rd_list.proofs.Nesting.{kept_merging}

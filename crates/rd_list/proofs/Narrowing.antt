@@ -6,7 +6,8 @@ use Rattle.rd_list.specs.Entries.{Entries, nil, leaf, group, flat, routes, wrapp
 use Rattle.rd_graph.specs.Orders.{Before}
 use Rattle.rd_list.specs.Levels.{Names, keys, name, level_at, held, EntriesMeet, StandsFor, pair_in_order}
 use Rattle.rd_list.specs.Joining.{Among, IsSoundAt, IsSound}
-use Rattle.rd_list.specs.Laws.{AreNames, IsReady}
+use Rattle.rd_list.specs.Laws.{IsReady}
+use Rattle.rd_list.proofs.Named.{AreNames}
 use Rattle.rd_graph.proofs.Listing.{Has, Once, cases, has_from, contains_from, has_left, has_right, has_either, has_map, map_has, filter_has, once_map, pairs_map, once_left, once_right, once_apart, once_join, before_either, before_once}
 use Rattle.rd_list.proofs.Levelling.{level-only, flat-only, held-only, held_key, has_only, before_only}
 use Rattle.rd_list.proofs.Onces.{names_in, once_in, once_keys, once_level, once_leaves, once_groups}

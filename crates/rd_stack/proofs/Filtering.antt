@@ -2,10 +2,11 @@
 use Rattle.std.proofs.Common.{◌≡◌, refl, ap, ◌∙◌, sym, subst, Bool, true, false, not, ◌&&◌, ◌||◌, cond, List, [], ◌∷◌, ℕ, pos, ◌+ℤ◌, ◌-ℤ◌, IsTrue, arith, inl, inr, nat_lt}
 use Rattle.std.specs.Prelude.{Option, Some, None, option_map}
 use Rattle.std.proofs.lemmas.Int.{ints}
-use Rattle.rd_geom.specs.Plane.{Rectangle, right, bottom, meet, has_none, no_pixels, hull_of, around, outset, inset, holds_pixel, IsWithin, SharesPixel}
+use Rattle.rd_geom.specs.Plane.{Rectangle, right, bottom, meet, has_none, no_pixels, hull_of, around, outset, inset, holds_pixel, IsWithin}
+use Rattle.rd_geom.specs.Areas.{meets_area}
 use Rattle.rd_geom.specs.Canvas.{canvas_of}
 use Rattle.rd_geom.specs.declared.color.Color.{Color}
-use Rattle.rd_geom.proofs.Pixels.{At, at_holds, holds_at, AtBetween, holds_between, common_pixels, none_is_within, within_around_left, within_around_right, left_of, meets_shares, shares_meets}
+use Rattle.rd_geom.proofs.Pixels.{At, at_holds, holds_at, AtBetween, holds_between, common_pixels, none_is_within, within_around_left, within_around_right, left_of}
 use Rattle.rd_keys.specs.Keys.{BoxKey, same_key}
 use Rattle.rd_keys.proofs.Keys.{same_key-sound, same_key-refl}
 use Rattle.rd_keys.specs.declared.entry.Part.{Part}
@@ -18,16 +19,16 @@ use Rattle.rd_list.proofs.Narrowing.{only_only}
 use Rattle.rd_tree.specs.Forest.{empty, tree, has, IsApart}
 use Rattle.rd_tree.specs.declared.node.Item.{Item}
 use Rattle.rd_tree.specs.Document.{BoxForest}
-use Rattle.rd_tree.specs.Near.{extent, hull_in}
-use Rattle.rd_tree.proofs.Standing.{never, refute, either, from_left, from_right, apart_back, differs}
-use Rattle.rd_tree.proofs.Under.{which}
-use Rattle.rd_stack.specs.Spots.{BoxData, Spot, is_none}
+use Rattle.rd_tree.specs.Hulls.{extent, hull_in}
+use Rattle.rd_tree.proofs.Linking.Standing.{never, refute, either, from_left, from_right, apart_back, differs}
+use Rattle.rd_stack.specs.Paths.{BoxData, BoxPath, is_none, is_root}
 use Rattle.rd_stack.specs.Clips.{clip_of, padding_box}
-use Rattle.rd_stack.specs.Parts.{shown, shape_of, is_seen, takes_hits, has_border, full, ring, background}
-use Rattle.rd_stack.specs.Fresh.{box, root_order}
+use Rattle.rd_stack.specs.Parts.{shown, shape_of, is_seen, takes_hits, has_border, solid, frame, background}
+use Rattle.rd_stack.specs.Fresh.{box_data, root_order}
 use Rattle.rd_stack.specs.Cut.{pruned, all_cut, IsClosed}
-use Rattle.rd_stack.specs.Reached.{Grows, reached, reached_tree, FilteringLaw, meets_area, MeetingLaw}
-use Rattle.rd_stack.proofs.Cuts.{all_from_has, closed_all}
+use Rattle.rd_stack.specs.Reached.{Grows, reached, reached_tree, FilteringLaw, MeetingLaw}
+use Rattle.rd_stack.proofs.Growing.{grows_area}
+use Rattle.rd_stack.proofs.Left.Cuts.{all_from_has, closed_all}
 use Rattle.rd_stack.proofs.Cutting.{order-cut}
 use Rattle.rd_stack.proofs.Leafwise.{EachLeaf, OfLeaf, OfParts, EachBox, in_order, only_where}
 
@@ -71,7 +72,7 @@ module _ (meets : Rectangle → Bool) (grows : Grows meets) (cut : BoxKey → Bo
   abbrev IsOff : Leaf → Type 0
   IsOff l = cut l.owner ≡ true → meets l.visible ≡ false
 
-  of_shown : (x : Spot) (part : Part) (s : Shape × Color) → (cut x.here.key ≡ true → meets s.0.outer ≡ false) → OfLeaf IsOff (shown canvas x part (Some s))
+  of_shown : (x : BoxPath) (part : Part) (s : Shape × Color) → (cut x.here.key ≡ true → meets s.0.outer ≡ false) → OfLeaf IsOff (shown (clip_of canvas x) x.here part (Some s))
   of_shown x part s h =
       let v = meet s.0.outer (clip_of canvas x) in
       elim (has_none v) as (λ b. OfLeaf IsOff (cond b None (Some (record { owner = x.here.key; part = part; visible = v; shape = s.0; color = s.1; hits = takes_hits x.here.style.pointer })))) [
@@ -84,40 +85,40 @@ module _ (meets : Rectangle → Bool) (grows : Grows meets) (cut : BoxKey → Bo
   extent_of b = outset b.rect b.style.outline_width
 
   of_shape : (above : List BoxData) (b : BoxData) (part : Part) → is_none above ≡ false → (cut b.key ≡ true → meets (extent_of b) ≡ false)
-      → let x : Spot = record { above = above; here = b } in OfLeaf IsOff (shown canvas x part (shape_of canvas x part))
+      → let x : BoxPath = record { above = above; here = b } in OfLeaf IsOff (shown (clip_of canvas x) x.here part (shape_of canvas (is_root x) x.here part))
   of_shape above b Back n h =
-      let x : Spot = record { above = above; here = b } in
-      of_shown x Back (full (background canvas x), b.style.background) (λ c. rw n (off b.rect (extent_of b) (within_grown b.rect b.style.outline_width) (h c)))
+      let x : BoxPath = record { above = above; here = b } in
+      of_shown x Back (solid (background canvas (is_root x) x.here), b.style.background) (λ c. rw n (off b.rect (extent_of b) (within_grown b.rect b.style.outline_width) (h c)))
   of_shape above b Border n h =
-      let x : Spot = record { above = above; here = b } in
-      elim (has_border b.style.border_width) as (λ t. OfLeaf IsOff (shown canvas x Border (cond t (Some (ring b.rect (padding_box b), b.style.border_color)) None))) [
-        | true ↦ of_shown x Border (ring b.rect (padding_box b), b.style.border_color) (λ c. off b.rect (extent_of b) (within_grown b.rect b.style.outline_width) (h c))
+      let x : BoxPath = record { above = above; here = b } in
+      elim (has_border b.style.border_width) as (λ t. OfLeaf IsOff (shown (clip_of canvas x) x.here Border (cond t (Some (frame b.rect (padding_box b), b.style.border_color)) None))) [
+        | true ↦ of_shown x Border (frame b.rect (padding_box b), b.style.border_color) (λ c. off b.rect (extent_of b) (within_grown b.rect b.style.outline_width) (h c))
         | false ↦ tt
       ]
   of_shape above b Content n h = by b.style.content
     where
-      by : (o : Option Color) → let x : Spot = record { above = above; here = b } in OfLeaf IsOff (shown canvas x Content (option_map (λ c. (full (padding_box b), c)) o))
+      by : (o : Option Color) → let x : BoxPath = record { above = above; here = b } in OfLeaf IsOff (shown (clip_of canvas x) x.here Content (option_map (λ c. (solid (padding_box b), c)) o))
       by None = tt
-      by (Some q) = of_shown (record { above = above; here = b }) Content (full (padding_box b), q) (λ c. off (padding_box b) (extent_of b)
+      by (Some q) = of_shown (record { above = above; here = b }) Content (solid (padding_box b), q) (λ c. off (padding_box b) (extent_of b)
           (within_then (padding_box b) b.rect (extent_of b) (within_inset b.rect b.style.border_width.top b.style.border_width.right b.style.border_width.bottom b.style.border_width.left) (within_grown b.rect b.style.outline_width)) (h c))
   of_shape above b Outline n h =
-      let x : Spot = record { above = above; here = b } in
-      elim (nat_lt 0 b.style.outline_width) as (λ t. OfLeaf IsOff (shown canvas x Outline (cond t (Some (ring (extent_of b) b.rect, b.style.outline_color)) None))) [
-        | true ↦ of_shown x Outline (ring (extent_of b) b.rect, b.style.outline_color) h
+      let x : BoxPath = record { above = above; here = b } in
+      elim (nat_lt 0 b.style.outline_width) as (λ t. OfLeaf IsOff (shown (clip_of canvas x) x.here Outline (cond t (Some (frame (extent_of b) b.rect, b.style.outline_color)) None))) [
+        | true ↦ of_shown x Outline (frame (extent_of b) b.rect, b.style.outline_color) h
         | false ↦ tt
       ]
 
   of_parts : (above : List BoxData) (b : BoxData) → is_none above ≡ false → (cut b.key ≡ true → meets (extent_of b) ≡ false) → OfParts IsOff canvas (record { above = above; here = b })
   of_parts above b n h part =
-      let x : Spot = record { above = above; here = b } in
-      elim (is_seen b.style.visibility) as (λ t. OfLeaf IsOff (cond t (shown canvas x part (shape_of canvas x part)) None)) [ true ↦ of_shape above b part n h | false ↦ tt ]
+      let x : BoxPath = record { above = above; here = b } in
+      elim (is_seen b.style.visibility) as (λ t. OfLeaf IsOff (cond t (shown (clip_of canvas x) x.here part (shape_of canvas (is_root x) x.here part)) None)) [ true ↦ of_shape above b part n h | false ↦ tt ]
 
   -- the parts of a box that is not cut off
-  of_root : (x : Spot) → cut x.here.key ≡ false → OfParts IsOff canvas x
+  of_root : (x : BoxPath) → cut x.here.key ≡ false → OfParts IsOff canvas x
   of_root x n part =
-      elim (is_seen x.here.style.visibility) as (λ t. OfLeaf IsOff (cond t (shown canvas x part (shape_of canvas x part)) None)) [ true ↦ by (shape_of canvas x part) | false ↦ tt ]
+      elim (is_seen x.here.style.visibility) as (λ t. OfLeaf IsOff (cond t (shown (clip_of canvas x) x.here part (shape_of canvas (is_root x) x.here part)) None)) [ true ↦ by (shape_of canvas (is_root x) x.here part) | false ↦ tt ]
     where
-      by : (s : Option (Shape × Color)) → OfLeaf IsOff (shown canvas x part s)
+      by : (s : Option (Shape × Color)) → OfLeaf IsOff (shown (clip_of canvas x) x.here part s)
       by None = tt
       by (Some s) = of_shown x part s (λ c. absurd (never (cut x.here.key) c n))
 
@@ -128,7 +129,7 @@ module _ (meets : Rectangle → Bool) (grows : Grows meets) (cut : BoxKey → Bo
 
   far_boxes : (above : List BoxData) (f : BoxForest) → is_none above ≡ false → AreFar f → EachBox IsOff canvas above f
   far_boxes above empty n h = tt
-  far_boxes above (tree k d below rest) n h = (of_parts above (box k d) n h.0, far_boxes (box k d ∷ above) below refl h.1, far_boxes above rest n h.2)
+  far_boxes above (tree k d below rest) n h = (of_parts above (box_data k d) n h.0, far_boxes (box_data k d ∷ above) below refl h.1, far_boxes above rest n h.2)
 
   far_all : (f : BoxForest) → meets (hull_in f) ≡ false → AreFar f
   far_all empty h = tt
@@ -230,7 +231,7 @@ order-reached meets grows canvas k d f a =
     let far : AreFar meets grows cut canvas f = far_reached meets grows cut canvas f (λ j u. ap not (from_right (same_key j k) _ (from_left (has same_key j (reached meets f)) false u))) in
     let whole = tree k d f empty in
     let each : EachLeaf (IsOff meets grows cut canvas) (root_order canvas whole) =
-    in_order (IsOff meets grows cut canvas) canvas whole (of_root meets grows cut canvas (record { above = []; here = box k d }) root, far_boxes meets grows cut canvas (box k d ∷ []) f refl far, tt) in
+    in_order (IsOff meets grows cut canvas) canvas whole (of_root meets grows cut canvas (record { above = []; here = box_data k d }) root, far_boxes meets grows cut canvas (box_data k d ∷ []) f refl far, tt) in
     let c : IsClosed cut f = rest_closed meets cut f a.3 rest in
     let left : pruned cut whole ≡ tree k d (reached meets f) empty = rw root (ap (λ z. tree k d z empty) (rest_pruned meets cut f a.3 rest)) in
     only_where p (λ l. not (cut l.owner) && p l) (root_order canvas whole) (agree cut p (root_order canvas whole) each)
@@ -255,16 +256,5 @@ filtering t a r meets grows =
     subst (λ z. only (λ l. meets l.visible) (root_order (canvas_of t.canvas) z) ≡ only (λ l. meets l.visible) (root_order (canvas_of t.canvas) (reached_tree meets z))) (sym r.2)
     (order-reached meets grows (canvas_of t.canvas) t.root r.0 r.1 (subst (λ z. IsApart same_key z) r.2 a))
 
--- A larger rectangle meets what a smaller one meets.
-grows_any : (area : List Rectangle) → Grows (meets_area area)
-grows_any [] r s w h = h
-grows_any (q ∷ area) r s w h =
-    elim (which (not (has_none (meet q r))) (meets_area area r) h) [
-      | inl u ↦
-          let p : SharesPixel q r = meets_shares q r u in
-          from_left (not (has_none (meet q s))) (meets_area area s) (shares_meets q s (record { x = p.x; y = p.y; first = p.first; second = w p.x p.y p.second }))
-      | inr u ↦ from_right (not (has_none (meet q s))) (meets_area area s) (grows_any area r s w u)
-    ]
-
 pub meeting_area : MeetingLaw
-meeting_area t a r area = filtering t a r (meets_area area) (grows_any area)
+meeting_area t a r area = filtering t a r (meets_area area) (grows_area area)

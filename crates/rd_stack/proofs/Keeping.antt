@@ -17,10 +17,10 @@ use Rattle.rd_list.proofs.Levelling.{flat-only}
 use Rattle.rd_list.proofs.Routing.{only_filled}
 use Rattle.rd_list.proofs.Narrowing.{only_only, filter_swap}
 use Rattle.rd_stack.specs.Keeping.{LeavingLaw, StayingLaw, IsClear, OutsideLaw}
-use Rattle.rd_stack.proofs.Filters.{filter_both}
-use Rattle.rd_stack.proofs.Orders.{same, same_leaf-refl}
-use Rattle.rd_stack.proofs.Ways.{Way, ways, routes-ways, ways-only, leaf_of_way}
-use Rattle.rd_stack.proofs.Covered.{at, composed-only}
+use Rattle.rd_stack.proofs.Walk.Filters.{filter_both}
+use Rattle.rd_stack.proofs.Orders.Orders.{same, same_leaf-refl}
+use Rattle.rd_stack.proofs.Orders.Ways.{Way, ways, routes-ways, ways-only, leaf_of_way}
+use Rattle.rd_stack.proofs.Orders.Covered.{at, composed-only}
 use Rattle.rd_stack.proofs.Locality.{same_leaf-flip, moved, kept_once, fresh_once, distinct_filter}
 use Rattle.rd_stack.proofs.Leafwise.{EachLeaf, only_where}
 

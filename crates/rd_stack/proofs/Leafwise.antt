@@ -10,10 +10,10 @@ use Rattle.rd_list.specs.Wrappers.{Wrapper}
 use Rattle.rd_list.specs.Entries.{Entries, nil, leaf, group, ◌▷◌, each, option_entry, flat, has_leaf, only, grouped_if_any}
 use Rattle.rd_tree.specs.Forest.{empty, tree}
 use Rattle.rd_tree.specs.Document.{BoxForest}
-use Rattle.rd_stack.specs.Spots.{BoxData, Spot, is, is_root, is_context, is_local, is_layer, is_in_line}
-use Rattle.rd_stack.specs.Parts.{leaf_of}
-use Rattle.rd_stack.specs.Painting.{Painted, by_level, put, is_lower, grouped, is_translucent, when, paint, back_border, inline_part, flow, steps, layers_of, line_of, is_negative, is_positive, is_zero, is_blocky}
-use Rattle.rd_stack.specs.Fresh.{box, painted, root_order}
+use Rattle.rd_stack.specs.Paths.{BoxData, BoxPath, has_class, is_root, is_context, is_local, is_layer, is_in_line}
+use Rattle.rd_stack.specs.Parts.{leaf_at}
+use Rattle.rd_stack.specs.Painting.{Painted, by_level, insert_by_level, is_lower, entry_of, is_grouped, paint_if, paint, back_border, inline_part, content_and_line, steps, layers_of, line_of, is_negative, is_positive, is_zero, is_blocky}
+use Rattle.rd_stack.specs.Fresh.{box_data, painted, root_order}
 
 module _ (Q : Leaf → Type 0) where
   abbrev pub EachLeaf : Entries Wrapper Leaf → Type 0
@@ -34,12 +34,12 @@ module _ (Q : Leaf → Type 0) where
   leaf_single None h = tt
   leaf_single (Some l) h = (h, tt)
 
-  leaf_when : (b : Bool) (xs : Entries Wrapper Leaf) → EachLeaf xs → EachLeaf (when b xs)
+  leaf_when : (b : Bool) (xs : Entries Wrapper Leaf) → EachLeaf xs → EachLeaf (paint_if b xs)
   leaf_when true xs h = h
   leaf_when false xs h = tt
 
-  leaf_grouped : (x : Painted) → EachLeaf x.order → EachLeaf (grouped x)
-  leaf_grouped x h = by (is_translucent x.at && has_leaf (flat x.order))
+  leaf_grouped : (x : Painted) → EachLeaf x.order → EachLeaf (entry_of x)
+  leaf_grouped x h = by (is_grouped x.at && has_leaf (flat x.order))
     where
       by : (b : Bool) → EachLeaf (cond b (group (record { key = x.at.here.key; opacity = x.at.here.style.opacity }) x.order nil) x.order)
       by true = (h, tt)
@@ -54,9 +54,9 @@ module _ (Q : Leaf → Type 0) where
   all_filter P p [] h = tt
   all_filter P p (x ∷ xs) h = elim (p x) as (λ b. AllOf P (cond b (x ∷ filter p xs) (filter p xs))) [ true ↦ (h.0, all_filter P p xs h.1) | false ↦ all_filter P p xs h.1 ]
 
-  all_put : (P : Painted → Type 0) (x : Painted) (ys : List Painted) → P x → AllOf P ys → AllOf P (put x ys)
+  all_put : (P : Painted → Type 0) (x : Painted) (ys : List Painted) → P x → AllOf P ys → AllOf P (insert_by_level x ys)
   all_put P x [] h k = (h, tt)
-  all_put P x (y ∷ ys) h k = elim (is_lower y x) as (λ b. AllOf P (cond b (y ∷ put x ys) (x ∷ y ∷ ys))) [ true ↦ (k.0, all_put P x ys h k.1) | false ↦ (h, k) ]
+  all_put P x (y ∷ ys) h k = elim (is_lower y x) as (λ b. AllOf P (cond b (y ∷ insert_by_level x ys) (x ∷ y ∷ ys))) [ true ↦ (k.0, all_put P x ys h k.1) | false ↦ (h, k) ]
 
   all_by_level : (P : Painted → Type 0) (xs : List Painted) → AllOf P xs → AllOf P (by_level xs)
   all_by_level P [] h = tt
@@ -71,25 +71,25 @@ module _ (Q : Leaf → Type 0) where
   leaf_each P f e (x ∷ xs) h = leaf_join (f x) (each f xs) (e x h.0) (leaf_each P f e xs h.1)
 
   module _ (canvas : Rectangle) where
-    abbrev pub OfParts : Spot → Type 0
-    OfParts x = (part : Part) → OfLeaf (leaf_of canvas x part)
+    abbrev pub OfParts : BoxPath → Type 0
+    OfParts x = (part : Part) → OfLeaf (leaf_at canvas x part)
 
     abbrev IsGood : Painted → Type 0
     IsGood x = OfParts x.at × EachLeaf x.order
 
-    part : (p : Part) (x : Spot) → OfParts x → EachLeaf (paint canvas p x)
-    part p x h = leaf_single (leaf_of canvas x p) (h p)
+    part : (p : Part) (x : BoxPath) → OfParts x → EachLeaf (paint canvas p x)
+    part p x h = leaf_single (leaf_at canvas x p) (h p)
 
-    back : (x : Spot) → OfParts x → EachLeaf (back_border canvas x)
+    back : (x : BoxPath) → OfParts x → EachLeaf (back_border canvas x)
     back x h = leaf_join (paint canvas Back x) (paint canvas Border x) (part Back x h) (part Border x h)
 
     inline : (x : Painted) → IsGood x → EachLeaf (inline_part canvas x)
-    inline x h = elim (is Atom x.at) as (λ b. EachLeaf (cond b x.order (back_border canvas x.at ▷ paint canvas Content x.at))) [
+    inline x h = elim (has_class Atom x.at) as (λ b. EachLeaf (cond b x.order (back_border canvas x.at ▷ paint canvas Content x.at))) [
       | true ↦ h.1
       | false ↦ leaf_join (back_border canvas x.at) (paint canvas Content x.at) (back x.at h.0) (part Content x.at h.0)
     ]
 
-    flowing : (e : Spot) (below : List Painted) (c : Spot) → AllOf IsGood below → OfParts c → EachLeaf (flow canvas e below c)
+    flowing : (e : BoxPath) (below : List Painted) (c : BoxPath) → AllOf IsGood below → OfParts c → EachLeaf (content_and_line canvas e below c)
     flowing e below c h k =
         leaf_join (paint canvas Content c) (each (inline_part canvas) (line_of e below c)) (part Content c k)
         (leaf_each IsGood (inline_part canvas) inline (line_of e below c) (all_filter IsGood (λ x. is_in_line e c x.at) below h))
@@ -97,43 +97,43 @@ module _ (Q : Leaf → Type 0) where
     kind : (f : Painted → Entries Wrapper Leaf) (p q : Painted → Bool) → ((x : Painted) → IsGood x → EachLeaf (f x)) → (below : List Painted) → AllOf IsGood below → EachLeaf (each f (filter q (filter p below)))
     kind f p q e below h = leaf_each IsGood f e _ (all_filter IsGood q _ (all_filter IsGood p below h))
 
-    layer : (e : Spot) (q : Painted → Bool) (below : List Painted) → AllOf IsGood below → EachLeaf (each grouped (by_level (filter q (layers_of e below))))
-    layer e q below h = leaf_each IsGood grouped (λ x g. leaf_grouped x g.1) _ (all_by_level IsGood _ (all_filter IsGood q _ (all_filter IsGood (λ x. is_layer e x.at) below h)))
+    layer : (e : BoxPath) (q : Painted → Bool) (below : List Painted) → AllOf IsGood below → EachLeaf (each entry_of (by_level (filter q (layers_of e below))))
+    layer e q below h = leaf_each IsGood entry_of (λ x g. leaf_grouped x g.1) _ (all_by_level IsGood _ (all_filter IsGood q _ (all_filter IsGood (λ x. is_layer e x.at) below h)))
 
-    pub in_steps : (e : Spot) (below : List Painted) → OfParts e → AllOf IsGood below → EachLeaf (steps canvas e below)
+    pub in_steps : (e : BoxPath) (below : List Painted) → OfParts e → AllOf IsGood below → EachLeaf (steps canvas e below)
     unfolding steps
     in_steps e below k h =
         leaf_join _ _ (leaf_when (is_root e) _ (part Back e k))
         (leaf_join _ _ (leaf_when (is_blocky e) _ (leaf_join _ _ (leaf_when (not (is_root e)) _ (part Back e k)) (part Border e k)))
         (leaf_join _ _ (leaf_when (is_context e) _ (layer e is_negative below h))
-        (leaf_join _ _ (kind (λ x. back_border canvas x.at) (λ x. is_local e x.at) (λ x. is Block x.at) (λ x g. back x.at g.0) below h)
-        (leaf_join _ _ (kind (λ x. x.order) (λ x. is_local e x.at) (λ x. is Float x.at) (λ x g. g.1) below h)
+        (leaf_join _ _ (kind (λ x. back_border canvas x.at) (λ x. is_local e x.at) (λ x. has_class Block x.at) (λ x g. back x.at g.0) below h)
+        (leaf_join _ _ (kind (λ x. x.order) (λ x. is_local e x.at) (λ x. has_class Float x.at) (λ x g. g.1) below h)
         (leaf_join _ _ (leaf_when (not (is_blocky e)) _ (leaf_join _ _ (back e k) (flowing e below e h k)))
-        (leaf_join _ _ (leaf_when (is_blocky e) _ (flowing e below e h k))
-        (leaf_join _ _ (kind (λ x. flow canvas e below x.at) (λ x. is_local e x.at) (λ x. is Block x.at) (λ x g. flowing e below x.at h g.0) below h)
-        (leaf_join _ _ (leaf_when (is_context e) _ (kind grouped (λ x. is_layer e x.at) is_zero (λ x g. leaf_grouped x g.1) below h))
+        (leaf_join _ _ (leaf_join _ _ (leaf_when (is_blocky e) _ (flowing e below e h k))
+        (kind (λ x. content_and_line canvas e below x.at) (λ x. is_local e x.at) (λ x. has_class Block x.at) (λ x g. flowing e below x.at h g.0) below h))
+        (leaf_join _ _ (leaf_when (is_context e) _ (layer e is_zero below h))
         (leaf_join _ _ (leaf_when (is_context e) _ (layer e is_positive below h))
         (leaf_join _ _ (part Outline e k)
-        (kind (λ x. paint canvas Outline x.at) (λ x. is_local e x.at) (λ x. is Block x.at || is Inline x.at) (λ x g. part Outline x.at g.0) below h)))))))))))
+        (kind (λ x. paint canvas Outline x.at) (λ x. is_local e x.at) (λ x. has_class Block x.at || has_class Inline x.at) (λ x g. part Outline x.at g.0) below h))))))))))
 
     -- The parts of each box of a forest.
     abbrev pub EachBox : List BoxData → BoxForest → Type 0
     EachBox above empty = Unit {0}
-    EachBox above (tree k d below rest) = OfParts (record { above = above; here = box k d }) × EachBox (box k d ∷ above) below × EachBox above rest
+    EachBox above (tree k d below rest) = OfParts (record { above = above; here = box_data k d }) × EachBox (box_data k d ∷ above) below × EachBox above rest
 
     in_painted : (above : List BoxData) (f : BoxForest) → EachBox above f → AllOf IsGood (painted canvas above f)
     in_painted above empty h = tt
     in_painted above (tree k d below rest) h =
-        let e : Spot = record { above = above; here = box k d } in
-        let inside = in_painted (box k d ∷ above) below h.1 in
-        ((h.0, in_steps e (painted canvas (box k d ∷ above) below) h.0 inside), all_append IsGood (painted canvas (box k d ∷ above) below) (painted canvas above rest) inside (in_painted above rest h.2))
+        let e : BoxPath = record { above = above; here = box_data k d } in
+        let inside = in_painted (box_data k d ∷ above) below h.1 in
+        ((h.0, in_steps e (painted canvas (box_data k d ∷ above) below) h.0 inside), all_append IsGood (painted canvas (box_data k d ∷ above) below) (painted canvas above rest) inside (in_painted above rest h.2))
 
     -- What holds of the parts of each box holds of every leaf that the root paints.
     pub in_order : (f : BoxForest) → EachBox [] f → EachLeaf (root_order canvas f)
     in_order empty h = tt
     in_order (tree k d below rest) h =
-        let e : Spot = record { above = []; here = box k d } in
-        leaf_grouped (record { at = e; order = steps canvas e (painted canvas (box k d ∷ []) below) }) (in_steps e (painted canvas (box k d ∷ []) below) h.0 (in_painted (box k d ∷ []) below h.1))
+        let e : BoxPath = record { above = []; here = box_data k d } in
+        leaf_grouped (record { at = e; order = steps canvas e (painted canvas (box_data k d ∷ []) below) }) (in_steps e (painted canvas (box_data k d ∷ []) below) h.0 (in_painted (box_data k d ∷ []) below h.1))
 
 -- tests that agree on each leaf of a list leave the same of it
 pub only_where : (p q : Leaf → Bool) (xs : Entries Wrapper Leaf) → EachLeaf (λ l. p l ≡ q l) xs → only p xs ≡ only q xs

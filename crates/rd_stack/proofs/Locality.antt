@@ -13,15 +13,16 @@ use Rattle.rd_item.specs.Leaves.{covers}
 use Rattle.rd_graph.proofs.Listing.{Has, has_from, contains_from, has_filter, filter_has, has_map}
 use Rattle.rd_list.specs.Wrappers.{Wrapper}
 use Rattle.rd_list.specs.Entries.{Entries, flat, routes, only}
-use Rattle.rd_list.specs.Lists.{StandsFor, groups, pair_in_order, same_leaf, same_part, is_outline, is_hit, last, composed}
+use Rattle.rd_list.specs.Lists.{StandsFor, groups, pair_in_order, same_leaf, is_outline, is_hit, last, composed}
+use Rattle.rd_graph.specs.Names.{same_part}
 use Rattle.rd_list.proofs.Narrowing.{filter_swap}
 use Rattle.rd_stack.specs.Locality.{LocalityLaw}
-use Rattle.rd_stack.proofs.Filters.{filter_both}
-use Rattle.rd_stack.proofs.Members.{filter-map}
-use Rattle.rd_stack.proofs.Orders.{same, in_order}
-use Rattle.rd_stack.proofs.Ways.{Way, ways, routes-ways, flat-ways, ways-only, leaf_of_way}
-use Rattle.rd_stack.proofs.Rebuilt.{apart_from, apart_only, filled_only, rebuilt}
-use Rattle.rd_stack.proofs.Covered.{at, composed-only, both_meet}
+use Rattle.rd_stack.proofs.Walk.Filters.{filter_both}
+use Rattle.rd_stack.proofs.Orders.Members.{filter-map}
+use Rattle.rd_stack.proofs.Orders.Orders.{same, in_order}
+use Rattle.rd_stack.proofs.Orders.Ways.{Way, ways, routes-ways, flat-ways, ways-only, leaf_of_way}
+use Rattle.rd_stack.proofs.Orders.Rebuilt.{apart_from, apart_only, filled_only, rebuilt}
+use Rattle.rd_stack.proofs.Orders.Covered.{at, composed-only, both_meet}
 
 same_key-flip : (a b : BoxKey) → same_key a b ≡ same_key b a
 same_key-flip a b = grind arith

@@ -7,11 +7,12 @@ use Rattle.rd_keys.proofs.Keys.{same_key-refl}
 use Rattle.rd_list.specs.Entries.{flat, routes}
 use Rattle.rd_list.specs.Lists.{same_leaf, groups}
 use Rattle.rd_stack.specs.Fresh.{fresh_list}
-use Rattle.rd_stack.proofs.Counted.{pairs_apart, leaf_once, group_once, none_empty, filled}
-use Rattle.rd_stack.proofs.Counted.{none_fails}
-use Rattle.rd_stack.proofs.Orders.{same_leaf-refl}
-use Rattle.rd_stack.proofs.OnCanvas.{lies_in, on_canvas, none_off}
-use Rattle.rd_stack.specs.Laws.{StandsForItself, ShowsOnCanvas}
+use Rattle.rd_stack.proofs.Counting.Counted.{pairs_apart, leaf_once, group_once, none_empty, filled}
+use Rattle.rd_stack.proofs.Counting.Counted.{none_fails}
+use Rattle.rd_stack.proofs.Counting.Few.{few_leaves, few_groups}
+use Rattle.rd_stack.proofs.Orders.Orders.{same_leaf-refl}
+use Rattle.rd_stack.proofs.Counting.OnCanvas.{lies_in, on_canvas, none_off}
+use Rattle.rd_stack.specs.Laws.{FewEntries, StandsForItself, ShowsOnCanvas}
 
 pub stands_for_itself : StandsForItself
 stands_for_itself = λ t apart. record {
@@ -25,3 +26,9 @@ stands_for_itself = λ t apart. record {
 pub shows_on_canvas : ShowsOnCanvas
 shows_on_canvas = λ t apart k d l.
     on_canvas (canvas_of t.canvas) _ (none_fails (λ x. lies_in (canvas_of t.canvas) x.visible) (flat (fresh_list t)) (none_off (canvas_of t.canvas) t.boxes apart) k d l)
+
+pub few_entries : FewEntries
+few_entries = λ t apart. record {
+  leaves = few_leaves (canvas_of t.canvas) t.boxes apart;
+  groups = few_groups (canvas_of t.canvas) t.boxes apart;
+}

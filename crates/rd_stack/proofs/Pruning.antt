@@ -18,21 +18,28 @@ use Rattle.rd_tree.specs.Forest.{empty, tree, ◌▷◌, has, item_of, children,
 use Rattle.rd_tree.specs.Forest as forest
 use Rattle.rd_tree.specs.declared.node.Item.{Item}
 use Rattle.rd_tree.specs.Document.{Document, BoxForest, IsRooted, is_touched, with_child}
-use Rattle.rd_tree.specs.Edits.{restyle, with_rect, names_any, restyled, replaced, moved}
-use Rattle.rd_tree.specs.Works.{touch, move_by}
-use Rattle.rd_tree.proofs.Standing.{cases, never, from_left, from_right, join-empty, out_of_children, differs}
-use Rattle.rd_tree.proofs.Without.{apart_without}
-use Rattle.rd_tree.proofs.Each.{has-each, children-each, apart_each}
-use Rattle.rd_tree.proofs.EachBranch.{without_touched-within, within_subtree}
+use Rattle.rd_tree.specs.Changes.{restyle, with_rect}
+use Rattle.rd_style.specs.Changes.{names_any}
+use Rattle.rd_tree.specs.Internal.Reaching.{restyled, replaced, moved}
+use Rattle.rd_tree.specs.Touching.{touch}
+use Rattle.rd_tree.specs.Internal.Works.{move_by}
+use Rattle.rd_tree.proofs.Linking.Standing.{cases, never, from_left, from_right, join-empty, out_of_children, differs}
+use Rattle.rd_tree.proofs.Forests.Without.{apart_without}
+use Rattle.rd_tree.proofs.Nodes.Each.{has-each, children-each, apart_each}
+use Rattle.rd_tree.proofs.Forests.EachBranch.{without_branch-within, within_subtree}
 use Rattle.rd_stack.specs.Fresh.{root_order}
 use Rattle.rd_stack.specs.Cut.{pruned, all_cut, IsClosed}
-use Rattle.rd_stack.specs.Bare.{bare, bare_item}
-use Rattle.rd_stack.specs.Changes.{Change, insertion, removal, moving, styling, placing, shifting, after, CanChange, touches}
+use Rattle.rd_stack.proofs.Left.Bare.{bare, bare_item}
+use Rattle.rd_tree.specs.Changes.{Change, insertion, removal, moving, styling, placing, shifting}
+use Rattle.rd_tree.specs.Touching.{touched_by, edited}
+use Rattle.rd_stack.specs.Pruning.{CanChange}
+use Rattle.rd_stack.specs.Fresh.{fresh_list}
+use Rattle.rd_stack.proofs.Left.Marked.{after, edited_boxes, edited_canvas}
 use Rattle.rd_stack.specs.Pruning.{PruningLaw}
-use Rattle.rd_stack.proofs.Onlies.{only_agree}
-use Rattle.rd_stack.proofs.Pruned.{order-left, order-gone}
-use Rattle.rd_stack.proofs.Cuts.{all_from_has, closed_all, closed_none, closed_subtree, closed_branch, all_branch, closed_children, closed_amid, pruned_amid, closed_under, pruned_under, closed_without, pruned_without, all-each, closed_each, pruned_each, AreMarked, marked, marked_children, marked_branch, marked_amid, marked_under, marked_without, marked_each, marked_none}
-use Rattle.rd_stack.proofs.Alone.{KeepsBare, bare_kept, bare_all, keeps_root, bare-restyle, bare-rect, restyle-none, each_same, key_flip, has_item}
+use Rattle.rd_stack.proofs.Left.Onlies.{only_agree}
+use Rattle.rd_stack.proofs.Left.Pruned.{order-left, order-gone}
+use Rattle.rd_stack.proofs.Left.Cuts.{all_from_has, closed_all, closed_none, closed_subtree, closed_branch, all_branch, closed_children, closed_amid, pruned_amid, closed_under, pruned_under, closed_without, pruned_without, all-each, closed_each, pruned_each, AreMarked, marked, marked_children, marked_branch, marked_amid, marked_under, marked_without, marked_each, marked_none}
+use Rattle.rd_stack.proofs.Left.Alone.{KeepsBare, bare_kept, bare_all, keeps_root, bare-restyle, bare-rect, restyle-none, each_same, key_flip, has_item}
 
 -- What is left out already need not be left out.
 module _ (gone touched : BoxKey → Bool) (more : (k : BoxKey) → gone k ≡ true → touched k ≡ true) where
@@ -106,19 +113,25 @@ replaced_whole root k r f d e w = rw (e, w) refl
 pub replaced_alone : (root k : BoxKey) (r : Rectangle) (f : BoxForest) (d : Item) → item_of same_key k f ≡ Some d → clips d.style (same_key k root) ≡ false → replaced root k r f ≡ at_box same_key k touch (at_box same_key k (with_rect r) f)
 replaced_alone root k r f d e w = rw (e, w) refl
 
-styled_whole : (root k : BoxKey) (c : StyleChange) (f : BoxForest) (d : Item) → item_of same_key k f ≡ Some d → whole d.style (same_key k root) c ≡ true → (j : BoxKey) → touches (styling k c) root f j ≡ in_subtree same_key j k f
+abbrev styled_by : BoxKey → BoxKey → StyleChange → BoxForest → BoxKey → Bool
+styled_by root k c f j = option_map_or (λ d. cond (whole d.style (same_key k root) c) (in_subtree same_key j k f) (names_any c && same_key j k)) (item_of same_key k f) false
+
+abbrev placed_by : BoxKey → BoxKey → Rectangle → BoxForest → BoxKey → Bool
+placed_by root k r f j = option_map_or (λ d. cond (clips d.style (same_key k root)) (in_subtree same_key j k f) (same_key j k)) (item_of same_key k f) false
+
+styled_whole : (root k : BoxKey) (c : StyleChange) (f : BoxForest) (d : Item) → item_of same_key k f ≡ Some d → whole d.style (same_key k root) c ≡ true → (j : BoxKey) → styled_by root k c f j ≡ in_subtree same_key j k f
 styled_whole root k c f d e w j = ap (λ o. option_map_or (λ d. cond (whole d.style (same_key k root) c) (in_subtree same_key j k f) (names_any c && same_key j k)) o false) e ∙ rw w refl
 
-styled_alone : (root k : BoxKey) (c : StyleChange) (f : BoxForest) (d : Item) → item_of same_key k f ≡ Some d → whole d.style (same_key k root) c ≡ false → names_any c ≡ true → (j : BoxKey) → touches (styling k c) root f j ≡ same_key j k
+styled_alone : (root k : BoxKey) (c : StyleChange) (f : BoxForest) (d : Item) → item_of same_key k f ≡ Some d → whole d.style (same_key k root) c ≡ false → names_any c ≡ true → (j : BoxKey) → styled_by root k c f j ≡ same_key j k
 styled_alone root k c f d e w n j = ap (λ o. option_map_or (λ d. cond (whole d.style (same_key k root) c) (in_subtree same_key j k f) (names_any c && same_key j k)) o false) e ∙ rw (w, n) refl
 
-styled_none : (root k : BoxKey) (c : StyleChange) (f : BoxForest) (d : Item) → item_of same_key k f ≡ Some d → whole d.style (same_key k root) c ≡ false → names_any c ≡ false → (j : BoxKey) → touches (styling k c) root f j ≡ false
+styled_none : (root k : BoxKey) (c : StyleChange) (f : BoxForest) (d : Item) → item_of same_key k f ≡ Some d → whole d.style (same_key k root) c ≡ false → names_any c ≡ false → (j : BoxKey) → styled_by root k c f j ≡ false
 styled_none root k c f d e w n j = ap (λ o. option_map_or (λ d. cond (whole d.style (same_key k root) c) (in_subtree same_key j k f) (names_any c && same_key j k)) o false) e ∙ rw (w, n) refl
 
-placed_whole : (root k : BoxKey) (r : Rectangle) (f : BoxForest) (d : Item) → item_of same_key k f ≡ Some d → clips d.style (same_key k root) ≡ true → (j : BoxKey) → touches (placing k r) root f j ≡ in_subtree same_key j k f
+placed_whole : (root k : BoxKey) (r : Rectangle) (f : BoxForest) (d : Item) → item_of same_key k f ≡ Some d → clips d.style (same_key k root) ≡ true → (j : BoxKey) → placed_by root k r f j ≡ in_subtree same_key j k f
 placed_whole root k r f d e w j = ap (λ o. option_map_or (λ d. cond (clips d.style (same_key k root)) (in_subtree same_key j k f) (same_key j k)) o false) e ∙ rw w refl
 
-placed_alone : (root k : BoxKey) (r : Rectangle) (f : BoxForest) (d : Item) → item_of same_key k f ≡ Some d → clips d.style (same_key k root) ≡ false → (j : BoxKey) → touches (placing k r) root f j ≡ same_key j k
+placed_alone : (root k : BoxKey) (r : Rectangle) (f : BoxForest) (d : Item) → item_of same_key k f ≡ Some d → clips d.style (same_key k root) ≡ false → (j : BoxKey) → placed_by root k r f j ≡ same_key j k
 placed_alone root k r f d e w j = ap (λ o. option_map_or (λ d. cond (clips d.style (same_key k root)) (in_subtree same_key j k f) (same_key j k)) o false) e ∙ rw w refl
 
 one_item : (a b : Item) → let x : Option Item = Some a in x ≡ Some b → a ≡ b
@@ -206,7 +219,7 @@ module _ (old : Document) (apart : IsApart same_key old.boxes) (rooted : IsRoote
   removed_row : (k : BoxKey) → same_key k old.root ≡ false → Row (subtree k) (forest.without_branch same_key k boxes)
   removed_row k n =
       let s : BoxKey → Bool = λ j. in_subtree same_key j k boxes in
-      let w : forest.without_branch same_key k (map_where s touch boxes) ≡ forest.without_branch same_key k boxes = without_touched-within same_key same_key-sound same_key-refl s touch k boxes apart (within_subtree same_key k boxes) in
+      let w : forest.without_branch same_key k (map_where s touch boxes) ≡ forest.without_branch same_key k boxes = without_branch-within same_key same_key-sound same_key-refl s touch k boxes apart (within_subtree same_key k boxes) in
       let here : s k ≡ true = from_left (same_key k k) (has same_key k (children same_key k boxes)) (same_key-refl k) in
       subtree_row k (forest.without_branch same_key k boxes) (tree_without k old.root boxes n rooted)
       (closed_without s k boxes (closed_subtree k boxes apart))
@@ -274,7 +287,7 @@ module _ (old : Document) (apart : IsApart same_key old.boxes) (rooted : IsRoote
   same_row : (g : BoxForest) → g ≡ boxes → Row none g
   same_row g e = record { marks = marked_none none g (λ j u. refl); same = ap (λ z. without_touched none (root_order canvas z)) (sym e) }
 
-  styled_row : (k : BoxKey) (c : StyleChange) → has same_key k boxes ≡ true → Row (touches (styling k c) old.root boxes) (restyled old.root k c boxes)
+  styled_row : (k : BoxKey) (c : StyleChange) → has same_key k boxes ≡ true → Row (styled_by old.root k c boxes) (restyled old.root k c boxes)
   styled_row k c h =
       let i = has_item k boxes h in
       let root : Bool = same_key k old.root in
@@ -292,7 +305,7 @@ module _ (old : Document) (apart : IsApart same_key old.boxes) (rooted : IsRoote
         ]
       ]
 
-  replaced_row : (k : BoxKey) (r : Rectangle) → has same_key k boxes ≡ true → Row (touches (placing k r) old.root boxes) (replaced old.root k r boxes)
+  replaced_row : (k : BoxKey) (r : Rectangle) → has same_key k boxes ≡ true → Row (placed_by old.root k r boxes) (replaced old.root k r boxes)
   replaced_row k r h =
       let i = has_item k boxes h in
       let root : Bool = same_key k old.root in
@@ -305,20 +318,28 @@ module _ (old : Document) (apart : IsApart same_key old.boxes) (rooted : IsRoote
             (alone_row k (with_rect r) (λ d e. bare-rect root r d (subst (λ x. clips x.style root ≡ false) (one_item i.0 d (sym i.1 ∙ e)) w)))
       ]
 
-  pub row_of : (c : Change) → CanChange c old.root boxes → Row (touches c old.root boxes) (after c old.root boxes)
-  row_of (insertion p before k d) (t, there, new) = inserted_row p k before d t there new
+  pub row_of : (c : Change) → CanChange c old → Row (touched_by c old) (after c old.root boxes)
+  row_of (insertion p before k d) (there, new) = inserted_row p k before (touch d) refl there new
   row_of (removal k) n = removed_row k n
   row_of (moving k p before) (n, out) = moved_row k p before n out
   row_of (styling k c) there = styled_row k c there
   row_of (placing k r) there = replaced_row k r there
   row_of (shifting k dx dy) _ = shifted_row k (move_by dx dy) (λ d. refl)
 
+-- The list of the tree after a change.
+pub edited_list : (c : Change) (t : Document) → IsApart same_key t.boxes → CanChange c t → fresh_list (edited c t) ≡ root_order (canvas_of t.canvas) (after c t.root t.boxes)
+edited_list c t apart can = λ i. root_order (canvas_of (edited_canvas c t i)) (edited_boxes c t apart can i)
+
 pub pruning : PruningLaw
 pruning c t apart rooted can gone h =
     let r = row_of t apart rooted c can in
-    let was : BoxKey → Bool = touches c t.root t.boxes in
+    let was : BoxKey → Bool = touched_by c t in
     let g : BoxForest = after c t.root t.boxes in
-    sym (without_more was gone h (root_order (canvas_of t.canvas) t.boxes)) ∙ (ap (without_touched gone) r.same ∙ without_more was gone h (root_order (canvas_of t.canvas) g))
+    sym (without_more was gone h (root_order (canvas_of t.canvas) t.boxes))
+    ∙ (ap (without_touched gone) r.same
+    ∙ (without_more was gone h (root_order (canvas_of t.canvas) g)
+    ∙ ap (without_touched gone) (sym (edited_list c t apart can))))
 
-pub marks_touched : (c : Change) (t : Document) → IsApart same_key t.boxes → IsRooted t → CanChange c t.root t.boxes → (k : BoxKey) → touches c t.root t.boxes k ≡ true → is_touched k (after c t.root t.boxes) ≡ true
-marks_touched c t apart rooted can k h = marked (touches c t.root t.boxes) k (after c t.root t.boxes) (row_of t apart rooted c can).marks h
+pub marks_touched : (c : Change) (t : Document) → IsApart same_key t.boxes → IsRooted t → CanChange c t → (k : BoxKey) → touched_by c t k ≡ true → is_touched k (edited c t).boxes ≡ true
+marks_touched c t apart rooted can k h =
+    subst (λ z. is_touched k z ≡ true) (sym (edited_boxes c t apart can)) (marked (touched_by c t) k (after c t.root t.boxes) (row_of t apart rooted c can).marks h)

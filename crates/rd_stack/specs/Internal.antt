@@ -1,4 +1,5 @@
 -- What private contracts, invariants and codings say. No public clause cites it, so a reader need not read it.
-pub mod Seen
+pub mod Values
 pub mod Tests
 pub mod Looks
+pub mod Pieces

@@ -1,15 +1,12 @@
 //! The fresh list of a tree, by looks at its boxes.
-ghost use Rattle.std.specs.Prelude.{◌≡◌, IfOk, MatchOption, map, ◌∷◌, ◌++◌};
-ghost use Rattle.rd_keys.specs.Keys.{same_key};
-ghost use Rattle.rd_tree.specs.Forest.{empty, from, from_some};
-ghost use Rattle.rd_stack.specs.Internal.Seen.{seen};
+ghost use Rattle.std.specs.Prelude.{◌≡◌, ◌≤◌, ◌+◌, IfOk, MatchOption, ◌∷◌, ◌++◌};
+ghost use Rattle.rd_tree.specs.Forest.{size};
 ghost use Rattle.rd_stack.specs.Fresh as spec;
-ghost use Rattle.rd_stack.specs.Painting as painting;
-ghost use Rattle.rd_stack.specs.Internal.Looks.{Onward};
+ghost use Rattle.rd_stack.specs.Internal.Looks.{IsGone, IsVisited, IsFirst, size_from, painted_over, painted_from, with_those_below};
 
-use crate::layers::group;
+use crate::layers::entry_of;
 use crate::painted::Painted;
-use crate::spot::{BoxData, Spot};
+use crate::path::{BoxData, BoxPath};
 use crate::steps::steps;
 use rd_geom::{NoMemory, Rect, Steps};
 use rd_keys::BoxKey;
@@ -29,17 +26,18 @@ fn under(alloc: Global, b: &BoxData, above: &[BoxData]) -> Result<Vec<BoxData>, 
 }
 
 /// What a walk needs of a box.
-struct Looked {
+struct Visit {
     here: BoxData,
     first_child: Option<BoxKey>,
     next_sibling: Option<BoxKey>,
 }
 
-fn look_at<B: Ledger>(tree: &Tree<B>, key: BoxKey, looks: &mut Steps<B>) -> Option<Looked>
-    ensures { MatchOption result (from same_key key tree.now.boxes ≡ empty) (λ s. Onward tree.now.boxes key s.here s.first_child s.next_sibling) }
+fn look_at<B: Ledger>(tree: &Tree<B>, key: BoxKey, looks: &mut Steps<B>) -> Option<Visit>
+    ensures seen { MatchOption result (IsGone key tree.now) (λ s. IsVisited key tree.now s) }
+    ensures looks { looks.new ≡ looks.old + 1 }
 {
     match tree.look(key, looks) {
-        Some(view) => Some(Looked {
+        Some(view) => Some(Visit {
             here: BoxData::new(view.key, view.rect, *view.style),
             first_child: view.first_child,
             next_sibling: view.next_sibling,
@@ -56,9 +54,9 @@ fn paint_over(
     here: &BoxData,
     below: &[Painted],
 ) -> Result<Painted, NoMemory>
-    ensures { IfOk result (λ p. seen p ≡ record { at = record { above = above.now; here = here.now }; order = painting.steps canvas.now (record { above = above.now; here = here.now }) (map seen below.now) }) }
+    ensures { IfOk result (λ p. p ≡ painted_over canvas.now above.now here.now below.now) }
 {
-    let at = Spot {
+    let at = BoxPath {
         above: above.to_vec(alloc)?,
         here: *here,
     };
@@ -77,7 +75,9 @@ fn paint_one<B: Ledger>(
     first_child: Option<BoxKey>,
     looks: &mut Steps<B>,
 ) -> Result<Vec<Painted>, NoMemory>
-    ensures { IfOk result (λ v. map seen v.items ≡ spec.with_below canvas.now above.now here.now (spec.painted canvas.now (here.now ∷ above.now) (from_some same_key first_child tree.now.boxes))) }
+    requires { IsFirst first_child tree.now }
+    ensures painted { IfOk result (λ v. v.items ≡ with_those_below canvas.now above.now here.now first_child tree.now) }
+    ensures looks { looks.new ≤ looks.old + size_from first_child tree.now }
 {
     let path = under(alloc, here, above)?;
     let mut below = paint_all(alloc, tree, canvas, &path, first_child, looks)?;
@@ -98,17 +98,19 @@ fn paint_all<B: Ledger>(
     first: Option<BoxKey>,
     looks: &mut Steps<B>,
 ) -> Result<Vec<Painted>, NoMemory>
-    ensures { IfOk result (λ v. map seen v.items ≡ spec.painted canvas.now above.now (from_some same_key first tree.now.boxes)) }
+    requires { IsFirst first tree.now }
+    ensures painted { IfOk result (λ v. v.items ≡ painted_from canvas.now above.now first tree.now) }
+    ensures looks { looks.new ≤ looks.old + size_from first tree.now }
 {
     let mut all = Vec::new(alloc);
     let mut next = first;
     while let Some(key) = next {
-        let Looked {
+        let Visit {
             here,
             first_child,
             next_sibling,
         } = match look_at(tree, key, looks) {
-            Some(looked) => looked,
+            Some(visit) => visit,
             None => break,
         };
         let mut painted = paint_one(alloc, tree, canvas, above, &here, first_child, looks)?;
@@ -118,19 +120,20 @@ fn paint_all<B: Ledger>(
     Ok(all)
 }
 
-/// What a tree of boxes paints, from bottom to top (CSS 2.2 Appendix E).
+/// What a tree of boxes paints, from bottom to top (CSS 2.2 Appendix E). Each box is looked at at most once.
 pub fn fresh_list<B: Ledger>(
     alloc: Global,
     tree: &Tree<B>,
     looks: &mut Steps<B>,
 ) -> Result<PlainList, NoMemory>
-    ensures { IfOk result (λ list. list ≡ spec.fresh_list tree.now) }
+    ensures list { IfOk result (λ list. list ≡ spec.fresh_list tree.now) }
+    ensures looks { looks.new ≤ looks.old + size tree.now.boxes }
 {
     let canvas = tree.canvas().rect();
     let painted = paint_all(alloc, tree, &canvas, &[], Some(tree.root()), looks)?;
     let mut out = PlainList::new(alloc);
     if let Some(root) = painted.first() {
-        group(alloc, &mut out, root)?;
+        entry_of(alloc, &mut out, root)?;
     }
     Ok(out)
 }

@@ -4,13 +4,13 @@
 #![tactic(auto)]
 
 mod clip;
-mod flow;
+mod content;
 mod fresh;
 pub mod laws;
 mod layers;
 mod painted;
 mod parts;
-mod spot;
+mod path;
 mod steps;
 
 pub use fresh::fresh_list;

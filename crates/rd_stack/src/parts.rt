@@ -1,10 +1,9 @@
 //! The leaves of a box.
 ghost use Rattle.std.specs.Prelude.{◌≡◌, Some};
-ghost use Rattle.rd_stack.specs.Internal.Seen.{spot};
 ghost use Rattle.rd_stack.specs.Parts as parts;
 
-use crate::clip::{clip, padding};
-use crate::spot::{BoxData, Spot, is_root};
+use crate::clip::{clip_of, padding_box};
+use crate::path::{BoxData, BoxPath, is_root};
 use rd_geom::{Color, Rect, Sides, meet, outset};
 use rd_item::{Leaf, Shape};
 use rd_keys::Part;
@@ -16,8 +15,8 @@ fn has_border(s: &Sides) -> bool
     0 < s.top || 0 < s.right || 0 < s.bottom || 0 < s.left
 }
 
-fn full(r: Rect) -> Shape
-    ensures { result ≡ parts.full r }
+fn solid(r: Rect) -> Shape
+    ensures { result ≡ parts.solid r }
 {
     Shape {
         outer: r,
@@ -26,35 +25,35 @@ fn full(r: Rect) -> Shape
 }
 
 /// The outer rectangle without the inner one, which is 0 0 0 0 where it has no pixel.
-fn ring(outer: Rect, inner: Rect) -> Shape
-    ensures { result ≡ parts.ring outer inner }
+fn frame(outer: Rect, inner: Rect) -> Shape
+    ensures { result ≡ parts.frame outer inner }
 {
     if inner.is_empty() {
-        full(outer)
+        solid(outer)
     } else {
         Shape { outer, inner }
     }
 }
 
-fn background(canvas: &Rect, x: &Spot) -> Rect
-    ensures { result ≡ parts.background canvas.now (spot x.now) }
+fn background(canvas: &Rect, root: bool, b: &BoxData) -> Rect
+    ensures { result ≡ parts.background canvas.now root b.now }
 {
-    if is_root(x) { *canvas } else { x.here.rect() }
+    if root { *canvas } else { b.rect() }
 }
 
 /// The shape and the colour of a part, where the box has that part.
-fn shape_of(canvas: &Rect, x: &Spot, part: Part) -> Option<(Shape, Color)>
-    ensures { result ≡ parts.shape_of canvas.now (spot x.now) part }
+fn shape_of(canvas: &Rect, root: bool, b: &BoxData, part: Part) -> Option<(Shape, Color)>
+    ensures { result ≡ parts.shape_of canvas.now root b.now part }
 {
-    let style = x.here.style();
+    let style = b.style();
     match part {
-        Part::Back => Some((full(background(canvas, x)), style.background)),
-        Part::Border => border(&x.here),
+        Part::Back => Some((solid(background(canvas, root, b)), style.background)),
+        Part::Border => border(b),
         Part::Content => match style.content {
-            Some(color) => Some((full(padding(&x.here)), color)),
+            Some(color) => Some((solid(padding_box(b)), color)),
             None => None,
         },
-        Part::Outline => outline(&x.here),
+        Part::Outline => outline(b),
     }
 }
 
@@ -62,7 +61,7 @@ fn border(b: &BoxData) -> Option<(Shape, Color)>
     ensures { result ≡ parts.border b.now }
 {
     if has_border(&b.style().border_width) {
-        Some((ring(b.rect(), padding(b)), b.style().border_color))
+        Some((frame(b.rect(), padding_box(b)), b.style().border_color))
     } else {
         None
     }
@@ -73,7 +72,7 @@ fn outline(b: &BoxData) -> Option<(Shape, Color)>
 {
     if 0 < b.style.outline_width {
         let outer = outset(b.rect, b.style.outline_width);
-        Some((ring(outer, b.rect), b.style.outline_color))
+        Some((frame(outer, b.rect), b.style.outline_color))
     } else {
         None
     }
@@ -91,32 +90,40 @@ fn takes_hits(b: &BoxData) -> bool
     matches!(b.style().pointer, Pointer::Auto)
 }
 
-fn shown(canvas: &Rect, x: &Spot, part: Part, shape: &Shape, color: Color) -> Option<Leaf>
-    ensures { result ≡ parts.shown canvas.now (spot x.now) part (Some (shape.now, color)) }
+fn shown(clip: &Rect, b: &BoxData, part: Part, shape: &Shape, color: Color) -> Option<Leaf>
+    ensures { result ≡ parts.shown clip.now b.now part (Some (shape.now, color)) }
 {
-    let visible = meet(shape.outer, clip(canvas, x));
+    let visible = meet(shape.outer, *clip);
     if visible.is_empty() {
         return None;
     }
     Some(Leaf {
-        owner: x.here.key(),
+        owner: b.key(),
         part,
         visible,
         shape: *shape,
         color,
-        hits: takes_hits(&x.here),
+        hits: takes_hits(b),
     })
 }
 
-/// The leaf of a part of a box; none for a hidden box, a part that is not given, or one that may be seen nowhere.
-pub fn leaf_of(canvas: &Rect, x: &Spot, part: Part) -> Option<Leaf>
-    ensures { result ≡ parts.leaf_of canvas.now (spot x.now) part }
+/// The leaf of a part of a box, the root or another, inside a clip: none for a hidden box, a part that the box does not
+/// have, or one that may be seen nowhere.
+pub fn leaf_of(canvas: &Rect, root: bool, clip: &Rect, b: &BoxData, part: Part) -> Option<Leaf>
+    ensures { result ≡ parts.leaf_of canvas.now root clip.now b.now part }
 {
-    if !is_seen(&x.here) {
+    if !is_seen(b) {
         return None;
     }
-    match shape_of(canvas, x, part) {
-        Some((shape, color)) => shown(canvas, x, part, &shape, color),
+    match shape_of(canvas, root, b, part) {
+        Some((shape, color)) => shown(clip, b, part, &shape, color),
         None => None,
     }
+}
+
+/// The leaf of a part of a box where it stands.
+pub fn leaf_at(canvas: &Rect, x: &BoxPath, part: Part) -> Option<Leaf>
+    ensures { result ≡ parts.leaf_at canvas.now x.now part }
+{
+    leaf_of(canvas, is_root(x), &clip_of(canvas, x), &x.here, part)
 }

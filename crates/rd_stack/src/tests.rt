@@ -1,10 +1,9 @@
 //! The plain program on small documents, of which every pixel and hit was worked out by hand.
-ghost use Rattle.std.specs.Prelude.{◌≡◌, ◌+◌, ◌<◌, ◌≤◌, IfOk, OnOk, length};
-ghost use Rattle.rd_tree.specs.Document.{OutlineFits, taken};
+ghost use Rattle.std.specs.Prelude.{◌≡◌, ◌<◌};
 
 use crate::fresh_list;
 use rd_geom::{Color, Rect, Sides, Size, Steps};
-use rd_list::{hit, pixel};
+use rd_list::{plain_hit, plain_pixel};
 use rd_style::{
     Display, Floating, Overflow, Pointer, Position, Style, Visibility, fits, fits_rect,
 };
@@ -93,14 +92,18 @@ fn rect_of(rt: &impl Abort, r: &[i32; 4]) -> Rect {
     Rect::new(r[0], r[1], r[2], r[3]).expect(rt, "a rectangle")
 }
 
-fn add<B: Ledger>(rt: &impl Abort, alloc: Global, tree: &mut Tree<B>, row: &Row) -> Result<(), Fail>
-    requires { OutlineFits tree.old }
-    ensures { OnOk result (taken tree.new ≡ taken tree.old + 1) }
-{
+fn add<B: Ledger>(
+    rt: &impl Abort,
+    alloc: Global,
+    tree: &mut Tree<B>,
+    row: &Row,
+) -> Result<(), Fail> {
     let parent = Id::new(alloc, row.parent)?;
     let parent = tree.find(&parent).expect(rt, "the parent");
     let id = Id::new(alloc, row.id)?;
     assert!(rt; tree.find(&id).is_none());
+    assert!(rt; tree.depth(parent) < 256);
+    assert!(rt; u64::from(tree.boxes()) + u64::from(tree.retired()) < 20000);
     let rect = rect_of(rt, &row.rect);
     assert!(rt; fits_rect(rect));
     assert!(rt; fits(&row.style));
@@ -117,7 +120,6 @@ fn planted<B: Ledger>(
     assert!(rt; 1 <= side && side <= 4096);
     let canvas = Size { w: side, h: side };
     let (first, rest) = rows.split_first().expect(rt, "a root");
-    assert!(rt; rest.len() < 100);
     let rect = rect_of(rt, &first.rect);
     assert!(rt; fits_rect(rect));
     assert!(rt; fits(&first.style));
@@ -154,12 +156,12 @@ fn check<B: Ledger>(
         case.name
     );
     for (x, y, want) in case.pixels {
-        let px = pixel(&list, *x, *y);
+        let px = plain_pixel(&list, *x, *y);
         assert_eq!(rt; [px.r(), px.g(), px.b()], *want, "pixel of {}", case.name);
     }
     for (x, y, want) in case.hits {
         assert!(rt;
-            is_box(&tree, hit(&list, *x, *y), want),
+            is_box(&tree, plain_hit(&list, *x, *y), want),
             "hit of {}",
             case.name
         );

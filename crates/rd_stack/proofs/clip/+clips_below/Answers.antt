@@ -1,11 +1,11 @@
 use Rattle.std.proofs.Common.{◌≡◌, ◌∙◌, Bool, List, ◌∷◌}
 use Rattle.rd_geom.specs.Plane.{Rectangle}
 use Rattle.rd_style.specs.declared.styles.Style.{Style}
-use Rattle.rd_clip.specs.declared.Clips.{Clips}
+use Rattle.rd_clip.specs.declared.clips.Clips.{Clips}
 use Rattle.rd_clip.specs.Standing.{clips_of}
-use Rattle.rd_stack.specs.Spots.{BoxData, is_none}
+use Rattle.rd_stack.specs.Paths.{BoxData, is_none}
 use Rattle.rd_stack.specs.Clips.{entered}
-use Rattle.rd_stack.proofs.Slices.{first_rest, none_left}
+use Rattle.rd_stack.proofs.Walk.Slices.{first_rest, none_left}
 use Rattle.rd_stack.proofs.clip.+clips_below.Goals as goal
 
 -- one box further down

@@ -1,11 +1,16 @@
-use Rattle.std.proofs.Common.{ap, ◌∙◌, map}
-use Rattle.std.proofs.lemmas.List.{map-append}
-use Rattle.rd_stack.specs.Internal.Seen.{seen}
-use Rattle.rd_stack.proofs.Going.{go_on}
+use Rattle.std.proofs.Common.{arith}
+use Rattle.rd_stack.proofs.Walk.Going.{go_on, sizes, next_sibling_is, first_child_is}
 use Rattle.rd_stack.proofs.fresh.+paint.Goals as goal
 
 pub paint_all-loop-next-preserved : goal.paint_all-loop-next-preserved
 paint_all-loop-next-preserved g t c =
-    go_on c.args.canvas.now c.args.tree.now.boxes c.args.above.now c.loop-next.next c.in-Some.key c.in-Some-look_at.looked.here c.in-Some-look_at.looked.first_child c.in-Some-look_at.looked.next_sibling
-    _ (map seen c.loop-next.all.items) (map seen c.append.new.self.items) (map seen c.in_ok-painted.painted.items) _
-    c.in-Some-look_at.ensures c.in-Some.is c.loop-next.invariant c.in_ok-painted.ensures (ap (map seen) c.in_ok-append.ensures.items ∙ map-append seen _ _)
+    let w = c.in-Some-look_at.ensures.seen in
+    let on = go_on c.args.canvas.now c.args.tree.now.boxes c.args.above.now c.loop-next.next c.in-Some.key c.in-Some-look_at.visit.here c.in-Some-look_at.visit.first_child c.in-Some-look_at.visit.next_sibling
+    _ c.loop-next.all.items c.append.new.self.items c.in_ok-painted.painted.items _
+    w c.in-Some.is (c.loop-next.invariant.0, c.loop-next.invariant.1) c.in_ok-painted.ensures.painted c.in_ok-append.ensures.items in
+    let s = sizes c.args.tree.now.boxes c.loop-next.next c.in-Some.key c.in-Some-look_at.visit.here c.in-Some-look_at.visit.first_child c.in-Some-look_at.visit.next_sibling w c.in-Some.is in (
+      on.0,
+      on.1,
+      next_sibling_is c.args.tree.now.boxes c.in-Some.key c.in-Some-look_at.visit.here c.in-Some-look_at.visit.first_child c.in-Some-look_at.visit.next_sibling w,
+      omega (arith, s, c.paint_one.ensures.looks, c.in-Some-look_at.ensures.looks, c.loop-next.invariant.3),
+    )

@@ -1,7 +1,6 @@
-use Rattle.std.proofs.Common.{◌≡◌, ◌+◌, ◌*◌, ◌≤◌, map, ◌++◌}
+use Rattle.std.proofs.Common.{◌≡◌, ◌+◌, ◌*◌, ◌≤◌, ◌++◌}
 use Rattle.rd_keys.specs.Keys.{same_key}
-use Rattle.rd_tree.specs.Forest.{from_some, size}
-use Rattle.rd_stack.specs.Internal.Seen.{seen}
+use Rattle.rd_tree.specs.Forest.{head, from_some, size}
 use Rattle.rd_stack.specs.Fresh as spec
 use Rattle.rd_stack.proofs.fresh.+paint.Given as goal
 
@@ -14,7 +13,9 @@ decreases-paint_all g l = 2 * size (from_some same_key l.first l.tree.now.boxes)
 abbrev pub invariant-paint_all-loop-next : goal.invariant-paint_all-loop-next
 invariant-paint_all-loop-next g l =
     (size (from_some same_key l.next l.tree.boxes) ≤ size (from_some same_key l.fn.first l.tree.boxes))
-    × (map seen l.all.items ++ spec.painted l.canvas l.above (from_some same_key l.next l.tree.boxes) ≡ spec.painted l.canvas l.above (from_some same_key l.fn.first l.tree.boxes))
+    × (l.all.items ++ spec.painted l.canvas l.above (from_some same_key l.next l.tree.boxes) ≡ spec.painted l.canvas l.above (from_some same_key l.fn.first l.tree.boxes))
+    × (l.next ≡ head (from_some same_key l.next l.tree.boxes))
+    × (l.looks + size (from_some same_key l.next l.tree.boxes) ≤ l.fn.looks + size (from_some same_key l.fn.first l.tree.boxes))
 
 abbrev pub decreases-paint_all-loop-next : goal.decreases-paint_all-loop-next
 decreases-paint_all-loop-next g l = size (from_some same_key l.next l.tree.boxes)

@@ -1,9 +1,9 @@
 use Rattle.rd_tree.specs.Shown.{told}
-use Rattle.rd_stack.proofs.Going as going
+use Rattle.rd_stack.proofs.Walk.Going as going
 use Rattle.rd_stack.proofs.fresh.look_at.Goals as goal
 
 pub new-requires : goal.new-requires
 new-requires g c = going.placed c.args.tree.now.root c.args.tree.now.boxes c.args.key (told c.in-Some.view) c.in-Some.ensures.apart c.in-Some.ensures.limits c.in-Some.ensures.seen
 
-pub returns-in-Some : goal.returns-in-Some
-returns-in-Some g c = going.onward c.args.tree.now.root c.args.tree.now.boxes c.args.key (told c.in-Some.view) _ c.in-Some.ensures.apart c.in-Some.ensures.seen c.new.ensures
+pub returns-in-Some-clause-seen : goal.returns-in-Some-clause-seen
+returns-in-Some-clause-seen g c = going.onward c.args.tree.now.root c.args.tree.now.boxes c.args.key (told c.in-Some.view) _ c.in-Some.ensures.apart c.in-Some.ensures.seen c.new.ensures

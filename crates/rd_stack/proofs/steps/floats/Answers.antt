@@ -1,9 +1,10 @@
-use Rattle.std.proofs.Common.{sym}
-use Rattle.rd_stack.specs.Internal.Seen.{spot}
-use Rattle.rd_stack.specs.Internal.Seen.{seen}
-use Rattle.rd_stack.specs.Internal.Tests as tests
+use Rattle.std.proofs.Common.{sym, ◌||◌}
+use Rattle.rd_style.specs.declared.kinds.Class.TheVariants as classes
+use Rattle.rd_keys.specs.declared.entry.Part.TheVariants as parts
+use Rattle.rd_stack.specs.Paths.{is_local, has_class}
+use Rattle.rd_stack.specs.Painting as painting
 use Rattle.rd_list.proofs.Joins.{join-nil}
-use Rattle.rd_list.proofs.Onward.{each_more}
+use Rattle.rd_stack.proofs.Walk.EachKind.{each_kind}
 use Rattle.rd_stack.proofs.steps.floats.Goals as goal
 
 pub loop-x-init : goal.loop-x-init
@@ -11,5 +12,5 @@ loop-x-init c = sym (join-nil _)
 
 pub loop-x-preserved : goal.loop-x-preserved
 loop-x-preserved c =
-    each_more seen (λ x. x.order) (tests.is_painted_float (spot c.args.e.now)) c.args.below.now c.loop-x.x-index c.x-item.result _ _ _
-    c.loop-x-test.true c.x-item.is c.loop-x.invariant c.in_ok-float_part.ensures
+    each_kind (λ x. x.order) (λ x. is_local c.args.e.now x.at) (λ x. has_class classes.Float x.at) c.args.below.now c.loop-x.x-index c.x-item.result _ _ _
+    c.loop-x-test.true c.x-item.is c.loop-x.invariant c.in_ok-float.ensures

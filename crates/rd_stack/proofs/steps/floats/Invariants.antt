@@ -1,10 +1,10 @@
-use Rattle.std.proofs.Common.{◌≡◌, take, map}
-use Rattle.std.specs.Prelude.{filter}
+use Rattle.std.proofs.Common.{◌≡◌, take}
 use Rattle.rd_list.specs.Entries.{◌▷◌, each}
-use Rattle.rd_stack.specs.Internal.Seen.{spot}
-use Rattle.rd_stack.specs.Internal.Seen.{seen}
+use Rattle.rd_stack.specs.Painting as painting
 use Rattle.rd_stack.specs.Internal.Tests as tests
+use Rattle.rd_style.specs.declared.kinds.Class.TheVariants as classes
+use Rattle.rd_keys.specs.declared.entry.Part.TheVariants as parts
 use Rattle.rd_stack.proofs.steps.floats.Given as goal
 
 abbrev pub invariant-loop-x : goal.invariant-loop-x
-invariant-loop-x l = l.out ≡ l.fn.out ▷ each (λ x. x.order) (filter (tests.is_painted_float (spot l.e)) (map seen (take l.x-index l.below)))
+invariant-loop-x l = l.out ≡ l.fn.out ▷ painting.floats l.e (take l.x-index l.below)

@@ -1,0 +1,5 @@
+use Rattle.rd_graph.proofs.Calls.{lining}
+use Rattle.rd_graph.proofs.laws.lining.Goals as goal
+
+pub returns : goal.returns
+returns g c = lining _

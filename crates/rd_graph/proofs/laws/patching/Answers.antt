@@ -1,0 +1,5 @@
+use Rattle.rd_graph.proofs.Calls.{patching}
+use Rattle.rd_graph.proofs.laws.patching.Goals as goal
+
+pub returns : goal.returns
+returns g c = patching _

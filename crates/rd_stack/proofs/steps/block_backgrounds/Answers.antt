@@ -1,0 +1,16 @@
+use Rattle.std.proofs.Common.{sym, ◌||◌}
+use Rattle.rd_style.specs.declared.kinds.Class.TheVariants as classes
+use Rattle.rd_keys.specs.declared.entry.Part.TheVariants as parts
+use Rattle.rd_stack.specs.Paths.{is_local, has_class}
+use Rattle.rd_stack.specs.Painting as painting
+use Rattle.rd_list.proofs.Joins.{join-nil}
+use Rattle.rd_stack.proofs.Walk.EachKind.{each_kind}
+use Rattle.rd_stack.proofs.steps.block_backgrounds.Goals as goal
+
+pub loop-x-init : goal.loop-x-init
+loop-x-init c = sym (join-nil _)
+
+pub loop-x-preserved : goal.loop-x-preserved
+loop-x-preserved c =
+    each_kind (λ x. painting.back_border c.args.canvas.now x.at) (λ x. is_local c.args.e.now x.at) (λ x. has_class classes.Block x.at) c.args.below.now c.loop-x.x-index c.x-item.result _ _ _
+    c.loop-x-test.true c.x-item.is c.loop-x.invariant c.in_ok-block_background.ensures
