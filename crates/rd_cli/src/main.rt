@@ -1,12 +1,9 @@
 //! Keeps a display list between paints, and answers a script.
 #![tactic(auto)]
 
-ghost use Rattle.std.specs.Prelude.{◌≡◌, ◌<◌, ◌↔◌, ◌⊎◌, List, IfOk, IfSome, None, drop, map, string_bytes};
-ghost use Rattle.std.specs.Io.KnownBytes.{Keeps};
-ghost use Rattle.rd_io.specs.Causes.{FaultsRose};
-ghost use Rattle.rd_run.specs.Endings as ends;
+ghost use Rattle.std.specs.Prelude.{◌≡◌, ◌<◌, IfOk, drop, map, string_bytes};
+ghost use Rattle.rd_run.specs.Endings.{number, stream, Ends, Tells};
 ghost use Rattle.rd_run.specs.Words.{words_form};
-ghost use Rattle.rd_scene.specs.Scripts as scripts;
 
 use rd_geom::Steps;
 use rd_io::{ReadSource, Sink, Source, WriteSink, write_all};
@@ -31,7 +28,7 @@ fn after_name(alloc: Global, mut args: Args) -> Result<Vec<String>, AllocError>
     Ok(words)
 }
 
-/// Does all that the program does, with counters that start at 0. The clauses are those of `run`.
+/// Does all that the program does, with counters that start at 0.
 fn run_counted<S: Source, O: Sink, E: Sink, A: Ledger, B: Ledger>(
     alloc: Global,
     words: &[String],
@@ -48,17 +45,12 @@ fn run_counted<S: Source, O: Sink, E: Sink, A: Ledger, B: Ledger>(
     requires looks_parts { looks.parts ≡ B.parts }
     requires looks_some { 0 < looks.parts }
 
-    ensures written { (s : Status) → result ≡ ends.number s → IfSome (S.left source.old) (λ bytes. ends.HasWritten bytes (O.written out.old) (O.written out.new) s) }
-    ensures nothing { (s : Status) → result ≡ ends.number s → ends.WritesNothing s → Keeps (O.written out.old) (O.written out.new) }
-    ensures cause { (s : Status) → result ≡ ends.number s → IfSome (S.left source.old) (λ bytes.
-        ends.MayEnd (map string_bytes words.now) bytes (FaultsRose (S.faults source.old) (S.faults source.new)) (FaultsRose (O.faults out.old) (O.faults out.new)) s) }
-    ensures shown { (s : Status) → result ≡ ends.number s →
-        ends.ShowsCause (S.left source.old) (S.left source.new) (S.faults source.old) (S.faults source.new) (O.faults out.old) (O.faults out.new) s }
-    ensures usage { (result ≡ ends.number Status.Usage) ↔ (words_form (map string_bytes words.now) ≡ None) }
-    ensures complete { IfSome (S.left source.old) (λ bytes. (s : scripts.Script) → ends.IsInput (map string_bytes words.now) bytes → ends.IsScriptText bytes s
-        → ¬ (FaultsRose (S.faults source.old) (S.faults source.new)) → ¬ (FaultsRose (O.faults out.old) (O.faults out.new))
-        → (result ≡ ends.number Status.Done) ⊎ (result ≡ ends.number Status.NoMemory)) }
-    ensures line { (s : Status) × (result ≡ ends.number s) × ends.Tells (E.written err.old) (E.written err.new) (FaultsRose (E.faults err.old) (E.faults err.new)) s }
+    ensures ends { (s : Status) × (result ≡ number s)
+        × Ends (source.new ≡ source.old) (out.new ≡ out.old) (words_form (map string_bytes words.now))
+        (stream (S.left source.old) (S.left source.new) (S.faults source.old) (S.faults source.new))
+        (stream (O.written out.old) (O.written out.new) (O.faults out.old) (O.faults out.new)) s }
+    ensures line { (s : Status) × (result ≡ number s)
+        × Tells (stream (E.written err.old) (E.written err.new) (E.faults err.old) (E.faults err.new)) s }
 {
     let mut made = Steps::<A>::new(made);
     let mut looks = Steps::<B>::new(looks);
@@ -67,8 +59,8 @@ fn run_counted<S: Source, O: Sink, E: Sink, A: Ledger, B: Ledger>(
 
 /// Ends a run that had no memory for its words.
 fn without_memory<E: Sink>(err: &mut E) -> u8
-    ensures status { result ≡ ends.number Status.NoMemory }
-    ensures line { ends.Tells (E.written err.old) (E.written err.new) (FaultsRose (E.faults err.old) (E.faults err.new)) Status.NoMemory }
+    ensures status { result ≡ number Status.NoMemory }
+    ensures line { Tells (stream (E.written err.old) (E.written err.new) (E.faults err.old) (E.faults err.new)) Status.NoMemory }
 {
     let status = Status::NoMemory;
     let _told = write_all(err, status.line().as_bytes());

@@ -1,7 +1,9 @@
-pub mod Counts
-pub mod Pixels
+pub mod Listing
 pub mod Painting
 pub mod Runs
-pub mod Apart
 pub mod Sound
 pub mod Planted
+pub mod Counted
+pub mod Slots
+pub mod Dumping
+pub mod Finishing

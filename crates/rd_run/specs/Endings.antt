@@ -1,11 +1,12 @@
--- How a run may end, and what it has then written. The numbers and the lines are this project's own choice.
-use Rattle.std.specs.Prelude.{◌≡◌, ◌≢◌, ℕ, ◌+◌, ◌≤◌, ◌<◌, List, [], ◌∷◌, ◌++◌, codes, length, Option, Some, None, ◌⊎◌}
-use Rattle.std.specs.Io.KnownBytes.{Appends, Keeps, IsAtEnd}
-use Rattle.rd_io.specs.Causes.{GainsPart, FaultsRose, Takes}
+-- How a run may end, why, and what it has then written. All of it is this project's own choice.
+use Rattle.std.specs.Prelude.{◌≡◌, ℕ, ◌+◌, ◌≤◌, List, [], codes, length, Option, Some, None, ◌⊎◌}
+use Rattle.std.specs.Io.KnownBytes.{Appends, Consumes, IsAtEnd}
+use Rattle.rd_io.specs.Causes.{GainsPart, Takes, one_more}
 use Rattle.rd_scene.specs.Scripts.{Script}
-pub use Rattle.rd_scene.specs.Reading.{IsScriptText, IsOffForm, HasNoReading}
-pub use Rattle.rd_run.specs.Machine.{IsAllowedText}
-use Rattle.rd_run.specs.Words.{words_form}
+use Rattle.rd_scene.specs.Reading.{IsScriptText, IsOffForm, HasNoReading}
+use Rattle.rd_run.specs.Machine.{IsAllowedText}
+use Rattle.rd_run.specs.Words.{WordsForm, replay}
+use Rattle.rd_run.specs.declared.input.TheConstants.{MOST_BYTES}
 use Rattle.rd_run.specs.declared.status.Status.{Status}
 use Rattle.rd_run.specs.declared.status.Status.TheVariants.{Done, Usage, NotJson, Form, ReadFault, WriteFault, NoMemory, TooLarge}
 
@@ -31,67 +32,93 @@ line_of WriteFault = codes "write fault\n"
 line_of NoMemory = codes "out of memory\n"
 line_of TooLarge = codes "input too large\n"
 
--- the most bytes of an input
-abbrev pub most : ℕ
-most = 67108864
+-- What is known of a stream before and after a run: its bytes where it tells them (of a source those that are left, of a
+-- sink those that were written), and its count of faults.
+pub record Stream : Type 0 where
+  pub bytes : Option (List ℕ)
+  pub bytes_now : Option (List ℕ)
+  pub faults : ℕ
+  pub faults_now : ℕ
 
--- the whole text, or a front of a text, that a script's bytes allow
-abbrev pub WritesAll : List ℕ → Option (List ℕ) → Option (List ℕ) → Type 0
-WritesAll bytes old new = (s : Script) × (text : List ℕ) × IsScriptText bytes s × IsAllowedText s text × Appends old new text
+abbrev pub stream : Option (List ℕ) → Option (List ℕ) → ℕ → ℕ → Stream
+stream bytes bytes_now faults faults_now =
+    record { bytes = bytes; bytes_now = bytes_now; faults = faults; faults_now = faults_now }
 
-abbrev pub WritesPart : List ℕ → Option (List ℕ) → Option (List ℕ) → Type 0
-WritesPart bytes old new = (s : Script) × (text : List ℕ) × IsScriptText bytes s × IsAllowedText s text × GainsPart old new text
+-- one fault of the stream was counted
+abbrev pub HasFailed : Stream → Type 0
+HasFailed s = s.faults_now ≡ one_more s.faults
 
--- The words are of a form, and these bytes are the whole input.
-abbrev pub IsInput : List (List ℕ) → List ℕ → Type 0
-IsInput words bytes = (words_form words ≢ None) × (length bytes ≤ most)
+-- no fault of the stream was counted
+abbrev pub IsFaultless : Stream → Type 0
+IsFaultless s = s.faults_now ≡ s.faults
 
--- Why a run over these whole bytes may end so, where they are within the limit: whether they are a script, and whether a fault of the sink was counted
-abbrev pub MayFollow : List ℕ → Type 0 → Status → Type 0
-MayFollow bytes out_rose NotJson = HasNoReading bytes
-MayFollow bytes out_rose Form = IsOffForm bytes
-MayFollow bytes out_rose WriteFault = ((s : Script) × IsScriptText bytes s) × out_rose
-MayFollow bytes out_rose NoMemory = Unit {0}
-MayFollow bytes out_rose Done = (s : Script) × IsScriptText bytes s
-MayFollow bytes out_rose _ = ⊥
+-- These bytes are the whole input: they were taken from the source, which is at its end, and are within the limit.
+pub record HasRead (source : Stream) (bytes : List ℕ) : Type 0 where
+  pub taken : Consumes source.bytes source.bytes_now bytes
+  pub ended : IsAtEnd source.bytes_now
+  pub within : length bytes ≤ MOST_BYTES
+  pub faultless : IsFaultless source
 
--- Why a replay of these bytes may end so: also by their number, and by whether a fault of the source was counted
-abbrev pub MayReplay : List ℕ → Type 0 → Type 0 → Status → Type 0
-MayReplay bytes source_rose out_rose Usage = ⊥
-MayReplay bytes source_rose out_rose ReadFault = source_rose
-MayReplay bytes source_rose out_rose TooLarge = most < length bytes
-MayReplay bytes source_rose out_rose NoMemory = Unit {0}
-MayReplay bytes source_rose out_rose s = (length bytes ≤ most) × MayFollow bytes out_rose s
+-- these bytes are the input that a form of words takes
+abbrev pub IsInput : WordsForm → Stream → List ℕ → Type 0
+IsInput replay source bytes = HasRead source bytes
 
--- Why a run may end so: by the words, and then as a replay does
-abbrev pub MayEnd : List (List ℕ) → List ℕ → Type 0 → Type 0 → Status → Type 0
-MayEnd words bytes source_rose out_rose Usage = words_form words ≡ None
-MayEnd words bytes source_rose out_rose s = (words_form words ≢ None) × MayReplay bytes source_rose out_rose s
+-- the input is one that a form of words can answer
+abbrev pub HasValidInput : WordsForm → List ℕ → Type 0
+HasValidInput replay bytes = (s : Script) × IsScriptText bytes s
 
--- what has been written then
-abbrev pub HasWritten : List ℕ → Option (List ℕ) → Option (List ℕ) → Status → Type 0
-HasWritten bytes old new Done = WritesAll bytes old new
-HasWritten bytes old new WriteFault = WritesPart bytes old new
-HasWritten bytes old new NoMemory = Keeps old new ⊎ WritesPart bytes old new
-HasWritten bytes old new _ = Keeps old new
+-- a text that may answer the input
+abbrev pub IsAllowed : WordsForm → List ℕ → List ℕ → Type 0
+IsAllowed replay bytes text = (s : Script) × IsScriptText bytes s × IsAllowedText s text
 
--- Is nothing written then?
+-- the sink gained the whole of such a text
+abbrev pub WritesAll : WordsForm → List ℕ → Stream → Type 0
+WritesAll form bytes out = (text : List ℕ) × IsAllowed form bytes text × Appends out.bytes out.bytes_now text
+
+-- the sink gained a front of such a text
+abbrev pub WritesPart : WordsForm → List ℕ → Stream → Type 0
+WritesPart form bytes out =
+    (text : List ℕ) × IsAllowed form bytes text × GainsPart out.bytes out.bytes_now text
+
+-- Is nothing written with this status?
 abbrev pub WritesNothing : Status → Type 0
 WritesNothing Done = ⊥
 WritesNothing WriteFault = ⊥
 WritesNothing NoMemory = ⊥
 WritesNothing _ = Unit {0}
 
--- What a run took from its source and what was counted, whether or not the streams tell of their bytes: left and faults of the
--- source, and faults of the sink, before and after
-abbrev pub ShowsCause : Option (List ℕ) → Option (List ℕ) → ℕ → ℕ → ℕ → ℕ → Status → Type 0
-ShowsCause left left_now source source_now out out_now Usage = Keeps left left_now × (source_now ≡ source)
-ShowsCause left left_now source source_now out out_now TooLarge = Takes left left_now (most + 1)
-ShowsCause left left_now source source_now out out_now ReadFault = FaultsRose source source_now
-ShowsCause left left_now source source_now out out_now WriteFault = FaultsRose out out_now
-ShowsCause left left_now source source_now out out_now Done = IsAtEnd left_now
-ShowsCause left left_now source source_now out out_now _ = Unit {0}
+-- How a run of a form of words may end: the status, its cause, and what was written. 'Untouched' says that the sink is
+-- the one of before, its count too.
+module _ (untouched : Type 0) (source out : Stream) where
+  abbrev pub EndsAs : WordsForm → Status → Type 0
+  EndsAs form Usage = ⊥
+  EndsAs form ReadFault = untouched × HasFailed source
+  EndsAs form TooLarge = untouched × IsFaultless source × Takes source.bytes source.bytes_now (MOST_BYTES + 1)
+  EndsAs form NotJson = untouched × ((bytes : List ℕ) × IsInput form source bytes × HasNoReading bytes)
+  EndsAs form Form = untouched × ((bytes : List ℕ) × IsInput form source bytes × IsOffForm bytes)
+  EndsAs form WriteFault =
+      HasFailed out × ((bytes : List ℕ) × IsInput form source bytes × WritesPart form bytes out)
+  EndsAs form NoMemory =
+      IsFaultless source × (untouched ⊎ (IsFaultless out
+      × ((bytes : List ℕ) × IsInput form source bytes × WritesPart form bytes out)))
+  EndsAs form Done =
+      IsFaultless out × ((bytes : List ℕ) × IsInput form source bytes × WritesAll form bytes out)
 
--- The line was written, or a front of it where a fault was counted.
-abbrev pub Tells : Option (List ℕ) → Option (List ℕ) → Type 0 → Status → Type 0
-Tells old new rose s = Appends old new (line_of s) ⊎ (rose × GainsPart old new (line_of s))
+-- How a run may end: words of no form end it before anything is read.
+module _ (unread untouched : Type 0) where
+  abbrev pub Ends : Option WordsForm → Stream → Stream → Status → Type 0
+  Ends None source out Usage = unread × untouched
+  Ends None source out _ = ⊥
+  Ends (Some form) source out s = EndsAs untouched source out form s
+
+-- A valid input within the limit is answered, unless a fault was counted or there was no memory.
+abbrev pub Completes : Option WordsForm → Stream → Stream → Status → Type 0
+Completes words source out s =
+    (form : WordsForm) (bytes : List ℕ) → words ≡ Some form → source.bytes ≡ Some bytes → length bytes ≤ MOST_BYTES
+    → HasValidInput form bytes → ¬ HasFailed source → ¬ HasFailed out → (s ≡ Done) ⊎ (s ≡ NoMemory)
+
+-- The line of the status was written, or a front of it where a fault was counted.
+abbrev pub Tells : Stream → Status → Type 0
+Tells err s =
+    Appends err.bytes err.bytes_now (line_of s)
+    ⊎ (HasFailed err × GainsPart err.bytes err.bytes_now (line_of s))

@@ -3,7 +3,7 @@ use Rattle.std.specs.List.{list_all, list_any}
 use Rattle.std.specs.Map.{keys_of}
 use Rattle.serde_json.specs.View.{items_view, members_view}
 use Rattle.serde_json.specs.declared.value.Value.{Value}
-use Rattle.rd_scene.specs.Members.{count, has_only}
+use Rattle.rd_scene.specs.Members.{count, are_known}
 use Rattle.rd_scene.specs.Rects.{four}
 
 pub count_items : (vs : List Value) → count (items_view vs) ≡ length vs
@@ -11,7 +11,7 @@ count_items [] = refl
 count_items (v ∷ vs) = omega (arith, count_items vs)
 
 pub only_keys : (names : List (List ℕ)) (es : List (String Global × Value))
-    → list_all (λ (k : String Global). list_any (bytes_eq (string_bytes k)) names) (keys_of es) ≡ has_only names (members_view es)
+    → list_all (λ (k : String Global). list_any (bytes_eq (string_bytes k)) names) (keys_of es) ≡ are_known names (members_view es)
 only_keys names [] = refl
 only_keys names (e ∷ es) = ap (λ b. list_any (bytes_eq (string_bytes e.0)) names && b) (only_keys names es)
 

@@ -1,12 +1,17 @@
 -- The walk over the boxes that are planted.
-use Rattle.std.proofs.Common.{◌≡◌, ℕ, ◌+◌, Bool, true, false, ◌&&◌, ◌||◌, cond, List, [], ◌∷◌, ◌++◌, reverse, Option, Some, None, is_none, is_some, IsSome, refl, sym, ap, ◌∙◌, bytes_eq, unwrap_or, option_and_then}
+use Rattle.std.proofs.Common.{◌≡◌, ℕ, ◌+◌, ◌<◌, ◌≤◌, Bool, true, false, ◌&&◌, ◌||◌, cond, List, [], ◌∷◌, ◌++◌, reverse, Option, Some, None, is_none, is_some, IsSome, refl, sym, ap, ◌∙◌, bytes_eq, unwrap_or, option_and_then, option_map, arith, inl, inr}
 use Rattle.rd_keys.specs.Keys.{same_key}
-use Rattle.rd_tree.specs.Forest.{empty, tree, has}
-use Rattle.rd_tree.specs.Document.{Document, BoxKey, BoxForest, named, with_child}
+use Rattle.rd_tree.specs.Forest.{empty, tree, has, depth}
+use Rattle.rd_tree.specs.Touching.{touch}
+use Rattle.rd_tree.specs.declared.limits.TheConstants.{MAX_DEPTH}
+use Rattle.rd_tree.proofs.Nodes.Naming.{named_there, bytes_same}
+use Rattle.rd_tree.proofs.Linking.Standing.{cases}
+use Rattle.rd_keys.proofs.Keys.{same_key-sound}
+use Rattle.rd_tree.specs.Document.{Document, BoxKey, BoxForest, named}
 use Rattle.rd_scene.specs.declared.script.SceneBox.{SceneBox}
-use Rattle.rd_scene.specs.Order.{depth_of, is_first, has_room, has_place, are_in_order}
+use Rattle.rd_scene.specs.Order.{depth_of, is_first, has_level_below, has_place, are_in_order}
 use Rattle.rd_scene.specs.Planting.{item_of, parent_in, Adds, AddsAll}
-use Rattle.rd_scene.proofs.Names.{is_named, named_added}
+use Rattle.rd_scene.proofs.Growing.{grow, named-new, named-kept, depth-new, depth-kept}
 
 -- one more box is added after the others
 pub adds_push : (bs : List SceneBox) (b : SceneBox) (s m t : Document) → AddsAll bs s m → Adds b m t → AddsAll (bs ++ b ∷ []) s t
@@ -17,7 +22,7 @@ adds_push (c ∷ bs) b s m t (n, first, rest) a = (n, first, adds_push bs b n m 
 abbrev pub so_far : SceneBox → List SceneBox → List SceneBox
 so_far first bs = reverse bs ++ first ∷ []
 
-not_first : (bs : List SceneBox) (first : SceneBox) → is_first (bs ++ first ∷ []) ≡ false
+pub not_first : (bs : List SceneBox) (first : SceneBox) → is_first (bs ++ first ∷ []) ≡ false
 not_first [] first = refl
 not_first (b ∷ bs) first = refl
 
@@ -41,32 +46,79 @@ has_parent [] parent h place = cc
 has_parent (b ∷ before) None h place = cc
 has_parent (b ∷ before) (Some p) h place = (p, refl, by (depth_of p (b ∷ before)) place)
   where
-    by : (o : Option ℕ) → has_room o ≡ true → is_some o ≡ true
+    by : (o : Option ℕ) → has_level_below o ≡ true → is_some o ≡ true
     by None h = cc
     by (Some d) h = refl
 
--- The ids of the tree are those of the boxes so far.
-abbrev pub SameNames : BoxForest → List SceneBox → Type 0
-SameNames f before = (q : List ℕ) → is_named q f ≡ is_some (depth_of q before)
-
-pub names_more : (f g : BoxForest) (before : List SceneBox) (b : SceneBox) (p k : BoxKey) → SameNames f before → has same_key p f ≡ true
-    → g ≡ with_child p None k (item_of b) f → SameNames g (b ∷ before)
-names_more f g before b p k names there e q =
-    rw e (named_added q p k (item_of b) f there ∙ ap (λ c. c || bytes_eq b.id q) (names q) ∙ by (bytes_eq b.id q))
+-- the parent of a box, where the forest has one
+pub parent_there : (f : BoxForest) (b : SceneBox) (k : BoxKey) → parent_in f b ≡ Some k → has same_key k f ≡ true
+parent_there f b k h = by b.parent h
   where
-    by : (c : Bool) → (is_some (depth_of q before) || c) ≡ is_some (cond c (Some (unwrap_or (option_and_then (λ p. depth_of p before) b.parent) 0 + 1)) (depth_of q before))
-    by true = or_true (is_some (depth_of q before))
-      where
-        or_true : (a : Bool) → (a || true) ≡ true
-        or_true true = refl
-        or_true false = refl
-    by false = or_false (is_some (depth_of q before))
-      where
-        or_false : (a : Bool) → (a || false) ≡ a
-        or_false true = refl
-        or_false false = refl
+    by : (p : Option (List ℕ)) → option_and_then (λ i. named i f) p ≡ Some k → has same_key k f ≡ true
+    by None h = cc
+    by (Some i) h = named_there i k f h
 
-pub known_parent : (f : BoxForest) (first : SceneBox) (bs rest : List SceneBox) (b : SceneBox) → SameNames f (so_far first bs) → Stands (so_far first bs) rest b → IsSome (parent_in f b)
-known_parent f first bs rest b names s =
+-- The ids of the tree are those of the boxes so far, at the same depths.
+abbrev pub SameDepths : BoxForest → List SceneBox → Type 0
+SameDepths f before = (q : List ℕ) → option_map (λ k. depth same_key k f) (named q f) ≡ depth_of q before
+
+some_depth : (o : Option BoxKey) (f : BoxForest) (d : Option ℕ) → option_map (λ k. depth same_key k f) o ≡ d → d ≡ None → o ≡ None
+some_depth None f d e n = refl
+some_depth (Some k) f d e n = absurd (let no : Some (depth same_key k f) ≡ None = e ∙ n in cc)
+
+-- the depth of the parent
+pub parent_depth : (f : BoxForest) (before : List SceneBox) (b : SceneBox) (p : BoxKey) → SameDepths f before → parent_in f b ≡ Some p
+    → option_and_then (λ i. depth_of i before) b.parent ≡ Some (depth same_key p f)
+parent_depth f before b p same e = by b.parent e
+  where
+    by : (o : Option (List ℕ)) → option_and_then (λ i. named i f) o ≡ Some p → option_and_then (λ i. depth_of i before) o ≡ Some (depth same_key p f)
+    by None e = absurd (let no : None ≡ Some p = e in cc)
+    by (Some i) e = sym (same i) ∙ ap (option_map (λ k. depth same_key k f)) e
+
+pub depths_grown : (f : BoxForest) (before : List SceneBox) (b : SceneBox) (p k : BoxKey) → SameDepths f before → has same_key k f ≡ false
+    → parent_in f b ≡ Some p → depth_of b.id before ≡ None → SameDepths (grow p k (touch (item_of b)) f) (b ∷ before)
+depths_grown f before b p k same out e free q =
+    elim (cases (bytes_eq b.id q)) [
+      | inl s ↦
+          let id : b.id ≡ q = bytes_same b.id q s in
+          let none : named q f ≡ None = some_depth (named q f) f (depth_of q before) (same q) (ap (λ i. depth_of i before) (sym id) ∙ free) in
+          rw (named-new q p k (touch (item_of b)) f there s none, depth-new p k (touch (item_of b)) f there out, s, parent_depth f before b p same e) refl
+      | inr s ↦ rw (named-kept q p k (touch (item_of b)) f there s, s) (old (named q f) refl ∙ same q)
+    ]
+  where
+    there : has same_key p f ≡ true
+    there = parent_there f b p e
+
+    old : (o : Option BoxKey) → named q f ≡ o → option_map (λ j. depth same_key j (grow p k (touch (item_of b)) f)) o ≡ option_map (λ j. depth same_key j f) o
+    old None h = refl
+    old (Some j) h = ap Some (depth-kept j p k (touch (item_of b)) f there (apart j (named_there q j f h)))
+      where
+        apart : (j : BoxKey) → has same_key j f ≡ true → same_key j k ≡ false
+        apart j m = elim (cases (same_key j k)) [
+          | inl s ↦ absurd (let no : true ≡ false = sym m ∙ (ap (λ i. has same_key i f) (same_key-sound j k s) ∙ out) in cc)
+          | inr s ↦ s
+        ]
+
+pub new_name : (f : BoxForest) (before : List SceneBox) (b : SceneBox) → SameDepths f before → depth_of b.id before ≡ None → named b.id f ≡ None
+new_name f before b same free = some_depth (named b.id f) f (depth_of b.id before) (same b.id) free
+
+is_known : (o : Option BoxKey) (f : BoxForest) (d : Option ℕ) → option_map (λ k. depth same_key k f) o ≡ d → is_some d ≡ true → IsSome o
+is_known None f d e s = absurd (let no : true ≡ false = sym s ∙ ap is_some (sym e) in cc)
+is_known (Some k) f d e s = refl
+
+pub known_parent : (f : BoxForest) (first : SceneBox) (bs rest : List SceneBox) (b : SceneBox) → SameDepths f (so_far first bs) → Stands (so_far first bs) rest b → IsSome (parent_in f b)
+known_parent f first bs rest b same s =
     let p = has_parent (so_far first bs) b.parent (not_first (reverse bs) first) s.place in
-    rw p.1 (names p.0 ∙ p.2)
+    rw p.1 (is_known (named (p.0) f) f (depth_of (p.0) (so_far first bs)) (same (p.0)) p.2)
+
+-- there is room for a level below the parent
+pub room_below : (f : BoxForest) (before : List SceneBox) (b : SceneBox) (p : BoxKey) → SameDepths f before → is_first before ≡ false → has_place before b.parent ≡ true
+    → parent_in f b ≡ Some p → depth same_key p f + 1 ≤ MAX_DEPTH
+room_below f [] b p same away place e = absurd (let n : true ≡ false = away in cc)
+room_below f (c ∷ before) b p same away place e = by b.parent place (parent_depth f (c ∷ before) b p same e)
+  where
+    by : (o : Option (List ℕ)) → has_place (c ∷ before) o ≡ true → option_and_then (λ i. depth_of i (c ∷ before)) o ≡ Some (depth same_key p f) → depth same_key p f + 1 ≤ MAX_DEPTH
+    by None h d = absurd (let n : None ≡ Some (depth same_key p f) = d in cc)
+    by (Some i) h d =
+        let room : has_level_below (Some (depth same_key p f)) ≡ true = ap has_level_below (sym d) ∙ h in
+        grind arith

@@ -3,7 +3,7 @@ use Rattle.std.specs.Prelude.{ℕ, ◌+◌, ◌-◌, ◌*◌, ◌&&◌, ◌==◌
 use Rattle.serde_json.specs.Data.{Data}
 use Rattle.serde_json.specs.Find.{as_str}
 use Rattle.rd_geom.specs.declared.color.Color.{Color}
-use Rattle.rd_style.specs.Changes.{transparent}
+use Rattle.rd_geom.specs.Colors.{transparent}
 use Rattle.rd_scene.specs.Members.{◌>>=◌, only_if}
 
 -- CSS Color 3 section 4.2.1: a hexadecimal digit of either case
@@ -28,7 +28,7 @@ rgb c d e f g h alpha = do
   blue ← hex_byte g h
   Some (record { r = red; g = green; b = blue; a = alpha })
 
--- CSS Color 3 section 4.2.1: `#` and six digits; this project's own choice: eight, of which the last two are alpha
+-- CSS Color 3 section 4.2.1: `#` and six digits; and eight, of which the last two are alpha, as CSS Color 4 section 5.2 has it
 unfoldable pub hashed : List ℕ → Option Color
 hashed (b ∷ c ∷ d ∷ e ∷ f ∷ g ∷ h ∷ []) = only_if (b == 35) (rgb c d e f g h 255)
 hashed (b ∷ c ∷ d ∷ e ∷ f ∷ g ∷ h ∷ i ∷ j ∷ []) = only_if (b == 35) (hex_byte i j >>= λ alpha. rgb c d e f g h alpha)

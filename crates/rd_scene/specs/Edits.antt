@@ -1,73 +1,73 @@
 -- Edits as a script writes them. Their members are this project's own choice.
-use Rattle.std.specs.Prelude.{ℕ, ℤ, pos, negsuc, if◌then◌else◌, List, [], ◌∷◌, codes, bytes_eq, Option, Some, None}
+use Rattle.std.specs.Prelude.{ℕ, ℤ, pos, ◌-ℤ◌, if◌then◌else◌, List, [], ◌∷◌, codes, bytes_eq, Option, Some, None, IsTrue}
 use Rattle.serde_json.specs.Data.{Data}
-use Rattle.serde_json.specs.Find.{get, as_object}
-use Rattle.rd_style.specs.Changes.{plain}
+use Rattle.serde_json.specs.Find.{get}
+use Rattle.rd_style.specs.Limits.{is_between, FitsRect, Fits}
+use Rattle.rd_style.specs.Changes.{plain, changed}
 use Rattle.rd_edits.specs.declared.edit.Edit.{Edit}
 use Rattle.rd_edits.specs.declared.edit.Edit.TheVariants.{Insert, Remove, Move, SetStyle, SetRect, Shift}
+use Rattle.rd_scene.specs.declared.script.TheConstants.{MAX_DISTANCE}
 use Rattle.rd_scene.specs.Members.{◌>>=◌, only_if, has_only, optional, from_to}
-use Rattle.rd_scene.specs.Rects.{rect_of}
-use Rattle.rd_scene.specs.Styles.{change_of, style_of}
-use Rattle.rd_scene.specs.Boxes.{id_of, id_or_null}
+use Rattle.rd_scene.specs.Rects.{rect_at}
+use Rattle.rd_scene.specs.Styles.{change_of}
+use Rattle.rd_scene.specs.Boxes.{id_at, id_or_null, style_at}
 
--- This project's own choice: `insert` has an id, a parent, perhaps a box to stand before, a rectangle and perhaps a style.
+-- the box to stand before, which may be absent
+abbrev pub before_at : Data → Option (Option (List ℕ))
+before_at d = optional None id_or_null (get (codes "before") d)
+
+-- `insert` has an id, a parent, perhaps a box to stand before, a rectangle and perhaps a style
 unfoldable pub insert_of : Data → Option Edit
-insert_of d = do
-  ms ← as_object d
-  id ← (get (codes "id") d >>= id_of)
-  parent ← (get (codes "parent") d >>= id_of)
-  before ← optional None id_or_null (get (codes "before") d)
-  rect ← (get (codes "rect") d >>= rect_of)
-  style ← optional plain style_of (get (codes "style") d)
-  only_if (has_only (codes "do" ∷ codes "id" ∷ codes "parent" ∷ codes "before" ∷ codes "rect" ∷ codes "style" ∷ []) ms)
-      (Some (Insert id parent before rect style))
+insert_of d =
+    only_if (has_only (codes "do" ∷ codes "id" ∷ codes "parent" ∷ codes "before" ∷ codes "rect" ∷ codes "style" ∷ []) d) do
+      id ← id_at (codes "id") d
+      parent ← id_at (codes "parent") d
+      before ← before_at d
+      rect ← rect_at d
+      style ← style_at d
+      Some (Insert id parent before rect style)
 
--- This project's own choice: `remove` has an id.
+-- `remove` has an id
 unfoldable pub remove_of : Data → Option Edit
-remove_of d = do
-  ms ← as_object d
-  id ← (get (codes "id") d >>= id_of)
-  only_if (has_only (codes "do" ∷ codes "id" ∷ []) ms) (Some (Remove id))
+remove_of d = only_if (has_only (codes "do" ∷ codes "id" ∷ []) d) do
+  id ← id_at (codes "id") d
+  Some (Remove id)
 
--- This project's own choice: `move` has an id, a parent and perhaps a box to stand before.
+-- `move` has an id, a parent and perhaps a box to stand before
 unfoldable pub move_of : Data → Option Edit
-move_of d = do
-  ms ← as_object d
-  id ← (get (codes "id") d >>= id_of)
-  parent ← (get (codes "parent") d >>= id_of)
-  before ← optional None id_or_null (get (codes "before") d)
-  only_if (has_only (codes "do" ∷ codes "id" ∷ codes "parent" ∷ codes "before" ∷ []) ms) (Some (Move id parent before))
+move_of d = only_if (has_only (codes "do" ∷ codes "id" ∷ codes "parent" ∷ codes "before" ∷ []) d) do
+  id ← id_at (codes "id") d
+  parent ← id_at (codes "parent") d
+  before ← before_at d
+  Some (Move id parent before)
 
--- This project's own choice: `style` has an id and the members of the style that are named.
+-- `style` has an id and the members of the style that are named
 unfoldable pub set_style_of : Data → Option Edit
-set_style_of d = do
-  ms ← as_object d
-  id ← (get (codes "id") d >>= id_of)
+set_style_of d = only_if (has_only (codes "do" ∷ codes "id" ∷ codes "style" ∷ []) d) do
+  id ← id_at (codes "id") d
   change ← (get (codes "style") d >>= change_of)
-  only_if (has_only (codes "do" ∷ codes "id" ∷ codes "style" ∷ []) ms) (Some (SetStyle id change))
+  Some (SetStyle id change)
 
--- This project's own choice: `rect` has an id and a rectangle.
+-- `rect` has an id and a rectangle
 unfoldable pub set_rect_of : Data → Option Edit
-set_rect_of d = do
-  ms ← as_object d
-  id ← (get (codes "id") d >>= id_of)
-  rect ← (get (codes "rect") d >>= rect_of)
-  only_if (has_only (codes "do" ∷ codes "id" ∷ codes "rect" ∷ []) ms) (Some (SetRect id rect))
+set_rect_of d = only_if (has_only (codes "do" ∷ codes "id" ∷ codes "rect" ∷ []) d) do
+  id ← id_at (codes "id") d
+  rect ← rect_at d
+  Some (SetRect id rect)
 
--- This project's own choice: a box is moved by at most two million pixels each way.
+-- how far a box may be shifted each way
 abbrev pub distance : Data → Option ℤ
-distance d = from_to (negsuc 1999999) (pos 2000000) d
+distance d = from_to (pos 0 -ℤ MAX_DISTANCE) MAX_DISTANCE d
 
--- This project's own choice: `shift` has an id and two distances, right and down.
+-- `shift` has an id and two distances, right and down
 unfoldable pub shift_of : Data → Option Edit
-shift_of d = do
-  ms ← as_object d
-  id ← (get (codes "id") d >>= id_of)
+shift_of d = only_if (has_only (codes "do" ∷ codes "id" ∷ codes "dx" ∷ codes "dy" ∷ []) d) do
+  id ← id_at (codes "id") d
   dx ← (get (codes "dx") d >>= distance)
   dy ← (get (codes "dy") d >>= distance)
-  only_if (has_only (codes "do" ∷ codes "id" ∷ codes "dx" ∷ codes "dy" ∷ []) ms) (Some (Shift id dx dy))
+  Some (Shift id dx dy)
 
--- This project's own choice: the words of edits
+-- the words of edits
 abbrev pub edit_named : List ℕ → Data → Option Edit
 edit_named w d =
     if bytes_eq w (codes "insert") then insert_of d else
@@ -76,3 +76,13 @@ edit_named w d =
     if bytes_eq w (codes "style") then set_style_of d else
     if bytes_eq w (codes "rect") then set_rect_of d else
     if bytes_eq w (codes "shift") then shift_of d else None
+
+-- The rectangle, the widths and the distances that an edit names are within the limits.
+abbrev pub FitsEdit : Edit → Type 0
+FitsEdit (Insert id parent before rect style) = FitsRect rect × Fits style
+FitsEdit (Remove id) = Unit {0}
+FitsEdit (Move id parent before) = Unit {0}
+FitsEdit (SetStyle id change) = Fits (changed plain change)
+FitsEdit (SetRect id rect) = FitsRect rect
+FitsEdit (Shift id dx dy) =
+    IsTrue (is_between (pos 0 -ℤ MAX_DISTANCE) dx MAX_DISTANCE) × IsTrue (is_between (pos 0 -ℤ MAX_DISTANCE) dy MAX_DISTANCE)

@@ -9,3 +9,4 @@ pub mod Reading
 pub mod Rects
 pub mod Scripts
 pub mod Styles
+pub mod Internal

@@ -1,13 +1,13 @@
--- Styles as a script writes them.
+-- Styles as a script writes them. The members that a script may name so far are this project's own choice.
 use Rattle.std.specs.Prelude.{ℕ, ℤ, pos, negsuc, Bool, false, if◌then◌else◌, List, [], ◌∷◌, codes, bytes_eq, Option, Some, None}
 use Rattle.serde_json.specs.Data.{Data}
-use Rattle.serde_json.specs.Find.{get, as_str, as_object}
+use Rattle.serde_json.specs.Find.{get, as_str}
 use Rattle.rd_geom.specs.declared.color.Color.{Color}
 use Rattle.rd_style.specs.declared.styles.Style.{Style}
 use Rattle.rd_style.specs.declared.kinds.Position.{Position}
 use Rattle.rd_style.specs.declared.kinds.Position.TheVariants as position
 use Rattle.rd_style.specs.declared.styles.StyleChange.{StyleChange}
-use Rattle.rd_style.specs.Changes.{plain, changed}
+use Rattle.rd_style.specs.Changes.{plain, changed, nothing_named}
 use Rattle.rd_scene.specs.Members.{◌>>=◌, only_if, has_only, if_given, from_to}
 use Rattle.rd_scene.specs.Colors.{color_of}
 
@@ -30,32 +30,16 @@ z_of d = if is_auto (as_str d) then Some None else (from_to (negsuc 2147483647) 
 
 -- a change that names these members
 abbrev pub naming : Option Position → Option (Option ℤ) → Option Color → StyleChange
-naming p z background = record {
-  position = p;
-  z = z;
-  opacity = None;
-  overflow = None;
-  display = None;
-  float = None;
-  background = background;
-  border_width = None;
-  border_color = None;
-  content = None;
-  outline_width = None;
-  outline_color = None;
-  visibility = None;
-  pointer = None;
-}
+naming p z background = record nothing_named { position = p; z = z; background = background }
 
--- This project's own choice: a style object names members, of which each may be absent.
+-- a style object names members, of which each may be absent
 unfoldable pub change_of : Data → Option StyleChange
-change_of d = do
-  ms ← as_object d
+change_of d = only_if (has_only (codes "position" ∷ codes "z-index" ∷ codes "background" ∷ []) d) do
   p ← if_given position_of (get (codes "position") d)
   z ← if_given z_of (get (codes "z-index") d)
   background ← if_given color_of (get (codes "background") d)
-  only_if (has_only (codes "position" ∷ codes "z-index" ∷ codes "background" ∷ []) ms) (Some (naming p z background))
+  Some (naming p z background)
 
--- This project's own choice: the style of a box has the default where a member is absent.
+-- the style of a box has the default where a member is absent
 abbrev pub style_of : Data → Option Style
 style_of d = change_of d >>= λ c. Some (changed plain c)

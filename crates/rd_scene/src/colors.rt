@@ -7,13 +7,6 @@ ghost use Rattle.rd_scene.specs.Colors as spec;
 use rd_geom::Color;
 use serde_json::Value;
 
-const TRANSPARENT: Color = Color {
-    r: 0,
-    g: 0,
-    b: 0,
-    a: 0,
-};
-
 fn hex_digit(c: u8) -> Option<u8>
     ensures { result ≡ spec.hex_digit c }
 {
@@ -64,7 +57,7 @@ pub(crate) fn color_of(v: &Value) -> Option<Color>
 {
     let word = v.as_str()?;
     if word == "transparent" {
-        Some(TRANSPARENT)
+        Some(Color::TRANSPARENT)
     } else {
         hashed(word.as_bytes())
     }

@@ -1,9 +1,10 @@
 //! Commands as a script writes them.
 
-ghost use Rattle.std.specs.Prelude.{◌≡◌, length, IfOk, vec_len};
+ghost use Rattle.std.specs.Prelude.{◌≡◌, length, All, IfOk, IfSome, vec_len};
 ghost use Rattle.serde_json.specs.View.{view, items_view};
 ghost use Rattle.rd_scene.specs.Commands as spec;
-ghost use Rattle.rd_scene.specs.Members.{each};
+ghost use Rattle.rd_scene.specs.Commands.{FitsCommand};
+ghost use Rattle.rd_scene.specs.Members.{read_each};
 ghost use Rattle.rd_scene.specs.Reading.{Gives};
 
 use crate::edits::edit_named;
@@ -14,7 +15,8 @@ use serde_json::Value;
 use std::alloc::Global;
 
 fn command_named(word: &str) -> Option<Command>
-    ensures { result ≡ spec.command_named word.now }
+    ensures value { result ≡ spec.command_named word.now }
+    ensures fits { IfSome result (λ c. FitsCommand c) }
 {
     match word {
         "paint" => Some(Command::Paint),
@@ -27,8 +29,7 @@ fn command_named(word: &str) -> Option<Command>
 fn alone(v: &Value, command: Command) -> Option<Command>
     ensures { result ≡ spec.alone command (view v.now) }
 {
-    let members = v.as_object()?;
-    if has_only(members, &["do"]) {
+    if has_only(v, &["do"]) {
         Some(command)
     } else {
         None
@@ -37,7 +38,8 @@ fn alone(v: &Value, command: Command) -> Option<Command>
 
 #[tactic(auto, unfolding(crate::specs::Commands::command_of))]
 fn command_of(alloc: Global, v: &Value) -> Result<Command, SceneFault>
-    ensures { Gives (λ c. c) result (spec.command_of (view v.now)) }
+    ensures value { Gives (λ c. c) result (spec.command_of (view v.now)) }
+    ensures fits { IfOk result (λ c. FitsCommand c) }
 {
     let Some(word) = member(v, "do") else {
         return Err(SceneFault::Form);
@@ -51,14 +53,23 @@ fn command_of(alloc: Global, v: &Value) -> Result<Command, SceneFault>
     }
 }
 
-/// The commands of an array.
-pub(crate) fn commands_of(alloc: Global, list: &[Value]) -> Result<Vec<Command>, SceneFault>
-    ensures value { Gives (λ v. v.items) result (each spec.command_of (items_view list.now)) }
-    ensures len { IfOk result (λ v. vec_len v ≡ length list.now) }
+/// The command that a value is, which is gone then.
+fn command_from(alloc: Global, v: Value) -> Result<Command, SceneFault>
+    ensures value { Gives (λ c. c) result (spec.command_of (view v)) }
+    ensures fits { IfOk result (λ c. FitsCommand c) }
 {
-    let mut commands = Vec::new(alloc);
+    command_of(alloc, &v)
+}
+
+/// The commands of an array. Each value goes as it is read.
+pub(crate) fn commands_of(alloc: Global, list: Vec<Value>) -> Result<Vec<Command>, SceneFault>
+    ensures value { Gives (λ v. v.items) result (read_each spec.command_of (items_view list.items)) }
+    ensures len { IfOk result (λ v. vec_len v ≡ length list.items) }
+    ensures fits { IfOk result (λ v. All FitsCommand v.items) }
+{
+    let mut commands = Vec::with_capacity(alloc, list.len())?;
     for v in list {
-        let command = command_of(alloc, v)?;
+        let command = command_from(alloc, v)?;
         commands.push(command)?;
     }
     Ok(commands)

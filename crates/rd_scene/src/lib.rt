@@ -20,7 +20,7 @@ pub use fault::SceneFault;
 pub use planting::plant;
 pub use rd_edits::Edit;
 pub use reader::read;
-pub use script::{Command, SceneBox, Script};
+pub use script::{Command, MAX_COMMANDS, MAX_DISTANCE, SceneBox, Script};
 
 #[cfg(test)]
 mod tests;

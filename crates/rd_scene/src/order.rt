@@ -9,7 +9,7 @@ ghost use Rattle.rd_scene.specs.declared.script.SceneBox.{SceneBox as Box};
 use crate::fault::SceneFault;
 use crate::script::SceneBox;
 use indexmap::IndexMap;
-use rd_tree::Id;
+use rd_tree::{Id, MAX_DEPTH};
 use std::alloc::Global;
 
 /// The depth of a box with this parent after boxes of which `depths` has the depths by id, where it may stand there.
@@ -22,12 +22,16 @@ fn depth_after(depths: &IndexMap<&str, u32>, is_first: bool, parent: &Option<Id>
         None => { if is_first { Some(1) } else { None } }
         Some(parent) => {
             let above = *depths.get(parent.text())?;
-            if above < 256 { Some(above + 1) } else { None }
+            if above < MAX_DEPTH {
+                Some(above + 1)
+            } else {
+                None
+            }
         }
     }
 }
 
-/// Does each box have an id of its own, and stand after its parent, at most 256 deep? Each box takes constant time.
+/// Does each box have an id of its own, and stand after its parent, not too deep? Each box takes constant time.
 pub(crate) fn are_in_order(alloc: Global, boxes: &[SceneBox]) -> Result<bool, SceneFault>
     ensures value { IfOk result (λ b. b ≡ spec.are_in_order [] boxes.now) }
     ensures memory { IfErr result (λ e. e ≡ SceneFault.NoMemory) }

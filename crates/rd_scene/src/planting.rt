@@ -1,15 +1,18 @@
 //! The tree of a script.
 
-ghost use Rattle.std.specs.Prelude.{◌≡◌, ◌+◌, ◌<◌, true, [], ◌∷◌, length, All, IfOk, OnOk, None, IsSome};
-ghost use Rattle.rd_tree.specs.Document.{HasFreeSlot, named, taken};
+ghost use Rattle.std.specs.Prelude.{◌≡◌, ◌+◌, ◌<◌, ◌≤◌, true, [], ◌∷◌, length, replicate, All, IfOk, OnOk, Some, None, IsSome};
+ghost use Rattle.rd_keys.specs.Keys.{same_key};
+ghost use Rattle.rd_tree.specs.Document.{BoxKey as Key, HasFreeSlot, named, taken};
+ghost use Rattle.rd_tree.specs.Forest.{depth};
 ghost use Rattle.rd_scene.specs.Order.{are_in_order};
 ghost use Rattle.rd_scene.specs.Planting as spec;
 ghost use Rattle.rd_scene.specs.Planting.{IsAlone, Adds, AddsAll, Plants};
 ghost use Rattle.rd_scene.specs.Scripts.{FitsBox};
+ghost use Rattle.rd_scene.specs.Internal.WellFormed.{IsWellFormed};
 
 use crate::script::{SceneBox, Script};
 use rd_geom::NoMemory;
-use rd_tree::{BoxKey, Id, IdFault, Tree};
+use rd_tree::{BoxKey, Id, IdFault, MAX_BOXES, MAX_DEPTH, Tree};
 use std::alloc::Global;
 use std::sync::ledger::Ledger;
 
@@ -32,9 +35,10 @@ fn parent_key<B: Ledger>(tree: &Tree<B>, b: &SceneBox) -> Option<BoxKey>
 }
 
 /// A box more, as the last child of its parent.
-#[tactic(auto, using(crate::proofs::Names::parent_there))]
+#[tactic(auto, using(crate::proofs::Plants::parent_there))]
 fn add<B: Ledger>(tree: &mut Tree<B>, b: &SceneBox) -> Result<(), NoMemory>
     requires parent { IsSome (spec.parent_in tree.old.boxes b.now) }
+    requires depth { (p : Key) → spec.parent_in tree.old.boxes b.now ≡ Some p → depth same_key p tree.old.boxes + 1 ≤ MAX_DEPTH }
     requires new_id { named b.now.id tree.old.boxes ≡ None }
     requires room { HasFreeSlot tree.old }
     requires fits { FitsBox b.now }
@@ -57,7 +61,7 @@ fn add_all<B: Ledger>(
     requires alone { IsAlone first.now tree.old }
     requires taken { taken tree.old ≡ 1 }
     requires order { are_in_order (first.now ∷ []) rest.now ≡ true }
-    requires most { length rest.now < 20000 }
+    requires most { length rest.now < MAX_BOXES }
     requires fits { All FitsBox rest.now }
     ensures { OnOk result (AddsAll rest.now tree.old tree.new) }
 {
@@ -67,9 +71,7 @@ fn add_all<B: Ledger>(
     Ok(())
 }
 
-/// The tree of the script's boxes: the first is the root, and each other the last child of its parent at that point. Every
-/// box is touched. The script stays.
-pub fn plant<B: Ledger>(alloc: Global, script: &Script) -> Result<Tree<B>, NoMemory>
+fn planted<B: Ledger>(alloc: Global, script: &Script) -> Result<Tree<B>, NoMemory>
     ensures { IfOk result (λ t. Plants script.now t) }
 {
     let [first, rest @ ..] = script.boxes.as_slice() else {
@@ -78,5 +80,16 @@ pub fn plant<B: Ledger>(alloc: Global, script: &Script) -> Result<Tree<B>, NoMem
     let id = copy_of(alloc, &first.id)?;
     let mut tree = Tree::new(alloc, script.canvas, id, first.rect, first.style)?;
     add_all(&mut tree, first, rest)?;
+    Ok(tree)
+}
+
+/// The tree of the script's boxes: the first is the root, and each other the last child of its parent at that point. Every
+/// box is touched, and every slot that was made holds one, at generation 0. The script stays.
+pub fn plant<B: Ledger>(alloc: Global, script: &Script) -> Result<Tree<B>, NoMemory>
+    ensures planted { IfOk result (λ t. Plants script.now t) }
+    ensures slots { IfOk result (λ t. t.slots
+        ≡ replicate (length script.now.boxes) (record { generation = 0; taken = true })) }
+{
+    let tree = planted(alloc, script)?;
     Ok(tree)
 }

@@ -10,10 +10,11 @@ ghost use Rattle.rd_scene.specs.Scripts.{IsScript};
 use crate::boxes::boxes_of;
 use crate::commands::commands_of;
 use crate::fault::SceneFault;
-use crate::members::{elements, from_to, has_only, member};
+use crate::members::{elements, from_to, has_only, member, take_elements};
 use crate::order::are_in_order;
 use crate::rects::canvas_of;
-use crate::script::Script;
+use crate::script::{MAX_COMMANDS, Script};
+use rd_tree::MAX_BOXES;
 use serde_json::Value;
 use std::alloc::Global;
 
@@ -23,33 +24,31 @@ fn version_of(v: &Value) -> Option<i32>
     from_to(1, 1, v)
 }
 
+/// The script that a value is. The value goes as it is read.
 #[tactic(auto, unfolding(crate::specs::Scripts::script_of))]
-fn script_of(alloc: Global, v: &Value) -> Result<Script, SceneFault>
-    ensures { Gives (λ s. s) result (spec.script_of (view v.now)) }
+fn script_of(alloc: Global, v: Value) -> Result<Script, SceneFault>
+    ensures { Gives (λ s. s) result (spec.script_of (view v)) }
 {
-    let Some(members) = v.as_object() else {
+    if !has_only(&v, &["version", "canvas", "boxes", "script"]) {
+        return Err(SceneFault::Form);
+    }
+    let Some(_) = member(&v, "version").and_then(version_of) else {
         return Err(SceneFault::Form);
     };
-    let Some(_) = member(v, "version").and_then(version_of) else {
+    let Some(canvas) = member(&v, "canvas").and_then(canvas_of) else {
         return Err(SceneFault::Form);
     };
-    let Some(canvas) = member(v, "canvas").and_then(canvas_of) else {
-        return Err(SceneFault::Form);
-    };
-    let Some(boxes) = elements(v, "boxes", 1, 20_000) else {
+    let Some(boxes) = elements(&v, "boxes", 1, MAX_BOXES as usize) else {
         return Err(SceneFault::Form);
     };
     let boxes = boxes_of(alloc, boxes)?;
-    let Some(commands) = elements(v, "script", 0, 1_000_000) else {
-        return Err(SceneFault::Form);
-    };
-    let commands = commands_of(alloc, commands)?;
-    if !has_only(members, &["version", "canvas", "boxes", "script"]) {
-        return Err(SceneFault::Form);
-    }
     if !are_in_order(alloc, &boxes)? {
         return Err(SceneFault::Form);
     }
+    let Some(commands) = take_elements(v, "script", 0, MAX_COMMANDS) else {
+        return Err(SceneFault::Form);
+    };
+    let commands = commands_of(alloc, commands)?;
     Ok(Script {
         canvas,
         boxes,
@@ -87,5 +86,5 @@ pub fn read(alloc: Global, bytes: &[u8]) -> Result<Script, SceneFault>
     ensures form { IsErrOf result SceneFault.Form → IsOffForm bytes.now }
 {
     let value = value_of(alloc, bytes)?;
-    script_of(alloc, &value)
+    script_of(alloc, value)
 }

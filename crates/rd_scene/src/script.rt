@@ -6,6 +6,12 @@ use rd_style::Style;
 use rd_tree::Id;
 use std::marker::Model;
 
+/// The most commands of a script.
+pub const MAX_COMMANDS: usize = 1_000_000;
+
+/// How far a command may shift a box each way, in canvas pixels.
+pub const MAX_DISTANCE: i32 = 2_000_000;
+
 /// A box of a scene: its id, its parent's id (none for the root), its border box in canvas pixels and its style.
 #[derive(Drop)]
 pub struct SceneBox {
@@ -28,7 +34,7 @@ pub enum Command {
 
 /// A scene and what is done to it. Contracts see a script that keeps the rules of the format: a canvas of 1 to 4,096
 /// pixels each way; 1 to 20,000 boxes with ids of their own, each after its parent and at most 256 deep, within the limits
-/// of rectangles and widths; at most 1,000,000 commands.
+/// of rectangles and widths; at most [`MAX_COMMANDS`] commands, whose rectangles, widths and distances are within the limits.
 #[derive(Drop)]
 pub struct Script {
     pub canvas: Size,

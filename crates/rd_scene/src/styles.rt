@@ -84,36 +84,24 @@ fn naming(
     StyleChange {
         position,
         z,
-        opacity: None,
-        overflow: None,
-        display: None,
-        float: None,
         background,
-        border_width: None,
-        border_color: None,
-        content: None,
-        outline_width: None,
-        outline_color: None,
-        visibility: None,
-        pointer: None,
+        ..StyleChange::none()
     }
 }
 
 /// The members of a style object, of which each may be absent.
-#[tactic(auto, unfolding(crate::specs::Styles::change_of))]
+#[tactic(auto, unfolding(crate::specs::Styles::change_of), using(crate::proofs::Limits::naming_fits))]
 pub(crate) fn change_of(v: &Value) -> Option<StyleChange>
     ensures value { result ≡ spec.change_of (view v.now) }
     ensures fits { IfSome result (λ c. Fits (changed plain c)) }
 {
-    let members = v.as_object()?;
+    if !has_only(v, &["position", "z-index", "background"]) {
+        return None;
+    }
     let position = position_if(member(v, "position"))?;
     let z = z_if(member(v, "z-index"))?;
     let background = color_if(member(v, "background"))?;
-    if has_only(members, &["position", "z-index", "background"]) {
-        Some(naming(position, z, background))
-    } else {
-        None
-    }
+    Some(naming(position, z, background))
 }
 
 fn style_of(v: &Value) -> Option<Style>
@@ -125,6 +113,7 @@ fn style_of(v: &Value) -> Option<Style>
 }
 
 /// The style that a box's member gives; without it, the default style.
+#[tactic(auto, using(crate::proofs::Limits::plain_fits))]
 pub(crate) fn style_or_plain(v: Option<&Value>) -> Option<Style>
     ensures value { result ≡ optional plain spec.style_of (option_map (λ v. view v.now) v.entry) }
     ensures fits { IfSome result (λ s. Fits s) }

@@ -1,0 +1,127 @@
+//! The answers to the commands of a script.
+
+ghost use Rattle.std.specs.Prelude.{◌≡◌, ◌⊎◌, ℕ, ◌+◌, ◌<◌, ◌≤◌, ◌^◌, ◌++◌, List, [], IsErrOf, OnErr, OnOk, string_bytes, length};
+ghost use Rattle.std.specs.Io.KnownBytes.{Appends};
+ghost use Rattle.rd_io.specs.Causes.{GainsPart};
+ghost use Rattle.rd_scene.specs.declared.script.TheConstants.{MAX_COMMANDS};
+ghost use Rattle.rd_run.specs.Endings.{stream, HasFailed};
+ghost use Rattle.rd_run.specs.Internal.Answered.{AnswersAll, AnswersPart, AnswersAs, Passes};
+ghost use Rattle.rd_run.specs.Internal.Display.{Shows};
+ghost use Rattle.rd_run.specs.Machine.{State, Step};
+
+use crate::display::Display;
+use crate::status::Status;
+use rd_geom::Steps;
+use rd_io::{Sink, write_all};
+use rd_scene::{Command, Script, plant};
+use rd_tree::Tree;
+use std::alloc::Global;
+use std::sync::ledger::Ledger;
+
+// Answers are gathered until they have so many bytes.
+const PIECE: usize = 65_536;
+
+/// Writes what was gathered.
+fn send<O: Sink>(out: &mut O, gathered: &mut String) -> Result<(), Status>
+    ensures all { OnOk result (Appends (O.written out.old) (O.written out.new) (string_bytes gathered.old)) }
+    ensures faultless { OnOk result (O.faults out.new ≡ O.faults out.old) }
+    ensures empty { OnOk result (string_bytes gathered.new ≡ []) }
+    ensures only { OnErr result (IsErrOf result Status.WriteFault) }
+    ensures part { OnErr result (GainsPart (O.written out.old) (O.written out.new) (string_bytes gathered.old)) }
+    ensures fault { OnErr result (HasFailed
+        (stream (O.written out.old) (O.written out.new) (O.faults out.old) (O.faults out.new))) }
+{
+    match write_all(out, gathered.as_bytes()) {
+        Ok(()) => {
+            gathered.clear();
+            Ok(())
+        }
+        Err(_) => Err(Status::WriteFault),
+    }
+}
+
+/// Answers one command, and writes what was gathered once it is much.
+fn answer_one<O: Sink, B: Ledger>(
+    alloc: Global,
+    tree: &mut Tree<B>,
+    display: &mut Display,
+    command: &Command,
+    gathered: &mut String,
+    out: &mut O,
+    looks: &mut Steps<B>,
+) -> Result<(), Status>
+    requires few { display.old.paints < 2 ^ 40 }
+    ensures all { OnOk result ((s : State) → Shows tree.old display.old s → (t : State) × (text : List ℕ)
+        × Step command.now s text t × Shows tree.new display.new t
+        × Passes (stream (O.written out.old) (O.written out.new) (O.faults out.old) (O.faults out.new))
+        (string_bytes gathered.old) text (string_bytes gathered.new)) }
+    ensures faultless { OnOk result (O.faults out.new ≡ O.faults out.old) }
+    ensures part { IsErrOf result Status.WriteFault → (s : State) → Shows tree.old display.old s
+        → (t : State) × (text : List ℕ) × Step command.now s text t × Shows tree.new display.new t
+        × GainsPart (O.written out.old) (O.written out.new) (string_bytes gathered.old ++ text) }
+    ensures fault { IsErrOf result Status.WriteFault → HasFailed
+        (stream (O.written out.old) (O.written out.new) (O.faults out.old) (O.faults out.new)) }
+    ensures none { IsErrOf result Status.NoMemory → out.new ≡ out.old }
+    ensures only { OnErr result (IsErrOf result Status.WriteFault ⊎ IsErrOf result Status.NoMemory) }
+    ensures count { display.new.paints ≤ display.old.paints + 1 }
+{
+    match display.answer(alloc, tree, command, gathered, looks) {
+        Ok(()) => {}
+        Err(_) => return Err(Status::NoMemory),
+    }
+    if gathered.len() < PIECE {
+        Ok(())
+    } else {
+        send(out, gathered)
+    }
+}
+
+/// Answers the commands in turn.
+fn answer_all<O: Sink, B: Ledger>(
+    alloc: Global,
+    tree: &mut Tree<B>,
+    display: &mut Display,
+    commands: &[Command],
+    out: &mut O,
+    looks: &mut Steps<B>,
+) -> Result<(), Status>
+    requires none { display.old.paints ≡ 0 }
+    requires few { length commands.now ≤ MAX_COMMANDS }
+    ensures all { OnOk result ((s : State) → Shows tree.old display.old s → AnswersAll s commands.now
+        (stream (O.written out.old) (O.written out.new) (O.faults out.old) (O.faults out.new))) }
+    ensures part { OnErr result ((s : State) → Shows tree.old display.old s → AnswersPart s commands.now
+        (stream (O.written out.old) (O.written out.new) (O.faults out.old) (O.faults out.new))) }
+    ensures faultless { OnOk result (O.faults out.new ≡ O.faults out.old) }
+    ensures still { IsErrOf result Status.NoMemory → O.faults out.new ≡ O.faults out.old }
+    ensures fault { IsErrOf result Status.WriteFault → HasFailed
+        (stream (O.written out.old) (O.written out.new) (O.faults out.old) (O.faults out.new)) }
+    ensures only { OnErr result (IsErrOf result Status.WriteFault ⊎ IsErrOf result Status.NoMemory) }
+{
+    let mut gathered = String::new(alloc);
+    for command in commands {
+        answer_one(alloc, tree, display, command, &mut gathered, out, looks)?;
+    }
+    send(out, &mut gathered)
+}
+
+/// Plants the script's tree and answers its commands.
+pub(crate) fn answer<O: Sink, B: Ledger>(
+    alloc: Global,
+    script: &Script,
+    out: &mut O,
+    looks: &mut Steps<B>,
+) -> Status
+    ensures { AnswersAs ((out.new ≡ out.old) × (looks.new ≡ looks.old)) script.now
+        (stream (O.written out.old) (O.written out.new) (O.faults out.old) (O.faults out.new)) result }
+{
+    let commands = &script.commands;
+    let mut tree: Tree<B> = match plant(alloc, script) {
+        Ok(tree) => tree,
+        Err(_) => return Status::NoMemory,
+    };
+    let mut display = Display::new(alloc);
+    match answer_all(alloc, &mut tree, &mut display, commands, out, looks) {
+        Ok(()) => Status::Done,
+        Err(status) => status,
+    }
+}
