@@ -1,0 +1,6 @@
+pub mod Naming
+pub mod Turns
+pub mod Depths
+pub mod Growth
+pub mod Fitting
+pub mod FittingEdits

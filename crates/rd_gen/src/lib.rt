@@ -1,0 +1,18 @@
+//! Scripts drawn from a seed, to try the engine with.
+//! A [`Draw`] draws numbers, and [`script`] makes boxes and edits of them.
+//! The same seed gives the same script.
+#![tactic(auto)]
+
+mod boxes;
+mod draw;
+mod edits;
+mod generated;
+mod names;
+mod styles;
+mod values;
+
+pub use draw::Draw;
+pub use generated::{MAX_EDITS, script};
+
+#[cfg(test)]
+mod tests;
