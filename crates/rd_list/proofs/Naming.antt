@@ -131,7 +131,7 @@ display_editing = λ fresh next kept touched more once same ready.
     let r : IsReady entry_names leaves_meet both reach (bare entry_names (λ m. m.leaf) kept.entries) next =
     edited entry_names entry_names_are leaves_meet reach fresh next (bare entry_names (λ m. m.leaf) kept.entries) (λ l. not (touched l.owner)) (λ l. not (more l.owner)) (stands_to fresh fresh once)
     (subst (λ (p : Leaf → Bool). only p fresh ≡ only p next) (sym e) same) ready.ready in
-    record { nodes_are = ready.nodes_are; in_order = ready.in_order; ready = subst (λ (p : Leaf → Bool). IsReady entry_names leaves_meet p reach (bare entry_names (λ m. m.leaf) kept.entries) next) e r }
+    record { nodes_are = ready.nodes_are; names_once = ready.names_once; in_order = ready.in_order; ready = subst (λ (p : Leaf → Bool). IsReady entry_names leaves_meet p reach (bare entry_names (λ m. m.leaf) kept.entries) next) e r }
 
 pub covering : Covering
 covering = λ fresh stays in_area holds marks some within. record {

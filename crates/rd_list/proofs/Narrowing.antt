@@ -108,10 +108,10 @@ module _ {E G L : Type 0} (n : Names E G L) (names : AreNames n) where
             (λ a h k. once_apart (names_in n inner) (names_in n xs) o.1 a (names_only p inner a h) (names_only p xs a k)),
       )
 
-  key_head : (xs : Entries G L) (a : E) → Has (keys n xs) a → (h : L ⊎ G) × Has (heads xs) h × (name n h ≡ a)
+  pub key_head : (xs : Entries G L) (a : E) → Has (keys n xs) a → (h : L ⊎ G) × Has (heads xs) h × (name n h ≡ a)
   key_head xs a k = map_has (name n) (heads xs) a (rw (keys-heads n xs) at k)
 
-  head_key : (xs : Entries G L) (h : L ⊎ G) → Has (heads xs) h → Has (keys n xs) (name n h)
+  pub head_key : (xs : Entries G L) (h : L ⊎ G) → Has (heads xs) h → Has (keys n xs) (name n h)
   head_key xs h k = rw (keys-heads n xs) (has_map (name n) (heads xs) h k)
 
   -- what stands still stands in order where both are left

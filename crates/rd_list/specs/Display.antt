@@ -43,6 +43,12 @@ Covering = (fresh : Entries Wrapper Leaf) (stays in_area : Leaf → Bool) (holds
     → ((l : Leaf) → Contains (flat fresh) l → stays l ≡ false → (x y : ℤ) → IsTrue (holds_pixel l.visible x y) → IsTrue (holds x y))
     → IsCovered entry_names leaves_meet stays in_area fresh
 
+-- where nothing is kept and each leaf goes, the list is ready for its first paint.
+abbrev pub DisplayStarting : Type 0
+DisplayStarting = (fresh : Entries Wrapper Leaf) (stays : Leaf → Bool)
+    → ((l : Leaf) → Contains (flat fresh) l → stays l ≡ false)
+    → KeptReady entry_names made_leaf leaves_meet stays (record { graph = []; entries = nil }) fresh
+
 -- where nothing was kept, a new list with a chain at each level is what a merge gives.
 abbrev pub DisplayBeginning : Type 0
 DisplayBeginning = (new : Entries Wrapper Made) (stays : Leaf → Bool)

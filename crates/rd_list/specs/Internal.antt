@@ -6,3 +6,6 @@ pub mod Listed
 pub mod KeptCode
 pub mod KeptFalls
 pub mod NewFalls
+pub mod Piled
+pub mod NestedCode
+pub mod PileFalls

@@ -14,6 +14,8 @@ mod path;
 mod steps;
 
 pub use fresh::fresh_list;
+pub use parts::leaf_of;
+pub use path::BoxData;
 
 #[cfg(test)]
 mod tests;

@@ -1,7 +1,7 @@
 -- Chains that are added to a graph, and labels of its nodes by which they are sorted again.
-use Rattle.std.specs.Prelude.{◌≡◌, ℕ, zero, suc, ◌+◌, ◌<◌, ◌≤◌, Bool, if◌then◌else◌, ◌⊎◌, Option, Some, None, List, [], ◌∷◌, ◌++◌, map, take, drop, length, slice_index_or, Contains}
+use Rattle.std.specs.Prelude.{◌≡◌, ℕ, zero, suc, ◌<◌, ◌≤◌, Bool, if◌then◌else◌, ◌⊎◌, Option, Some, None, List, [], ◌∷◌, ◌++◌, map, take, drop, length, slice_index_or, Contains}
 use Rattle.rd_graph.specs.Graphs.{Graph, nodes, Precedes, Reaches}
-use Rattle.rd_graph.specs.Names.{is_in}
+use Rattle.rd_graph.specs.Names.{is_in, place_of}
 
 module _ {E : Type 0} where
   -- Labels of nodes: the least place in the chain of what a node is or reaches, or the length of the chain.
@@ -16,10 +16,6 @@ module _ {E : Type 0} where
     pub low : (k : E) → Contains before k → new k ≤ l
     pub only : (k : E) → (new k ≡ old k) ⊎ (Contains before k × (new k ≡ l))
 
-abbrev pub next_place : Option ℕ → Option ℕ
-next_place None = None
-next_place (Some n) = Some (n + 1)
-
 -- what comes right before a place of a list
 abbrev pub before_place : {E : Type 0} → List E → Option ℕ → List E
 before_place chain None = []
@@ -27,13 +23,8 @@ before_place chain (Some zero) = []
 before_place chain (Some (suc i)) = take 1 (drop i chain)
 
 module _ {E : Type 0} (same : E → E → Bool) where
-  -- the first place of an element
-  abbrev pub place_of : List E → E → Option ℕ
-  place_of [] k = None
-  place_of (x ∷ xs) k = if same x k then Some 0 else next_place (place_of xs k)
-
   abbrev pub just_before : List E → E → List E
-  just_before chain k = before_place chain (place_of chain k)
+  just_before chain k = before_place chain (place_of same chain k)
 
   -- a graph with the edges of a chain
   abbrev pub old_part : List E → Graph E → Graph E

@@ -1,0 +1,43 @@
+//! A small graph with each of its calls, worked out by hand.
+use crate::{OrderGraph, Places};
+use rd_keys::{Arena, BoxKey, BoxMark, EntryKey, Part};
+use std::alloc::{AllocError, Global};
+use std::test::Fail;
+
+// The line back, content is joined with the chain border, content, outline: content is third and outline last, since back and
+// border come before content. Without content the outline still comes after both.
+fn joined(alloc: Global, owner: BoxKey) -> Result<bool, AllocError> {
+    let back = EntryKey::Leaf(owner, Part::Back);
+    let border = EntryKey::Leaf(owner, Part::Border);
+    let content = EntryKey::Leaf(owner, Part::Content);
+    let outline = EntryKey::Leaf(owner, Part::Outline);
+    let line = OrderGraph::linear(alloc, &[back, content])?;
+    let graph = line.add_chain(alloc, &[border, content, outline])?;
+    let order = graph.order(alloc)?;
+    let whole = order.len() == 4 && order[2] == content && order[3] == outline;
+    let left = graph.drop_nodes(alloc, &[content])?.order(alloc)?;
+    Ok(whole && left.len() == 3 && left[2] == outline)
+}
+
+// Of the names outline, back: back has the place 1, and border has none.
+fn placed(alloc: Global, owner: BoxKey) -> Result<bool, AllocError> {
+    let mut names = Vec::with_capacity(alloc, 2)?;
+    names.push(EntryKey::Leaf(owner, Part::Outline))?;
+    names.push(EntryKey::Leaf(owner, Part::Back))?;
+    let places = Places::new(alloc, names)?;
+    let second = places.find(EntryKey::Leaf(owner, Part::Back)) == Some(1);
+    Ok(second && places.find(EntryKey::Leaf(owner, Part::Border)).is_none())
+}
+
+#[test]
+fn a_chain_joins_a_line(rt: HostRuntime) -> Result<(), Fail> {
+    let mut boxes = Arena::<u8, BoxMark>::starting_at(rt.alloc(), 1, 0);
+    match boxes.insert(0) {
+        Ok(owner) => {
+            assert!(rt; joined(rt.alloc(), owner)?);
+            assert!(rt; placed(rt.alloc(), owner)?);
+        }
+        Err(_) => assert!(rt; false),
+    }
+    Ok(())
+}
