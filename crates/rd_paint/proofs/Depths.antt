@@ -1,0 +1,135 @@
+-- Entries of a list, and the rows that are enough for them.
+use Rattle.std.proofs.Common.{◌≡◌, List, [], ◌∷◌, length, ℕ, ◌<◌, ◌≤◌, ◌+◌, ◌*◌, ◌-◌, suc, zero, arith, get_or, drop, refl, ap, ◌∙◌, inl, inr, ℤ}
+use Rattle.std.proofs.Math.Nat.{mul-le-mul_left, mul-le-mul_right}
+use Rattle.std.proofs.lemmas.Bool.{cases_lt, lt-ltb, le-ltb}
+use Rattle.rd_geom.specs.Colors.{Premultiplied, laid_over, scaled, clear, times}
+use Rattle.rd_geom.proofs.Products.{times_none, times_by_whole}
+use Rattle.rd_item.specs.declared.leaf.Leaf as item
+use Rattle.rd_item.specs.Items.{Made}
+use Rattle.rd_keys.specs.declared.entry.EntryKey.{EntryKey}
+use Rattle.rd_list.specs.declared.kept.Entry.{Entry}
+use Rattle.rd_list.specs.declared.kept.Entry.TheVariants.{Leaf, Group}
+use Rattle.rd_list.specs.Displayed.{shown}
+use Rattle.rd_list.specs.Entries.{Entries, nil, leaf, group, ◌▷◌}
+use Rattle.rd_list.specs.EntryNames.{kept_leaves}
+use Rattle.rd_list.specs.Kept.{Ordered}
+use Rattle.rd_list.specs.KeptView.{kept_entries}
+use Rattle.rd_list.specs.Lists.{composed}
+use Rattle.rd_list.specs.Views.{levels, larger, deeper}
+use Rattle.rd_list.specs.Wrappers.{Wrapper}
+use Rattle.rd_list.proofs.Viewing.{levels_within}
+use Rattle.rd_paint.specs.Parts.{entry_count, entries_from}
+
+not_less : (a b : ℕ) → (b ≤ larger a b) × (a ≤ larger a b)
+not_less a b = elim (cases_lt a b) [
+  | inl l ↦ rw (lt-ltb a b l) (omega arith, omega (arith, l))
+  | inr l ↦ rw (le-ltb a b l) (l, omega arith)
+]
+
+none_below : (a b : ℕ) → larger a b ≡ 0 → (a ≡ 0) × (b ≡ 0)
+none_below a b h = let n = not_less a b in let p = n.0 in let q = n.1 in (omega (arith, p, q, h), omega (arith, p, q, h))
+
+no_deeper : (n : ℕ) → deeper n ≡ 0 → n ≡ 0
+no_deeper zero h = refl
+no_deeper (suc n) h = absurd (omega (arith, h))
+
+abbrev px : ℕ → ℕ → ℕ → ℕ → Premultiplied
+px r g b a = record { r = r; g = g; b = b; a = a }
+
+abbrev over_scaled : ℕ → ℕ → ℕ
+over_scaled k n = times 0 k + times n (255 - times 0 k)
+
+over_none : (s d : ℕ) → s ≡ 0 → s + times d (255 - s) ≡ d
+over_none s d e = rw e (omega (arith, times_by_whole d))
+
+none_over : (k d : ℕ) → over_scaled k d ≡ d
+none_over k d = over_none (times 0 k) d (times_none k)
+
+-- a group of nothing
+pub scaled_clear : (k : ℕ) (d : Premultiplied) → laid_over (scaled clear k) d ≡ d
+scaled_clear k d =
+    ap (λ n. px n (over_scaled k d.g) (over_scaled k d.b) (over_scaled k d.a)) (none_over k d.r) ∙ ap (λ n. px d.r n (over_scaled k d.b) (over_scaled k d.a)) (none_over k d.g)
+    ∙ ap (λ n. px d.r d.g n (over_scaled k d.a)) (none_over k d.b) ∙ ap (λ n. px d.r d.g d.b n) (none_over k d.a)
+
+-- a list without a leaf shows nothing
+pub nothing_shown : (x y : ℤ) (d : Premultiplied) (xs : Entries Wrapper item.Leaf) → levels xs ≡ 0 → composed x y d xs ≡ d
+nothing_shown x y d nil h = refl
+nothing_shown x y d (leaf m xs) h = let n = (none_below 1 (levels xs) h).0 in absurd (omega (arith, n))
+nothing_shown x y d (group g inner xs) h =
+    let n = none_below (deeper (levels inner)) (levels xs) h in
+    let own = nothing_shown x y clear inner (no_deeper (levels inner) n.0) in
+    ap (λ p. composed x y p xs) (ap (λ q. laid_over (scaled q g.opacity) d) own ∙ scaled_clear g.opacity d) ∙ nothing_shown x y d xs n.1
+
+pub levels-leaves : (xs : Entries (Ordered EntryKey Wrapper) Made) → levels (kept_leaves xs) ≡ levels xs
+levels-leaves nil = refl
+levels-leaves (leaf m xs) = ap (larger 1) (levels-leaves xs)
+levels-leaves (group g inner xs) = ap (λ n. larger (deeper n) (levels (kept_leaves xs))) (levels-leaves inner) ∙ ap (larger (deeper (levels inner))) (levels-leaves xs)
+
+pub leafless : (x y : ℤ) (d : Premultiplied) (xs : Entries (Ordered EntryKey Wrapper) Made) → levels xs ≡ 0 → composed x y d (kept_leaves xs) ≡ d
+leafless x y d xs h = nothing_shown x y d (kept_leaves xs) (levels-leaves xs ∙ h)
+
+-- lists without a leaf, one on another
+pub join_leafless : (xs ys : Entries Wrapper item.Leaf) → levels xs ≡ 0 → levels ys ≡ 0 → levels (xs ▷ ys) ≡ 0
+join_leafless nil ys h k = k
+join_leafless (leaf l xs) ys h k = let n = (none_below 1 (levels xs) h).0 in absurd (omega (arith, n))
+join_leafless (group g inner xs) ys h k =
+    let n = none_below (deeper (levels inner)) (levels xs) h in
+    ap (λ m. larger m (levels (xs ▷ ys))) n.0 ∙ ap (larger 0) (join_leafless xs ys n.1 k)
+
+pub group_leafless : (g : Wrapper) (inner xs : Entries Wrapper item.Leaf) → levels (group g inner xs) ≡ 0 → (levels inner ≡ 0) × (levels xs ≡ 0)
+group_leafless g inner xs h = let n = none_below (deeper (levels inner)) (levels xs) h in (no_deeper (levels inner) n.0, n.1)
+
+pub leaf_below : (l : item.Leaf) (xs : Entries Wrapper item.Leaf) → levels (leaf l xs) ≡ 0 → ⊥
+leaf_below l xs h = let n = (none_below 1 (levels xs) h).0 in omega (arith, n)
+
+module _ {A : Type 0} where
+  -- rows for a list are enough for each of its entries
+  pub rows_at : (n m : ℕ) (es : List (Entry A)) (i : ℕ) (x : Entry A) → i < length es → x ≡ get_or es i x → n * (levels (kept_entries es) - 1) ≤ m → n * (levels (kept_entries (x ∷ [])) - 1) ≤ m
+  rows_at n m es i x h e r =
+      let w = levels_within es i x h e in
+      let l : levels (kept_entries (x ∷ [])) - 1 ≤ levels (kept_entries es) - 1 = omega (arith, w) in
+      let p = mul-le-mul_left n l in
+      omega (arith, p, r)
+
+  pub entry_count-shown : (es : List (Entry A)) → entry_count (kept_entries es) ≡ length es
+  entry_count-shown [] = refl
+  entry_count-shown (Leaf i ∷ es) = ap suc (entry_count-shown es)
+  entry_count-shown (Group g ∷ es) = ap suc (entry_count-shown es)
+
+  pub entries_from-shown : (n : ℕ) (es : List (Entry A)) → shown (drop n es) ≡ entries_from n (shown es)
+  entries_from-shown zero es = refl
+  entries_from-shown (suc n) [] = refl
+  entries_from-shown (suc n) (Leaf i ∷ es) = entries_from-shown n es
+  entries_from-shown (suc n) (Group g ∷ es) = entries_from-shown n es
+
+  pub levels-from : (n : ℕ) (es : List (Entry A)) → levels (kept_entries (drop n es)) ≤ levels (kept_entries es)
+  levels-from zero es = omega arith
+  levels-from (suc n) [] = omega arith
+  levels-from (suc n) (Leaf i ∷ es) = let d = levels-from n es in let l = (not_less 1 (levels (kept_entries es))).0 in omega (arith, d, l)
+  levels-from (suc n) (Group g ∷ es) = let d = levels-from n es in let l = (not_less (deeper (levels g.inner.entries)) (levels (kept_entries es))).0 in omega (arith, d, l)
+
+-- as many rows as a canvas is wide are enough for a run of its pixels
+pub rows_for : (n w d r m : ℕ) → n ≤ w → d ≤ r → m ≡ r * w → n * d ≤ m
+rows_for n w d r m a b e = let p = mul-le-mul_right d a in let q = mul-le-mul_left w b in omega (arith, p, q, e)
+
+one_more : (l : ℕ) → deeper (suc l) - 1 ≡ suc l
+one_more l = omega arith
+
+-- where a group's row is split off, the others are enough for what stands in it
+pub rows_left : (n r l a b m : ℕ) → n ≤ r → n * (deeper l - 1) ≤ r → a ≡ n → b ≡ r - n → m ≡ l → a * (m - 1) ≤ b
+rows_left n r l a b m h p ea eb em = rw (ea, eb, em) (go l p)
+  where
+    go : (l : ℕ) → n * (deeper l - 1) ≤ r → n * (l - 1) ≤ r - n
+    go zero p = omega arith
+    go (suc l) p =
+        let q : n * suc l ≤ r = rw one_more at p in
+        let e : suc l - 1 ≡ l = omega arith in
+        rw e (omega (arith, q))
+
+-- where no row is left for a group there is no leaf in it
+pub no_rows : (n r l : ℕ) → r < n → n * (deeper l - 1) ≤ r → l ≡ 0
+no_rows n r zero h m = refl
+no_rows n r (suc l) h m =
+    let p : n * suc l ≤ r = rw one_more at m in
+    let q : n * 1 ≤ n * suc l = mul-le-mul_left n (omega arith) in
+    absurd (omega (arith, p, q, h))

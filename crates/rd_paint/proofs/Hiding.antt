@@ -1,0 +1,41 @@
+-- Entries that hide what is below them.
+use Rattle.std.proofs.Common.{◌≡◌, refl, ◌∙◌, sym, ap, ℤ, pos, ℕ, ◌+ℤ◌, ◌<◌, Bool, true, false, ◌||◌}
+use Rattle.rd_geom.specs.Colors.{Premultiplied, premultiplied}
+use Rattle.rd_item.specs.declared.leaf.Leaf as item
+use Rattle.rd_item.specs.Leaves.{covers}
+use Rattle.rd_list.specs.Entries.{Entries, nil, leaf, ◌▷◌}
+use Rattle.rd_list.specs.Lists.{composed}
+use Rattle.rd_list.specs.Wrappers.{Wrapper}
+use Rattle.rd_list.proofs.Composing.{composed-join}
+use Rattle.rd_list.proofs.Joins.{join_assoc}
+use Rattle.rd_paint.specs.Internal.Picks.{Hides}
+use Rattle.rd_paint.proofs.Pieces.{opaque_over}
+
+pub or_left : (a b : Bool) → a ≡ true → (a || b) ≡ true
+or_left a b h = rw h refl
+
+pub or_right : (a b : Bool) → b ≡ true → (a || b) ≡ true
+or_right true b h = refl
+or_right false b h = h
+
+-- an opaque leaf hides what is below it where it covers
+pub leaf_hides : (l : item.Leaf) (x y : ℤ) (d e : Premultiplied) → l.color.a ≡ 255 → covers l x y ≡ true → composed x y d (leaf l nil) ≡ composed x y e (leaf l nil)
+leaf_hides l x y d e a c = rw c (opaque_over (premultiplied l.color) d a ∙ sym (opaque_over (premultiplied l.color) e a))
+
+-- the upper part of a list
+pub record IsUpper (rest whole : Entries Wrapper item.Leaf) : Type 0 where
+  pub below : Entries Wrapper item.Leaf
+  pub is : whole ≡ below ▷ rest
+
+pub upper_more : (left one rest whole : Entries Wrapper item.Leaf) → IsUpper left whole → left ≡ one ▷ rest → IsUpper rest whole
+upper_more left one rest whole u e = record { below = u.below ▷ one; is = u.is ∙ ap (λ xs. u.below ▷ xs) e ∙ sym (join_assoc u.below one rest) }
+
+-- where its lowest entry hides what is below, only that part counts
+pub hidden_below : (left one rest whole : Entries Wrapper item.Leaf) (y x : ℤ) (n : ℕ) → IsUpper left whole → left ≡ one ▷ rest → Hides one y x n
+    → (k : ℕ) (d e : Premultiplied) → k < n → composed (x +ℤ pos k) y d left ≡ composed (x +ℤ pos k) y e whole
+hidden_below left one rest whole y x n u s h k d e l =
+    upper d ∙ ap (λ q. composed (x +ℤ pos k) y q rest) (h k d (composed (x +ℤ pos k) y e u.below) l) ∙ sym (upper (composed (x +ℤ pos k) y e u.below))
+    ∙ sym (composed-join (x +ℤ pos k) y e u.below left) ∙ ap (composed (x +ℤ pos k) y e) (sym u.is)
+  where
+    upper : (d : Premultiplied) → composed (x +ℤ pos k) y d left ≡ composed (x +ℤ pos k) y (composed (x +ℤ pos k) y d one) rest
+    upper d = ap (composed (x +ℤ pos k) y d) s ∙ composed-join (x +ℤ pos k) y d one rest

@@ -1,0 +1,11 @@
+pub mod Written
+pub mod Places
+pub mod Depths
+pub mod Laying
+pub mod Pieces
+pub mod Repainting
+pub mod Picking
+pub mod Choosing
+pub mod Showing
+pub mod Hiding
+pub mod Banding

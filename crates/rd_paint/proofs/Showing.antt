@@ -1,0 +1,115 @@
+-- Entries that show nothing at some pixels, and picks that show the same.
+use Rattle.std.proofs.Common.{◌≡◌, refl, ◌∙◌, sym, ap, ℤ, ℕ, ◌+◌, ◌+ℤ◌, ◌≤◌, ◌≤ℤ◌, ◌<ℤ◌, Bool, true, false, not, ◌&&◌, IsTrue, ◌↔◌, List, [], ◌∷◌, ◌++◌, length, take, drop, arith, subst}
+use Rattle.std.specs.Prelude.{int_lt, Option, Some, None, IfSome}
+use Rattle.std.proofs.lemmas.Int.{ints}
+use Rattle.std.proofs.lemmas.List.{drop_all}
+use Rattle.rd_geom.specs.Colors.{laid_over, scaled, clear}
+use Rattle.rd_geom.specs.Plane.{Rectangle, SharesPixel, holds_pixel, is_among}
+use Rattle.rd_item.specs.declared.leaf.Leaf as item
+use Rattle.rd_list.specs.Entries.{Entries, nil, leaf, group, ◌▷◌}
+use Rattle.rd_list.specs.Lists.{composed}
+use Rattle.rd_list.specs.Wrappers.{Wrapper}
+use Rattle.rd_list.proofs.Composing.{composed-join}
+use Rattle.rd_list.proofs.Joins.{join_assoc, join-nil}
+use Rattle.rd_paint.specs.Internal.Picks.{InRect, InRows, IsClosed, SameWhere, ShowsFor, picked}
+use Rattle.rd_paint.specs.declared.picks.Pick.{Pick}
+use Rattle.rd_paint.proofs.Depths.{scaled_clear}
+use Rattle.rd_paint.proofs.Picking.{picked-none, picked_one, closed_append, put_taken, entry_at-leaf, entry_at-group}
+use Rattle.rd_paint.proofs.Pieces.{unshown}
+
+pub below_rows : (top h y0 y : ℤ) → int_lt y0 (top +ℤ h) ≡ false → y0 ≤ℤ y → is_among top h y ≡ false
+below_rows top h y0 y f a = grind (arith, ints)
+
+module _ (p : ℤ → ℤ → Type 0) where
+  pub same_by : (es fs : Entries Wrapper item.Leaf) → es ≡ fs → SameWhere p es fs
+  same_by es fs e x y d h = ap (composed x y d) e
+
+  pub same_then : (es fs gs : Entries Wrapper item.Leaf) → SameWhere p es fs → SameWhere p fs gs → SameWhere p es gs
+  same_then es fs gs s t x y d h = s x y d h ∙ t x y d h
+
+  pub same_join : (es bs cs ds : Entries Wrapper item.Leaf) → SameWhere p es bs → SameWhere p cs ds → SameWhere p (es ▷ cs) (bs ▷ ds)
+  same_join es bs cs ds s t x y d h = composed-join x y d es cs ∙ ap (λ q. composed x y q cs) (s x y d h) ∙ t x y (composed x y d bs) h ∙ sym (composed-join x y d bs ds)
+
+  pub same_group : (w : Wrapper) (xs ys : Entries Wrapper item.Leaf) → SameWhere p xs ys → SameWhere p (group w xs nil) (group w ys nil)
+  same_group w xs ys s x y d h = ap (λ q. laid_over (scaled q w.opacity) d) (s x y clear h)
+
+  pub group_unseen : (w : Wrapper) (ys : Entries Wrapper item.Leaf) → SameWhere p nil ys → SameWhere p nil (group w ys nil)
+  group_unseen w ys s x y d h = sym (scaled_clear w.opacity d) ∙ ap (λ q. laid_over (scaled q w.opacity) d) (s x y clear h)
+
+  -- a leaf that is named, alone
+  pub leaf_named : (place : ℕ) (l : item.Leaf) (ps : List Pick) → ps ≡ record { place = place; inside = 0 } ∷ [] → ShowsFor p place (leaf l nil) (leaf l nil) ps
+  leaf_named place l ps e es stands =
+      same_by (picked ps es) (leaf l nil)
+      (ap (λ qs. picked qs es) e ∙ picked_one (record { place = place; inside = 0 }) [] es refl ∙ stands (picked []) ∙ entry_at-leaf (picked []) l)
+
+  -- nothing is named of what does not show
+  pub none_named : (place : ℕ) (one want : Entries Wrapper item.Leaf) → SameWhere p nil want → ShowsFor p place one want []
+  none_named place one want s es stands = same_then (picked [] es) nil want (same_by (picked [] es) nil (picked-none es)) s
+
+  -- a group that is named, with picks of its list
+  pub group_named : (place : ℕ) (w : Wrapper) (inner want : Entries Wrapper item.Leaf) (n : ℕ) (qs ps : List Pick) → length qs ≡ n → ps ≡ record { place = place; inside = n } ∷ qs → SameWhere p (picked qs inner) want
+      → ShowsFor p place (group w inner nil) (group w want nil) ps
+  group_named place w inner want n qs ps l e s es stands =
+      same_then (picked ps es) (group w (picked qs inner) nil) (group w want nil)
+      (same_by (picked ps es) (group w (picked qs inner) nil) (ap (λ ts. picked ts es) e ∙ picked_one (record { place = place; inside = n }) qs es l ∙ stands (picked qs) ∙ entry_at-group (picked qs) w inner))
+      (same_group w (picked qs inner) want s)
+
+  -- one more has been looked at
+  pub same_more : (es one rest whole : Entries Wrapper item.Leaf) (done new : List Pick) → IsClosed done → SameWhere p (picked done es ▷ (one ▷ rest)) whole → SameWhere p (picked new es) one
+      → SameWhere p (picked (done ++ new) es ▷ rest) whole
+  same_more es one rest whole done new c s t =
+      same_then (picked (done ++ new) es ▷ rest) (picked done es ▷ (picked new es ▷ rest)) whole
+      (same_by (picked (done ++ new) es ▷ rest) (picked done es ▷ (picked new es ▷ rest)) (ap (λ xs. xs ▷ rest) (c new es) ∙ join_assoc (picked done es) (picked new es) rest))
+      (same_then (picked done es ▷ (picked new es ▷ rest)) (picked done es ▷ (one ▷ rest)) whole
+      (same_join (picked done es) (picked done es) (picked new es ▷ rest) (one ▷ rest) (λ x y d h. refl) (same_join (picked new es) one rest rest t (λ x y d h. refl))) s)
+
+  -- none is left to be looked at
+  pub same_last : (es whole : Entries Wrapper item.Leaf) (done ps : List Pick) (i : ℕ) → length ps ≤ i → SameWhere p (picked done es ▷ picked (drop i ps) es) whole → SameWhere p (picked done es) whole
+  same_last es whole done ps i h s =
+      same_then (picked done es) (picked done es ▷ picked (drop i ps) es) whole
+      (same_by (picked done es) (picked done es ▷ picked (drop i ps) es) (sym (ap (λ qs. picked done es ▷ picked qs es) (drop_all i ps h) ∙ ap (λ xs. picked done es ▷ xs) (picked-none es) ∙ join-nil (picked done es)))) s
+
+pub leaf_unseen : (l : item.Leaf) (y0 y1 : ℤ) → ((y : ℤ) → y0 ≤ℤ y → y <ℤ y1 → is_among l.visible.y l.visible.h y ≡ false) → SameWhere (InRows y0 y1) nil (leaf l nil)
+leaf_unseen l y0 y1 h x y d r = sym (rw (unshown l y (h y r.0 r.1) x) refl)
+
+module _ (p : ℤ → ℤ → Type 0) where
+  -- none of the picks of a list is left
+  pub nothing_inside : (n : ℕ) (qs own : List Pick) (es fs : Entries Wrapper item.Leaf) → n ≡ 0 → es ≡ fs → SameWhere p (picked (take n qs) es) (picked own es) → SameWhere p nil (picked own fs)
+  nothing_inside n qs own es fs e f s x y d h = sym (ap (λ ts. composed x y d ts) (ap (λ k. picked (take k qs) es) e ∙ picked-none es)) ∙ s x y d h ∙ ap (λ ts. composed x y d (picked own ts)) f
+
+  pub some_inside : (ps qs own : List Pick) (es fs : Entries Wrapper item.Leaf) → ps ≡ qs → es ≡ fs → SameWhere p (picked ps es) (picked own es) → SameWhere p (picked qs fs) (picked own fs)
+  some_inside ps qs own es fs e f s x y d h = sym (ap (λ ts. composed x y d (picked ps ts)) f ∙ ap (λ ts. composed x y d (picked ts fs)) e) ∙ s x y d h ∙ ap (λ ts. composed x y d (picked own ts)) f
+
+  -- the picks of one more entry have been written
+  pub written_more : (es whole one rest left : Entries Wrapper item.Leaf) (room mid : List Pick) (count more n : ℕ) → count ≤ length room → more ≤ length mid → left ≡ one ▷ rest
+      → IsClosed (take count room) → IsClosed (take more mid) → SameWhere p (picked (take count room) es ▷ left) whole → SameWhere p (picked (take more mid) es) one
+      → IsClosed (take (count + more) (take count room ++ (mid ++ drop n (drop count room)))) × SameWhere p (picked (take (count + more) (take count room ++ (mid ++ drop n (drop count room)))) es ▷ rest) whole
+  written_more es whole one rest left room mid count more n h k e c d s t =
+      let w = sym (put_taken count n more room mid h k) in (
+        subst IsClosed w (closed_append (take count room) (take more mid) c d),
+        subst (λ ts. SameWhere p (picked ts es ▷ rest) whole) w (same_more p es one rest whole (take count room) (take more mid) c (λ x y q h. ap (λ xs. composed x y q (picked (take count room) es ▷ xs)) (sym e) ∙ s x y q h) t),
+      )
+
+last_false : (a b v : Bool) → v ≡ false → (a && b && v) ≡ false
+last_false true true v h = h
+last_false true false v h = refl
+last_false false b v h = refl
+
+-- a leaf that may be seen in no pixel of a rectangle
+pub leaf_outside : (l : item.Leaf) (v r : Rectangle) (b : Bool) → v ≡ l.visible → (IsTrue b ↔ SharesPixel v r) → b ≡ false → SameWhere (InRect r) nil (leaf l nil)
+leaf_outside l v r b e m f x y d h = sym (rw (last_false (holds_pixel l.shape.outer x y) (not (holds_pixel l.shape.inner x y)) (holds_pixel l.visible x y) (ap (λ q. holds_pixel q x y) (sym e) ∙ go (holds_pixel v x y) refl)) refl)
+  where
+    go : (t : Bool) → holds_pixel v x y ≡ t → holds_pixel v x y ≡ false
+    go false k = k
+    go true k = let s : SharesPixel v r = record { x = x; y = y; first = k; second = h } in let q = m.1 s in cc
+
+module _ (p : ℤ → ℤ → Type 0) where
+  -- no entry of a list may show
+  pub nothing_left : (n : ℕ) (qs : List Pick) (es want fs : Entries Wrapper item.Leaf) → n ≡ 0 → want ≡ fs → SameWhere p (picked (take n qs) es) want → SameWhere p nil fs
+  nothing_left n qs es want fs e f s x y d h = sym (ap (λ ts. composed x y d ts) (ap (λ k. picked (take k qs) es) e ∙ picked-none es)) ∙ s x y d h ∙ ap (composed x y d) f
+
+  -- one of its groups at any wrapper
+  pub some_group : (place : ℕ) (inner : Entries Wrapper item.Leaf) (ps : ℕ → List Pick) (o : Option ℕ) → IfSome o (λ n. (w : Wrapper) → ShowsFor p place (group w inner nil) (group w inner nil) (ps n)) → (w : Wrapper)
+      → IfSome o (λ n. ShowsFor p place (group w inner nil) (group w inner nil) (ps n))
+  some_group place inner ps None h w = tt
+  some_group place inner ps (Some n) h w = h w

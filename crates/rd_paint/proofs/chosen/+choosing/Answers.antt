@@ -1,0 +1,104 @@
+use Rattle.std.proofs.Common.{◌≡◌, ◌+◌, length, drop, arith, sym, ap, ◌∙◌, FitsSigned, w32, rules}
+use Rattle.std.proofs.lemmas.Int.{to_z-of_z, ints}
+use Rattle.rd_geom.specs.Colors.{clear}
+use Rattle.rd_item.specs.declared.leaf.Leaf as item
+use Rattle.rd_item.specs.Items.{Made}
+use Rattle.rd_keys.specs.declared.entry.EntryKey.{EntryKey}
+use Rattle.rd_list.specs.Displayed.{shown}
+use Rattle.rd_list.specs.Entries.{Entries, list_size}
+use Rattle.rd_list.specs.EntryNames.{kept_leaves}
+use Rattle.rd_list.specs.Kept.{KeptList, Ordered}
+use Rattle.rd_list.specs.KeptView.{kept_entries}
+use Rattle.rd_list.specs.Views.{levels}
+use Rattle.rd_list.specs.Wrappers.{Wrapper}
+use Rattle.rd_list.proofs.Viewing.{size_at}
+use Rattle.rd_paint.specs.Internal.Picks.{picked, chosen}
+use Rattle.rd_paint.specs.Internal.Runs.{laid_along}
+use Rattle.rd_paint.proofs.Choosing.{laid_on, laid_off}
+use Rattle.rd_paint.proofs.Depths.{rows_at, rows_left, no_rows, nothing_shown, levels-leaves}
+use Rattle.rd_paint.proofs.Laying.{laid_along-nil, laid_none, group_from}
+use Rattle.rd_paint.proofs.Picking.{entry_at-shown, entry_at-past, entry_at-leaf, entry_at-group, picked_leafless}
+use Rattle.rd_paint.proofs.chosen.+choosing.Goals as goal
+
+pub lay_at-lay_pick-requires : goal.lay_at-lay_pick-requires
+lay_at-lay_pick-requires g t c κs within =
+    let s = size_at c.args.entries.now c.args.place c.index-entries-index.result c.if-index-entries.true c.index-entries-index.is in
+    let r = rows_at (length c.args.out.now) (length c.args.rows.now) c.args.entries.now c.args.place c.index-entries-index.result c.if-index-entries.true c.index-entries-index.is c.requires.rows in
+    (omega (arith, s, c.decreases), (within, (r, (omega (arith, ints), omega (arith, ints)))))
+
+pub lay_at-returns-then-index-entries : goal.lay_at-returns-then-index-entries
+lay_at-returns-then-index-entries g t c =
+    let fx : FitsSigned w32 c.args.x0 = search rules in
+    let fy : FitsSigned w32 c.args.y = search rules in
+    let laid = simp to_z-of_z at c.lay_pick.ensures in
+    laid ∙ ap (λ (es : Entries Wrapper item.Leaf). laid_along c.args.y c.args.x0 es c.args.out.now) (sym (entry_at-shown (picked c.args.own.now) c.args.entries.now c.args.place c.index-entries-index.result c.if-index-entries.true c.index-entries-index.is))
+
+pub lay_at-returns-else-index-entries : goal.lay_at-returns-else-index-entries
+lay_at-returns-else-index-entries g t c =
+    sym (laid_along-nil c.args.y c.args.x0 c.args.out.now)
+    ∙ ap (λ (es : Entries Wrapper item.Leaf). laid_along c.args.y c.args.x0 es c.args.out.now) (sym (entry_at-past (picked c.args.own.now) c.args.entries.now c.args.place c.if-index-entries.false))
+
+abbrev entries_of : KeptList EntryKey Wrapper Made → Entries (Ordered EntryKey Wrapper) Made
+entries_of k = k.entries
+
+pub lay_own-returns-then-rows-n : goal.lay_own-returns-then-rows-n
+lay_own-returns-then-rows-n g t c =
+    let none = no_rows (length c.args.out.now) (length c.args.rows.now) (levels c.args.inner.now.entries) (omega arith) c.requires.rows in
+    sym (laid_none c.args.y c.args.x0 c.args.opacity (picked c.args.own.now (kept_leaves c.args.inner.now.entries)) c.args.out.now
+    (λ x y. nothing_shown x y clear (picked c.args.own.now (kept_leaves c.args.inner.now.entries)) (picked_leafless c.args.own.now (kept_leaves c.args.inner.now.entries) (levels-leaves c.args.inner.now.entries ∙ none))))
+
+pub lay_own-lay_picks-requires : goal.lay_own-lay_picks-requires
+lay_own-lay_picks-requires g t c κs within =
+    let e : kept_entries c.deref.result.now ≡ c.args.inner.now.entries = ap kept_entries c.deref.ensures.value ∙ ap entries_of c.inner.view_is in
+    let n = ap (λ (es : Entries (Ordered EntryKey Wrapper) Made). list_size es) e in
+    let l = ap (λ (es : Entries (Ordered EntryKey Wrapper) Made). levels es) e in (
+      omega (arith, n, c.decreases),
+      (
+        within,
+        (
+          rows_left (length c.args.out.now) (length c.args.rows.now) (levels c.args.inner.now.entries) _ _ _ (omega arith) c.requires.rows (c.fill.auto.out ∙ c.split_at_mut-row.ensures.front_len) (omega (arith, c.split_at_mut-row.ensures.back_len)) l,
+          (omega (arith, ints), omega (arith, ints, c.fill.auto.out, c.split_at_mut-row.ensures.front_len)),
+        ),
+      ),
+    )
+
+pub lay_own-returns : goal.lay_own-returns
+lay_own-returns g t c =
+    let fx : FitsSigned w32 c.args.x0 = search rules in
+    let fy : FitsSigned w32 c.args.y = search rules in
+    let e : kept_entries c.deref.result.now ≡ c.args.inner.now.entries = ap kept_entries c.deref.ensures.value ∙ ap entries_of c.inner.view_is in
+    let row = simp to_z-of_z at c.lay_picks.ensures in
+    group_from c.args.y c.args.x0 c.args.opacity _ (picked c.args.own.now (kept_leaves c.args.inner.now.entries)) (picked c.args.own.now (shown c.deref.result.now)) c.args.out.now _ _ _
+    (ap (λ (es : Entries (Ordered EntryKey Wrapper) Made). picked c.args.own.now (kept_leaves es)) e) (c.split_at_mut-row.ensures.front_len) c.fill.ensures row c.lay_row.ensures
+
+pub lay_pick-returns-in-Leaf : goal.lay_pick-returns-in-Leaf
+lay_pick-returns-in-Leaf g t c =
+    let fx : FitsSigned w32 c.args.x0 = search rules in
+    let fy : FitsSigned w32 c.args.y = search rules in
+    let laid = simp to_z-of_z at c.lay_item.ensures in
+    rw (c.in-Leaf.is, entry_at-leaf (picked c.args.own.now) c.in-Leaf.item.leaf) laid
+
+pub lay_pick-returns-in-Group : goal.lay_pick-returns-in-Group
+lay_pick-returns-in-Group g t c =
+    let fx : FitsSigned w32 c.args.x0 = search rules in
+    let fy : FitsSigned w32 c.args.y = search rules in
+    let laid = simp to_z-of_z at c.lay_own.ensures in
+    rw (c.in-Group.is, entry_at-group (picked c.args.own.now) (record { key = c.in-Group.group.key; opacity = c.in-Group.group.opacity }) (kept_leaves c.in-Group.group.inner.entries)) laid
+
+pub lay_picks-loop-i-preserved : goal.lay_picks-loop-i-preserved
+lay_picks-loop-i-preserved g t c =
+    let fx : FitsSigned w32 c.args.x0 = search rules in
+    let fy : FitsSigned w32 c.args.y = search rules in
+    let before = simp to_z-of_z at c.loop-i.invariant.laid in
+    let one = simp to_z-of_z at c.lay_at.ensures in
+    record {
+      within = omega (arith, c.pick_at-place.ensures.within);
+      laid = simp to_z-of_z (laid_on c.args.y c.args.x0 (picked (drop c.loop-i.i c.args.picks.now) (shown c.args.entries.now)) (chosen c.pick_at-place.result.1.now c.pick_at-place.result.0 (shown c.args.entries.now)) (picked (drop (c.loop-i.i + 1 + length c.pick_at-place.result.1.now) c.args.picks.now) (shown c.args.entries.now)) _ _ _ (c.pick_at-place.ensures.parts (shown c.args.entries.now)) one before);
+    }
+
+pub lay_picks-returns : goal.lay_picks-returns
+lay_picks-returns g t c =
+    let fx : FitsSigned w32 c.args.x0 = search rules in
+    let fy : FitsSigned w32 c.args.y = search rules in
+    let before = simp to_z-of_z at c.loop-i.invariant.laid in
+    laid_off c.args.y c.args.x0 c.args.picks.now c.loop-i.i (shown c.args.entries.now) c.loop-i.out _ c.loop-i-test.false before

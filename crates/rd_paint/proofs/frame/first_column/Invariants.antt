@@ -1,0 +1,9 @@
+use Rattle.std.proofs.Common.{◌≡◌, ◌≤◌, ◌<◌, ℕ, pos, false}
+use Rattle.rd_geom.specs.Areas.{in_area}
+use Rattle.rd_paint.proofs.frame.first_column.Given as goal
+
+abbrev pub invariant-loop-step : goal.invariant-loop-step
+invariant-loop-step l = record {
+  within : l.first ≤ l.width;
+  before : (x y : ℕ) → x < l.first → l.top ≤ y → y < l.bottom → in_area l.area (pos x) (pos y) ≡ false;
+}

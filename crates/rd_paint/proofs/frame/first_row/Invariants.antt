@@ -1,0 +1,9 @@
+use Rattle.std.proofs.Common.{◌≡◌, ◌≤◌, ◌<◌, ℕ, pos, false}
+use Rattle.rd_geom.specs.Areas.{in_area}
+use Rattle.rd_paint.proofs.frame.first_row.Given as goal
+
+abbrev pub invariant-loop-step : goal.invariant-loop-step
+invariant-loop-step l = record {
+  within : l.first ≤ l.height;
+  above : (x y : ℕ) → x < l.width → y < l.first → in_area l.area (pos x) (pos y) ≡ false;
+}

@@ -1,0 +1,10 @@
+use Rattle.std.proofs.Common.{◌≡◌, ◌≤◌, ◌<◌, ℕ, pos, false}
+use Rattle.rd_geom.specs.Areas.{in_area}
+use Rattle.rd_paint.proofs.frame.last_row.Given as goal
+
+abbrev pub invariant-loop-step : goal.invariant-loop-step
+invariant-loop-step l = record {
+  order : l.fn.first ≤ l.last;
+  within : l.last ≤ l.height;
+  below : (x y : ℕ) → x < l.width → l.last ≤ y → y < l.height → in_area l.area (pos x) (pos y) ≡ false;
+}

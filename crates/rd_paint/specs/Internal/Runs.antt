@@ -1,0 +1,39 @@
+-- Lists laid over a run of pixels.
+use Rattle.std.specs.Prelude.{ℕ, suc, ℤ, pos, ◌+ℤ◌, if◌then◌else◌, List, [], ◌∷◌, get_or}
+use Rattle.rd_geom.specs.Colors.{Premultiplied, laid_over, scaled, clear}
+use Rattle.rd_geom.specs.Areas.{in_span}
+use Rattle.rd_geom.specs.declared.span.Span.{Span}
+use Rattle.rd_item.specs.declared.leaf.Leaf.{Leaf}
+use Rattle.rd_list.specs.Wrappers.{Wrapper}
+use Rattle.rd_list.specs.Entries.{Entries}
+use Rattle.rd_list.specs.Lists.{composed}
+
+-- each element changed by its place, of which the first is i
+abbrev pub each_from : {A : Type 0} → ℕ → (ℕ → A → A) → List A → List A
+each_from i f [] = []
+each_from i f (x ∷ xs) = f i x ∷ each_from (suc i) f xs
+
+-- each element changed by its place
+abbrev pub each_at : {A : Type 0} → (ℕ → A → A) → List A → List A
+each_at f xs = each_from 0 f xs
+
+-- pixels of row y from column x on, with a list laid over each of them
+abbrev pub laid_along : ℤ → ℤ → Entries Wrapper Leaf → List Premultiplied → List Premultiplied
+laid_along y x es ps = each_at (λ k p. composed (x +ℤ pos k) y p es) ps
+
+-- a row laid over pixels, as the group that it is of lets through
+abbrev pub row_laid : ℕ → List Premultiplied → List Premultiplied → List Premultiplied
+row_laid opacity row ps = each_at (λ k p. laid_over (scaled (get_or row k clear) opacity) p) ps
+
+-- pixels of row y from column x on, with a group of a list laid over each of them
+abbrev pub laid_along_group : ℤ → ℤ → ℕ → Entries Wrapper Leaf → List Premultiplied → List Premultiplied
+laid_along_group y x opacity inner ps =
+    each_at (λ k p. laid_over (scaled (composed (x +ℤ pos k) y clear inner) opacity) p) ps
+
+-- one pixel laid over each
+abbrev pub tinted : Premultiplied → List Premultiplied → List Premultiplied
+tinted q ps = each_at (λ k p. laid_over q p) ps
+
+-- one pixel laid over those of the pixels from column x on that are in a span
+abbrev pub piece_laid : Span → Premultiplied → ℤ → List Premultiplied → List Premultiplied
+piece_laid s q x ps = each_at (λ k p. if in_span s (x +ℤ pos k) then laid_over q p else p) ps

@@ -1,0 +1,5 @@
+pub mod Pictures
+pub mod Lending
+pub mod Parts
+pub mod Repainted
+pub mod Internal

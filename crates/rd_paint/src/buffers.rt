@@ -1,0 +1,144 @@
+//! The rows that groups are painted into.
+
+ghost use Rattle.std.specs.Prelude.{◌≡◌, ℕ, ℤ, pos, ◌-◌, ◌≤◌, ◌<◌, ◌^◌, ◌+ℤ◌, ◌≤ℤ◌, ◌<ℤ◌, IfOk, length, get_or, drop};
+ghost use Rattle.rd_geom.specs.Canvas.{IsCanvas};
+ghost use Rattle.rd_geom.specs.Colors.{white, clear};
+ghost use Rattle.rd_list.specs.EntryNames.{kept_leaves};
+ghost use Rattle.rd_list.specs.Lists.{composed};
+ghost use Rattle.rd_list.specs.Views.{levels};
+ghost use Rattle.rd_paint.specs.Parts.{entry_count, entries_from};
+ghost use Rattle.rd_paint.specs.Pictures.{size_of};
+ghost use Rattle.rd_paint.specs.Repainted.{IsRepainted};
+
+use crate::bands::paint_all;
+use crate::canvas::{Canvas, filled};
+use crate::picks::{MOST, Pick};
+use crate::plain::repaint_plainly;
+use crate::runs::fill;
+use crate::spans::lay_all;
+use rd_area::Area;
+use rd_geom::{NoMemory, Px, Size};
+use rd_list::{Entry, ListView};
+use std::alloc::Global;
+use std::marker::Model;
+use std::sync::ledger::Ledger;
+
+/// A row of pixels for each depth of groups.
+#[derive(Drop)]
+pub struct Buffers {
+    size: Size,
+    rows: usize,
+    pixels: Vec<Px>,
+
+    /// Room for picks of the entries that may show in a band of rows.
+    room: Vec<Pick>,
+}
+
+impl Model for Buffers {
+    ghost use Rattle.std.specs.Prelude.{◌≡◌, ◌*◌, ◌^◌, ◌<◌, length, unsigned_abs};
+    ghost use Rattle.rd_geom.specs.Canvas.{IsCanvas};
+    ghost use Rattle.rd_paint.specs.Repainted.{Scratch};
+
+    ghost Value = { Scratch };
+
+    ghost view = { λ b. record { size = b.size; rows = b.rows } };
+
+    ghost invariant = { λ b. IsCanvas b.size × (length b.pixels.items ≡ b.rows * unsigned_abs b.size.w)
+        × (length b.room.items < 2 ^ 32) };
+}
+
+impl Buffers {
+    /// So many rows for a canvas of this size, which is from 1 to 4,096 pixels wide and high.
+    pub fn new(alloc: Global, size: Size, depth: u32) -> Result<Buffers, NoMemory>
+        requires { IsCanvas size }
+        ensures { IfOk result (λ b. b ≡ record { size = size; rows = depth }) }
+    {
+        let rows = depth as usize;
+        let pixels = filled(alloc, rows * size.w as usize, Px::CLEAR)?;
+        Ok(Buffers {
+            size,
+            rows,
+            pixels,
+            room: Vec::new(alloc),
+        })
+    }
+
+    /// Makes room for a list with so many leaves and groups in all: then `repaint` looks in each row at those alone
+    /// that may show in it. With less room it paints the same. Without memory the buffers serve as before.
+    pub fn make_room(&mut self, entries: usize) -> Result<(), NoMemory>
+        ensures { self.new ≡ self.old }
+    {
+        let most = entries.min(MOST / ROOMS) * ROOMS;
+        grow(&mut self.room, most)
+    }
+}
+
+/// How many picks there is room for by each entry: one for the whole list, and others for its bands.
+const ROOMS: usize = 3;
+
+/// Makes room for so many picks, if there is less.
+fn grow(room: &mut Vec<Pick>, count: usize) -> Result<(), NoMemory>
+    requires few { count < 2 ^ 32 }
+    requires room { length room.old.items < 2 ^ 32 }
+    ensures { length room.new.items < 2 ^ 32 }
+{
+    for _ in room.len()..count {
+        room.push(Pick::FIRST)?;
+    }
+    Ok(())
+}
+
+/// The entries from place `from` on.
+fn upper<A: Ledger>(entries: &[Entry<A>], from: usize) -> &[Entry<A>]
+    requires { from ≤ length entries.now }
+    ensures { result.now ≡ drop from entries.now }
+{
+    &entries[from..]
+}
+
+/// Makes the pixels of row `y` from column `x0` on, as many as `out` has, those of the entries from place `from` on,
+/// painted on white (CSS Color 3 section 3.2). It needs as many rows as groups stand round a leaf.
+pub fn paint_span<A: Ledger>(
+    list: ListView<'_, A>,
+    from: usize,
+    y: i32,
+    x0: i32,
+    out: &mut [Px],
+    buffers: &mut Buffers,
+)
+    requires from { from ≤ entry_count list.list.now.entries }
+    requires row { pos 0 ≤ℤ y }
+    requires on { y <ℤ buffers.old.size.h }
+    requires left { pos 0 ≤ℤ x0 }
+    requires right { (x0 +ℤ pos (length out.old)) ≤ℤ buffers.old.size.w }
+    requires deep { levels list.list.now.entries - 1 ≤ buffers.old.rows }
+    ensures painted { (k : ℕ) → k < length out.old → get_or out.new k clear
+        ≡ composed (x0 +ℤ pos k) y white (entries_from from (kept_leaves list.entry.list.now.entries)) }
+    ensures same { buffers.new ≡ buffers.old }
+{
+    fill(out, Px::WHITE);
+    lay_all(upper(list.entries(), from), y, x0, out, &mut buffers.pixels);
+}
+
+/// Makes the pixels of the area those of the list, and leaves all others (CSS Color 3 section 3.2).
+/// It needs as many rows as groups stand round a leaf, and takes no memory.
+pub fn repaint<A: Ledger>(
+    canvas: &mut Canvas,
+    list: ListView<'_, A>,
+    area: &Area,
+    buffers: &mut Buffers,
+)
+    requires area { area.now.size ≡ size_of canvas.old }
+    requires size { buffers.old.size ≡ size_of canvas.old }
+    requires deep { levels list.list.now.entries - 1 ≤ buffers.old.rows }
+    ensures painted { IsRepainted (kept_leaves list.entry.list.now.entries) area.now canvas.old canvas.new }
+    ensures same { buffers.new ≡ buffers.old }
+{
+    let entries = list.entries();
+    let rows = &mut buffers.pixels;
+    let room = &mut buffers.room;
+    if paint_all(canvas, entries, area, rows, room) {
+        return;
+    }
+    repaint_plainly(canvas, list, area, buffers);
+}

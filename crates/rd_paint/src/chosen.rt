@@ -1,0 +1,108 @@
+//! Painting the entries that picks name in a run of pixels.
+
+ghost use Rattle.std.specs.Prelude.{◌≡◌, ℤ, pos, ◌+◌, ◌-◌, ◌*◌, ◌≤◌, ◌+ℤ◌, ◌≤ℤ◌, ◌∷◌, [], length};
+ghost use Rattle.rd_list.specs.Displayed.{shown};
+ghost use Rattle.rd_list.specs.EntryNames.{kept_leaves};
+ghost use Rattle.rd_list.specs.KeptView.{kept_entries};
+ghost use Rattle.rd_list.specs.Views.{levels, deeper};
+ghost use Rattle.rd_paint.specs.Internal.Picks.{chosen, picked};
+ghost use Rattle.rd_paint.specs.Internal.Runs.{laid_along, laid_along_group};
+
+use crate::picks::{Pick, pick_at};
+use crate::runs::{fill, lay_row};
+use crate::spans::lay_item;
+use rd_geom::Px;
+use rd_list::{Entry, Kept};
+use std::sync::ledger::Ledger;
+
+/// Lays the entries that picks name, from bottom to top, over the pixels of row `y` from column `x0` on.
+#[cycle(choosing)]
+pub(crate) fn lay_picks<A: Ledger>(
+    entries: &[Entry<A>],
+    picks: &[Pick],
+    y: i32,
+    x0: i32,
+    out: &mut [Px],
+    rows: &mut [Px],
+)
+    requires rows { length out.old * (levels (kept_entries entries.now) - 1) ≤ length rows.old }
+    requires from { pos 0 ≤ℤ x0 }
+    requires within { (x0 +ℤ pos (length out.old)) ≤ℤ pos 4096 }
+    ensures { out.new ≡ laid_along y x0 (picked picks.now (shown entries.now)) out.old }
+{
+    let mut i = 0;
+    while i < picks.len() {
+        let (place, own) = pick_at(picks, i);
+        lay_at(entries, place, own, y, x0, out, rows);
+        i = i + 1 + own.len();
+    }
+}
+
+/// Lays the entry at a place, if there is one.
+#[cycle(choosing)]
+fn lay_at<A: Ledger>(
+    entries: &[Entry<A>],
+    place: u32,
+    own: &[Pick],
+    y: i32,
+    x0: i32,
+    out: &mut [Px],
+    rows: &mut [Px],
+)
+    requires rows { length out.old * (levels (kept_entries entries.now) - 1) ≤ length rows.old }
+    requires from { pos 0 ≤ℤ x0 }
+    requires within { (x0 +ℤ pos (length out.old)) ≤ℤ pos 4096 }
+    ensures { out.new ≡ laid_along y x0 (chosen own.now place (shown entries.now)) out.old }
+{
+    let index = place as usize;
+    if index < entries.len() {
+        lay_pick(&entries[index], own, y, x0, out, rows);
+    }
+}
+
+#[cycle(choosing)]
+fn lay_pick<A: Ledger>(
+    entry: &Entry<A>,
+    own: &[Pick],
+    y: i32,
+    x0: i32,
+    out: &mut [Px],
+    rows: &mut [Px],
+)
+    requires rows { length out.old * (levels (kept_entries (entry.now ∷ [])) - 1) ≤ length rows.old }
+    requires from { pos 0 ≤ℤ x0 }
+    requires within { (x0 +ℤ pos (length out.old)) ≤ℤ pos 4096 }
+    ensures { out.new ≡ laid_along y x0 (chosen own.now 0 (shown (entry.now ∷ []))) out.old }
+{
+    match entry {
+        Entry::Leaf(item) => lay_item(item, y, x0, out),
+        Entry::Group(group) => lay_own(group.opacity, &group.inner, own, y, x0, out, rows),
+    }
+}
+
+/// Paints what picks name of a group into the first of the rows, clear at first, and lays that over the pixels.
+/// Where no row is left there is no leaf in the group.
+#[cycle(choosing)]
+fn lay_own<A: Ledger>(
+    opacity: u8,
+    inner: &Kept<A>,
+    own: &[Pick],
+    y: i32,
+    x0: i32,
+    out: &mut [Px],
+    rows: &mut [Px],
+)
+    requires rows { length out.old * (deeper (levels inner.now.entries) - 1) ≤ length rows.old }
+    requires from { pos 0 ≤ℤ x0 }
+    requires within { (x0 +ℤ pos (length out.old)) ≤ℤ pos 4096 }
+    ensures { out.new ≡ laid_along_group y x0 opacity (picked own.now (kept_leaves inner.now.entries)) out.old }
+{
+    let n = out.len();
+    if rows.len() < n {
+        return;
+    }
+    let (row, rest) = rows.split_at_mut(n);
+    fill(row, Px::CLEAR);
+    lay_picks(&inner.entries, own, y, x0, row, rest);
+    lay_row(out, row, opacity);
+}

@@ -1,0 +1,104 @@
+//! Entries that hide what is below them.
+
+ghost use Rattle.std.specs.Prelude.{◌≡◌, ℕ, ℤ, pos, ◌+◌, ◌≤◌, ◌<◌, ◌+ℤ◌, ◌≤ℤ◌, true, IsTrue, IfSome, ◌∷◌, [], List, length, drop};
+ghost use Rattle.rd_geom.specs.Colors.{Premultiplied};
+ghost use Rattle.rd_geom.specs.Areas.{in_span};
+ghost use Rattle.rd_item.specs.Leaves as leaves;
+ghost use Rattle.rd_list.specs.Displayed.{shown};
+ghost use Rattle.rd_list.specs.Entries as list;
+ghost use Rattle.rd_list.specs.Lists.{composed};
+ghost use Rattle.rd_paint.specs.Internal.Picks.{Hides, chosen, picked};
+ghost use Rattle.rd_paint.specs.declared.picks.Pick as named;
+
+use crate::picks::{Pick, pick_at};
+use crate::runs::pieces;
+use crate::spans::leaf_of;
+use rd_geom::Span;
+use rd_item::{Item, Leaf};
+use rd_list::Entry;
+use std::sync::ledger::Ledger;
+
+/// Are so many columns from `x0` on all in the span?
+fn is_whole(span: Span, x0: i32, count: usize) -> bool
+    requires from { pos 0 ≤ℤ x0 }
+    requires within { (x0 +ℤ pos count) ≤ℤ pos 4096 }
+    ensures { IsTrue result → (k : ℕ) → k < count → in_span span (x0 +ℤ pos k) ≡ true }
+{
+    let end = x0 + count as i32;
+    span.x0 <= x0 && end <= span.x1
+}
+
+/// Does the leaf cover so many pixels of row `y` from column `x0` on?
+fn fills(leaf: &Leaf, y: i32, x0: i32, count: usize) -> bool
+    requires from { pos 0 ≤ℤ x0 }
+    requires within { (x0 +ℤ pos count) ≤ℤ pos 4096 }
+    ensures { IsTrue result → (k : ℕ) → k < count → leaves.covers leaf.now (x0 +ℤ pos k) y ≡ true }
+{
+    let (before, after) = pieces(leaf, y);
+    is_whole(before, x0, count) || is_whole(after, x0, count)
+}
+
+/// Is the item opaque, and does it cover so many pixels of row `y` from column `x0` on?
+fn item_hides<A: Ledger>(item: &Item<A>, y: i32, x0: i32, count: usize) -> bool
+    requires from { pos 0 ≤ℤ x0 }
+    requires within { (x0 +ℤ pos count) ≤ℤ pos 4096 }
+    ensures { IsTrue result → Hides (list.leaf item.now.leaf list.nil) y x0 count }
+{
+    let leaf = leaf_of(item);
+    if leaf.visible.w() < count as i32 {
+        return false;
+    }
+    leaf.color.a == 255 && fills(&leaf, y, x0, count)
+}
+
+/// Is the entry an opaque leaf that covers so many pixels of row `y` from column `x0` on?
+fn hides<A: Ledger>(entry: &Entry<A>, y: i32, x0: i32, count: usize) -> bool
+    requires from { pos 0 ≤ℤ x0 }
+    requires within { (x0 +ℤ pos count) ≤ℤ pos 4096 }
+    ensures { IsTrue result → (own : List named.Pick) → Hides (chosen own 0 (shown (entry.now ∷ []))) y x0 count }
+{
+    match entry {
+        Entry::Leaf(item) => item_hides(item, y, x0, count),
+        Entry::Group(_) => false,
+    }
+}
+
+/// Is there such an entry at a place?
+fn hides_at<A: Ledger>(entries: &[Entry<A>], place: u32, y: i32, x0: i32, count: usize) -> bool
+    requires from { pos 0 ≤ℤ x0 }
+    requires within { (x0 +ℤ pos count) ≤ℤ pos 4096 }
+    ensures { IsTrue result → (own : List named.Pick) → Hides (chosen own place (shown entries.now)) y x0 count }
+{
+    let index = place as usize;
+    if index < entries.len() {
+        return hides(&entries[index], y, x0, count);
+    }
+    false
+}
+
+/// At which of the picks the topmost entry outside groups is named that hides what is below it.
+pub(crate) fn cover<A: Ledger>(
+    entries: &[Entry<A>],
+    picks: &[Pick],
+    y: i32,
+    x0: i32,
+    count: usize,
+) -> Option<usize>
+    requires from { pos 0 ≤ℤ x0 }
+    requires within { (x0 +ℤ pos count) ≤ℤ pos 4096 }
+    ensures within { IfSome result (λ i. i ≤ length picks.now) }
+    ensures hides { IfSome result (λ i. (k : ℕ) (d e : Premultiplied) → k < count
+        → composed (x0 +ℤ pos k) y d (picked (drop i picks.now) (shown entries.now))
+        ≡ composed (x0 +ℤ pos k) y e (picked picks.now (shown entries.now))) }
+{
+    let mut found = None;
+    let mut i = 0;
+    while i < picks.len() {
+        let (place, own) = pick_at(picks, i);
+        if hides_at(entries, place, y, x0, count) {
+            found = Some(i);
+        }
+        i = i + 1 + own.len();
+    }
+    found
+}

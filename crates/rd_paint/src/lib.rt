@@ -1,0 +1,23 @@
+//! Painting display lists on canvases.
+//! A canvas is painted in an area, a row at a time; a group is painted into a row of its own before it is laid down.
+//! No part of a list or of a canvas is copied, and painting takes no memory.
+#![tactic(auto)]
+
+mod bands;
+mod buffers;
+mod canvas;
+mod chosen;
+mod covering;
+mod frame;
+mod gathering;
+mod narrowing;
+mod picks;
+mod plain;
+mod runs;
+mod spans;
+
+pub use buffers::{Buffers, paint_span, repaint};
+pub use canvas::Canvas;
+
+#[cfg(test)]
+mod tests;

@@ -1,0 +1,178 @@
+//! Runs of pixels of one row.
+
+ghost use Rattle.std.specs.Prelude.{◌≡◌, ℕ, ℤ, pos, ◌+◌, ◌*◌, ◌≤◌, ◌<◌, ◌+ℤ◌, ◌≤ℤ◌, ◌&&◌, ◌||◌, false, nat_le, nat_lt, int_le, int_lt, List, length, replicate};
+ghost use Rattle.rd_geom.specs.Colors.{Premultiplied, clear};
+ghost use Rattle.rd_geom.specs.Plane.{is_among, right};
+ghost use Rattle.rd_geom.specs.Areas.{in_span};
+ghost use Rattle.rd_item.specs.Leaves as leaves;
+ghost use Rattle.rd_list.specs.Entries as list;
+ghost use Rattle.rd_paint.specs.Internal.Runs.{laid_along, row_laid, tinted, piece_laid};
+
+use rd_geom::{Px, Rect, Span, over, px_of, scale};
+use rd_item::Leaf;
+
+/// Makes each pixel the same.
+pub(crate) fn fill(out: &mut [Px], px: Px)
+    ensures { out.new ≡ replicate (length out.old) px }
+{
+    for p in out.iter_mut() {
+        *p = px;
+    }
+}
+
+/// Lays a row over as many pixels, each channel scaled by the opacity.
+pub(crate) fn lay_row(out: &mut [Px], row: &[Px], opacity: u8)
+    requires { length row.now ≡ length out.old }
+    ensures { out.new ≡ row_laid opacity row.now out.old }
+{
+    for k in 0..out.len() {
+        out[k] = over(scale(row[k], opacity), out[k]);
+    }
+}
+
+/// Lays one pixel over each of the pixels.
+fn tint(out: &mut [Px], px: Px)
+    ensures { out.new ≡ tinted px out.old }
+{
+    for k in 0..out.len() {
+        out[k] = over(px, out[k]);
+    }
+}
+
+/// Lays one pixel over each of the pixels; an opaque one takes their places.
+fn lay_px(out: &mut [Px], px: Px)
+    ensures { out.new ≡ tinted px out.old }
+{
+    if px.a() == 255 {
+        fill(out, px);
+    } else {
+        tint(out, px);
+    }
+}
+
+/// Which of so many places, of which the first is in column `x0`, is in column `x`: the nearest where none is.
+fn place_of(x: i32, x0: i32, count: usize) -> usize
+    requires { pos 0 ≤ℤ x0 }
+    ensures within { result ≤ count }
+    ensures at { (k : ℕ) → k < count → int_le x (x0 +ℤ pos k) ≡ nat_le result k }
+{
+    if x <= x0 {
+        return 0;
+    }
+    let ahead = (x - x0) as usize;
+    if ahead < count { ahead } else { count }
+}
+
+/// Which of so many places, of which the first is in column `x0`, are in the span: from the first up to the second.
+fn clipped(span: Span, x0: i32, count: usize) -> (usize, usize)
+    requires { pos 0 ≤ℤ x0 }
+    ensures order { result.0 ≤ result.1 }
+    ensures within { result.1 ≤ count }
+    ensures places { (k : ℕ) → k < count → in_span span (x0 +ℤ pos k) ≡ (nat_le result.0 k && nat_lt k result.1) }
+{
+    let from = place_of(span.x0, x0, count);
+    let to = place_of(span.x1, x0, count);
+    if to < from { (from, from) } else { (from, to) }
+}
+
+/// Lays one pixel over those of the pixels from column `x0` on that are in the span.
+fn lay_piece(px: Px, span: Span, x0: i32, out: &mut [Px])
+    requires from { pos 0 ≤ℤ x0 }
+    requires within { (x0 +ℤ pos (length out.old)) ≤ℤ pos 4096 }
+    ensures { out.new ≡ piece_laid span px x0 out.old }
+{
+    let (from, to) = clipped(span, x0, out.len());
+    lay_px(&mut out[from..to], px);
+}
+
+/// Is row `y` one of the rectangle's?
+fn has_row(r: Rect, y: i32) -> bool
+    ensures { result ≡ is_among r.y r.h y }
+{
+    let top = r.y();
+    let bottom = top + r.h();
+    top <= y && y < bottom
+}
+
+/// The columns of a rectangle.
+fn columns(r: Rect) -> Span
+    ensures { result ≡ record { x0 = r.x; x1 = right r } }
+{
+    Span {
+        x0: r.x(),
+        x1: r.x() + r.w(),
+    }
+}
+
+/// The columns that are in both.
+fn both(a: Span, b: Span) -> Span
+    ensures { (x : ℤ) → in_span result x ≡ (in_span a x && in_span b x) }
+{
+    left_of(right_from(a, b.x0), b.x1)
+}
+
+/// The columns of a span left of column `edge`.
+fn left_of(run: Span, edge: i32) -> Span
+    ensures { (x : ℤ) → in_span result x ≡ (in_span run x && int_lt x edge) }
+{
+    Span {
+        x0: run.x0,
+        x1: run.x1.min(edge),
+    }
+}
+
+/// The columns of a span from column `edge` on.
+fn right_from(run: Span, edge: i32) -> Span
+    ensures { (x : ℤ) → in_span result x ≡ (in_span run x && int_le edge x) }
+{
+    Span {
+        x0: run.x0.max(edge),
+        x1: run.x1,
+    }
+}
+
+/// No column.
+fn no_columns() -> Span
+    ensures { (x : ℤ) → in_span result x ≡ false }
+{
+    Span { x0: 0, x1: 0 }
+}
+
+/// The columns of row `y` that a leaf covers, as two spans without a common column.
+pub(crate) fn pieces(leaf: &Leaf, y: i32) -> (Span, Span)
+    ensures covered { (x : ℤ) → leaves.covers leaf.now x y ≡ (in_span result.0 x || in_span result.1 x) }
+    ensures apart { (x : ℤ) → (in_span result.0 x && in_span result.1 x) ≡ false }
+{
+    let none = no_columns();
+    if !has_row(leaf.shape.outer, y) {
+        return (none, none);
+    }
+    if !has_row(leaf.visible, y) {
+        return (none, none);
+    }
+    let outer = columns(leaf.shape.outer);
+    let seen = columns(leaf.visible);
+    let run = both(outer, seen);
+    let hole = columns(leaf.shape.inner);
+    if !has_row(leaf.shape.inner, y) {
+        return (run, none);
+    }
+    if hole.x1 <= hole.x0 {
+        return (run, none);
+    }
+    let before = left_of(run, hole.x0);
+    let after = right_from(run, hole.x1);
+    (before, after)
+}
+
+/// Lays a leaf over the pixels of row `y` from column `x0` on.
+pub(crate) fn lay_leaf(leaf: &Leaf, y: i32, x0: i32, out: &mut [Px])
+    requires from { pos 0 ≤ℤ x0 }
+    requires within { (x0 +ℤ pos (length out.old)) ≤ℤ pos 4096 }
+    ensures { out.new ≡ laid_along y x0 (list.leaf leaf.now list.nil) out.old }
+{
+    let px = px_of(leaf.color);
+    let (before, after) = pieces(leaf, y);
+    lay_piece(px, before, x0, out);
+    lay_piece(px, after, x0, out);
+}
