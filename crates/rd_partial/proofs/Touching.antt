@@ -1,0 +1,106 @@
+-- The loop over siblings that adds what touched boxes show.
+use Rattle.std.proofs.Common.{◌≡◌, refl, ap, ◌∙◌, sym, subst, Bool, true, false, cond, ◌&&◌, ◌||◌, ℤ, ℕ, ◌+◌, ◌≤◌, ◌<◌, arith}
+use Rattle.std.specs.Prelude.{Option, Some, None}
+use Rattle.rd_geom.specs.Areas.{Region}
+use Rattle.rd_keys.specs.Keys.{BoxKey, same_key}
+use Rattle.rd_tree.specs.Forest.{empty, tree, starting_at, from_some, size, head}
+use Rattle.rd_tree.specs.declared.node.Item.{Item}
+use Rattle.rd_tree.specs.Document.{BoxForest, Document}
+use Rattle.rd_tree.specs.Hulls.{any_touched}
+use Rattle.rd_tree.specs.Shown.{Shown, shown}
+use Rattle.rd_stack.specs.Fresh.{box_data}
+use Rattle.rd_partial.specs.Internal.Counting.{looks_below}
+use Rattle.rd_partial.specs.Internal.Looked.{Onward}
+use Rattle.rd_partial.specs.Internal.Standing.{Standing, below}
+use Rattle.rd_partial.specs.Internal.Touched.{Joins, HasMarks, box_shows, touched_shows, own_shows, shows_below, leads_to_touched, looks_under}
+use Rattle.rd_partial.specs.declared.look.Looked.{Looked}
+use Rattle.rd_partial.proofs.Adding.{joins_then, joins_same, joins_none}
+
+-- a look tells the marks
+pub marks_told : (root : BoxKey) (g : BoxForest) (v : Shown) → Some v ≡ shown root g → HasMarks g v.touched v.touched_below
+marks_told root empty v h = tt
+marks_told root (tree k d below rest) v h = (cc (h), cc (h))
+
+either : (a b : Bool) → (a || b) ≡ false → (a ≡ false) × (b ≡ false)
+either true b h = cc
+either false b h = (refl, h)
+
+-- where no box is touched nothing shows
+pub none_shows : (s : Standing) (f : BoxForest) (x y : ℤ) → any_touched f ≡ false → touched_shows s f x y ≡ false
+none_shows s empty x y h = refl
+none_shows s (tree k d ch nx) x y h =
+    let e = either d.touched (any_touched ch || any_touched nx) h in
+    let g = either (any_touched ch) (any_touched nx) e.1 in
+    rw (e.0, none_shows (below s (box_data k d)) ch x y g.0, none_shows s nx x y g.1) refl
+
+three : (a b c : Bool) → ((a || b) || c) ≡ (a || (b || c))
+three true b c = refl
+three false b c = refl
+
+-- what the loop over siblings keeps
+pub record Added (s : Standing) (first next : BoxForest) (before now : Region) (looks0 looks : ℕ) : Type 0 where
+  pub fewer : size next ≤ size first
+  pub then : (c : Region) → Joins (touched_shows s next) now c → Joins (touched_shows s first) before c
+  pub looks_is : looks + looks_below leads_to_touched next ≤ looks0 + looks_below leads_to_touched first
+
+module _ (s : Standing) (t : Document) (k : BoxKey) (v : Looked) (w : Onward t.boxes k v.here v.first_child v.next_sibling v.hull) (m : HasMarks (starting_at same_key k t.boxes) v.touched v.touched_below) where
+  marks : (v.touched ≡ w.item.touched) × (v.touched_below ≡ any_touched w.below)
+  marks = subst (λ z. HasMarks z v.touched v.touched_below) w.is m
+
+  below_is : (x y : ℤ) → shows_below s v t x y ≡ touched_shows (below s (box_data k w.item)) w.below x y
+  below_is x y = rw (w.data_is, w.child, marks.1) (by (any_touched w.below) refl)
+    where
+      by : (b : Bool) → any_touched w.below ≡ b → (b && touched_shows (below s (box_data k w.item)) w.below x y) ≡ touched_shows (below s (box_data k w.item)) w.below x y
+      by true e = refl
+      by false e = sym (none_shows (below s (box_data k w.item)) w.below x y e)
+
+  here_shows : (x y : ℤ) → ((own_shows s v x y || shows_below s v t x y) || touched_shows s (from_some same_key v.next_sibling t.boxes) x y) ≡ touched_shows s (starting_at same_key k t.boxes) x y
+  here_shows x y =
+      three (own_shows s v x y) (shows_below s v t x y) (touched_shows s (from_some same_key v.next_sibling t.boxes) x y)
+      ∙ rw (below_is x y, marks.0, w.data_is, w.next, w.is) refl
+
+  looks_more : looks_below leads_to_touched (starting_at same_key k t.boxes) ≡ 1 + looks_under v t + looks_below leads_to_touched (from_some same_key v.next_sibling t.boxes)
+  looks_more = rw (w.is, marks.1, w.child, w.next) refl
+
+  size_more : size (starting_at same_key k t.boxes) ≡ 1 + (size (from_some same_key v.first_child t.boxes) + size (from_some same_key v.next_sibling t.boxes))
+  size_more = rw (w.is, w.child, w.next) refl
+
+  pub added_one : (first : BoxForest) (before now one two : Region) (looks0 looks looks1 looks2 : ℕ) (o : Option BoxKey) → o ≡ Some k
+      → Added s first (from_some same_key o t.boxes) before now looks0 looks → Joins (own_shows s v) now one → Joins (shows_below s v t) one two
+      → looks1 ≡ looks + 1 → looks2 ≤ looks1 + looks_under v t → Added s first (from_some same_key v.next_sibling t.boxes) before two looks0 looks2
+  added_one first before now one two looks0 looks looks1 looks2 o e i h l c u =
+      let j : Added s first (starting_at same_key k t.boxes) before now looks0 looks = subst (λ z. Added s first (from_some same_key z t.boxes) before now looks0 looks) e i in
+      let sm = size_more in
+      let lm = looks_more in
+      record {
+        fewer = omega (arith, sm, j.fewer);
+        then = λ r n.
+            j.then r (joins_same (λ x y. (own_shows s v x y || shows_below s v t x y) || touched_shows s (from_some same_key v.next_sibling t.boxes) x y) (touched_shows s (starting_at same_key k t.boxes)) now r here_shows
+            (joins_then (λ x y. own_shows s v x y || shows_below s v t x y) (touched_shows s (from_some same_key v.next_sibling t.boxes)) now two r (joins_then (own_shows s v) (shows_below s v t) now one two h l) n));
+        looks_is = omega (arith, lm, j.looks_is, c, u);
+      }
+
+  -- also where memory is wanting in it
+  pub added_looks : (first : BoxForest) (before now : Region) (looks0 looks looks1 looks2 : ℕ) (o : Option BoxKey) → o ≡ Some k
+      → Added s first (from_some same_key o t.boxes) before now looks0 looks → looks1 ≡ looks + 1 → looks2 ≤ looks1 + looks_under v t → looks2 ≤ looks0 + looks_below leads_to_touched first
+  added_looks first before now looks0 looks looks1 looks2 o e i c u =
+      let j : Added s first (starting_at same_key k t.boxes) before now looks0 looks = subst (λ z. Added s first (from_some same_key z t.boxes) before now looks0 looks) e i in
+      let lm = looks_more in
+      omega (arith, lm, j.looks_is, c, u)
+
+  -- fewer boxes are below it than there are from it on
+  pub fewer_below : (first : BoxForest) (before now : Region) (looks0 looks : ℕ) (o : Option BoxKey) → o ≡ Some k → Added s first (from_some same_key o t.boxes) before now looks0 looks
+      → size (from_some same_key v.first_child t.boxes) < size first
+  fewer_below first before now looks0 looks o e i =
+      let j : Added s first (starting_at same_key k t.boxes) before now looks0 looks = subst (λ z. Added s first (from_some same_key z t.boxes) before now looks0 looks) e i in
+      let sm = size_more in
+      omega (arith, sm, j.fewer)
+
+pub added_begin : (s : Standing) (first : BoxForest) (a : Region) (looks : ℕ) → Added s first first a a looks looks
+added_begin s first a looks = record { fewer = omega arith; then = λ c h. h; looks_is = omega arith }
+
+pub added_end : (s : Standing) (first next : BoxForest) (before now : Region) (looks0 looks : ℕ) → next ≡ empty → Added s first next before now looks0 looks
+    → Joins (touched_shows s first) before now × (looks ≤ looks0 + looks_below leads_to_touched first)
+added_end s first next before now looks0 looks e i =
+    let j : Added s first empty before now looks0 looks = subst (λ z. Added s first z before now looks0 looks) e i in
+    (j.then now (joins_none (touched_shows s empty) now (λ x y. refl)), omega (arith, j.looks_is))

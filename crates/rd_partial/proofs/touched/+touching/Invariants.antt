@@ -1,0 +1,19 @@
+use Rattle.std.proofs.Common.{◌≡◌, ◌+◌, ◌*◌}
+use Rattle.rd_keys.specs.Keys.{same_key}
+use Rattle.rd_tree.specs.Forest.{from_some, size, head}
+use Rattle.rd_partial.proofs.Touching.{Added}
+use Rattle.rd_partial.proofs.touched.+touching.Given as goal
+
+abbrev pub decreases-add_below : goal.decreases-add_below
+decreases-add_below g l = 2 * size (from_some same_key l.looked.now.first_child l.tree.now.boxes) + 1
+
+abbrev pub decreases-add_siblings : goal.decreases-add_siblings
+decreases-add_siblings g l = 2 * size (from_some same_key l.first l.tree.now.boxes)
+
+abbrev pub decreases-add_siblings-loop-next : goal.decreases-add_siblings-loop-next
+decreases-add_siblings-loop-next g l = size (from_some same_key l.next l.tree.boxes)
+
+abbrev pub invariant-add_siblings-loop-next : goal.invariant-add_siblings-loop-next
+invariant-add_siblings-loop-next g l =
+    (l.next ≡ head (from_some same_key l.next l.tree.boxes))
+    × Added l.s (from_some same_key l.fn.first l.tree.boxes) (from_some same_key l.next l.tree.boxes) l.fn.area l.area l.fn.looks l.looks

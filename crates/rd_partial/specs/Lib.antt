@@ -1,0 +1,4 @@
+pub mod Numbered
+pub mod Looks
+pub mod Invalid
+pub mod Internal

@@ -1,0 +1,21 @@
+//! The painting order of a tree in one downward pass, as far as it is wanted.
+//!
+//! The pass drops each box into the lists of the box that paints it; subtrees of which nothing is wanted are not entered.
+#![tactic(auto)]
+
+mod bands;
+mod built;
+mod give;
+pub mod laws;
+mod look;
+mod order;
+mod standing;
+mod touched;
+mod walk;
+mod wanted;
+
+pub use built::{build, build_all};
+pub use touched::touched_area;
+
+#[cfg(test)]
+mod tests;

@@ -1,0 +1,171 @@
+//! What a box paints: its own parts, and the lists that it was given on top.
+ghost use Rattle.std.specs.Prelude.{◌≡◌, OnOk, IfOk, ◌+◌, ◌≤◌, not, map};
+ghost use Rattle.rd_style.specs.Classes as styles;
+ghost use Rattle.rd_keys.specs.declared.entry.Part.TheVariants as parts;
+ghost use Rattle.rd_list.specs.Entries.{◌▷◌, nil, each, has_leaf, flat, is_empty};
+ghost use Rattle.rd_list.specs.Nested.{laid_out};
+ghost use Rattle.rd_partial.specs.Internal.Bands.{entries_if, by_level};
+ghost use Rattle.rd_partial.specs.Internal.Pass as pass;
+ghost use Rattle.rd_partial.specs.Internal.Held.{held_stack};
+ghost use Rattle.rd_partial.specs.Internal.Given.{gives, gives_back_border, back_border_cost};
+ghost use Rattle.rd_partial.specs.Internal.Work.{own_cost};
+
+use crate::bands::{Layers, Local, Stacked};
+use crate::give::give;
+use crate::standing::Standing;
+use crate::wanted::Wanted;
+use rd_geom::{NoMemory, Steps};
+use rd_keys::Part;
+use rd_list::{NewList, Pieces};
+use rd_stack::BoxData;
+use rd_style::{blocky, real};
+use std::alloc::Global;
+use std::sync::ledger::Ledger;
+
+/// The background, and the border on top of it (CSS 2.2 Appendix E.2).
+#[tactic(auto, using(crate::proofs::Joining::joins))]
+pub fn back_border<A: Ledger, W: Wanted>(
+    out: &mut Pieces<A>,
+    wanted: &W,
+    number: u64,
+    s: &Standing,
+    b: &BoxData,
+    made: &mut Steps<A>,
+) -> Result<(), NoMemory>
+    ensures list { OnOk result (laid_out out.new ≡ laid_out out.old
+        ▷ gives_back_border (W.wants wanted.now) number s.now b.now) }
+    ensures made { OnOk result (made.new ≡ made.old + back_border_cost (W.wants wanted.now) number s.now b.now) }
+    ensures most { made.new ≤ made.old + back_border_cost (W.wants wanted.now) number s.now b.now }
+{
+    give(out, wanted, number, s, b, Part::Back, made)?;
+    give(out, wanted, number, s, b, Part::Border, made)
+}
+
+/// What a box paints of itself before and in its line.
+#[derive(Drop)]
+pub struct Begun<A: Ledger> {
+    pub out: Pieces<A>,
+    pub line: Pieces<A>,
+    pub outlines: Pieces<A>,
+}
+
+/// The background and the border of a box, under its layers where it is laid out as a block and else in its line; then its content and its outline.
+#[tactic(auto, using(crate::proofs::Joining::joins))]
+pub fn begin<A: Ledger, W: Wanted>(
+    alloc: Global,
+    wanted: &W,
+    number: u64,
+    s: &Standing,
+    b: &BoxData,
+    made: &mut Steps<A>,
+) -> Result<Begun<A>, NoMemory>
+    ensures out { IfOk result (λ r. laid_out r.out ≡ entries_if (styles.blocky b.now.style s.now.root)
+        (gives_back_border (W.wants wanted.now) number s.now b.now)) }
+    ensures line { IfOk result (λ r. laid_out r.line ≡ entries_if (not (styles.blocky b.now.style s.now.root))
+        (gives_back_border (W.wants wanted.now) number s.now b.now)
+        ▷ gives (W.wants wanted.now) number s.now b.now parts.Content) }
+    ensures outlines { IfOk result (λ r. laid_out r.outlines ≡ gives
+        (W.wants wanted.now) number s.now b.now parts.Outline) }
+    ensures made { OnOk result (made.new ≡ made.old + own_cost (W.wants wanted.now) number s.now b.now) }
+    ensures most { made.new ≤ made.old + own_cost (W.wants wanted.now) number s.now b.now }
+{
+    let mut out = Pieces::empty(alloc);
+    let mut line = Pieces::empty(alloc);
+    let mut outlines = Pieces::empty(alloc);
+    let mut own = Pieces::empty(alloc);
+    back_border(&mut own, wanted, number, s, b, made)?;
+    if blocky(b.style(), s.is_root()) {
+        out = own;
+    } else {
+        line = own;
+    }
+    give(&mut line, wanted, number, s, b, Part::Content, made)?;
+    give(&mut outlines, wanted, number, s, b, Part::Outline, made)?;
+    Ok(Begun {
+        out,
+        line,
+        outlines,
+    })
+}
+
+/// The lists of layers, one on top of another.
+fn join_layers<A: Ledger>(out: &mut Pieces<A>, layers: Vec<Stacked<A>>) -> Result<(), NoMemory>
+    ensures { OnOk result (laid_out out.new ≡ laid_out out.old ▷ each (λ y. y.order) (map held_stack layers.items)) }
+{
+    for layer in layers {
+        out.join(layer.order)?;
+    }
+    Ok(())
+}
+
+fn level_of<A: Ledger>(y: &Stacked<A>) -> i32
+    ensures { result ≡ y.now.level }
+{
+    y.level
+}
+
+/// The lowest level first, and those of one level as they stood.
+fn in_order<A: Ledger>(layers: &mut Vec<Stacked<A>>) -> Result<(), NoMemory>
+    ensures { OnOk result (map held_stack layers.new.items ≡ by_level (map held_stack layers.old.items)) }
+{
+    layers.sort_by_key(level_of)?;
+    Ok(())
+}
+
+/// All lists of a box, one on top of another (CSS 2.2 Appendix E.2).
+#[tactic(auto, using(crate::proofs::Joining::joins))]
+pub fn finish<A: Ledger>(
+    out: Pieces<A>,
+    local: Local<A>,
+    layers: Layers<A>,
+) -> Result<Pieces<A>, NoMemory>
+    ensures { IfOk result (λ p. laid_out p ≡ laid_out out ▷ each (λ y. y.order) (by_level
+        (map held_stack layers.negatives.items)) ▷ laid_out local.backgrounds ▷ laid_out local.floats
+        ▷ laid_out local.line ▷ laid_out local.contents ▷ laid_out layers.zeros
+        ▷ each (λ y. y.order) (by_level (map held_stack layers.positives.items)) ▷ laid_out local.outlines) }
+{
+    let Layers {
+        mut negatives,
+        zeros,
+        mut positives,
+    } = layers;
+    let mut out = out;
+    in_order(&mut negatives)?;
+    join_layers(&mut out, negatives)?;
+    out.join(local.backgrounds)?;
+    out.join(local.floats)?;
+    out.join(local.line)?;
+    out.join(local.contents)?;
+    out.join(zeros)?;
+    in_order(&mut positives)?;
+    join_layers(&mut out, positives)?;
+    out.join(local.outlines)?;
+    Ok(out)
+}
+
+/// A translucent stacking context is composed as one group (CSS Color 3 section 3.2).
+#[tactic(auto, using(crate::proofs::Joining::joins))]
+pub fn as_group<A: Ledger>(
+    alloc: Global,
+    root: bool,
+    b: &BoxData,
+    order: Pieces<A>,
+) -> Result<Pieces<A>, NoMemory>
+    requires filled { has_leaf (flat (laid_out order)) ≡ not (is_empty (laid_out order)) }
+    ensures { IfOk result (λ p. laid_out p ≡ pass.as_group root b.now (laid_out order)) }
+{
+    if order.is_empty() {
+        return Ok(order);
+    }
+    if !real(b.style(), root) {
+        return Ok(order);
+    }
+    if b.style().opacity == 255 {
+        return Ok(order);
+    }
+    let mut inner = NewList::empty(alloc);
+    order.lay_out(&mut inner)?;
+    let mut out = Pieces::empty(alloc);
+    out.push_group(b.key(), b.style().opacity, inner)?;
+    Ok(out)
+}

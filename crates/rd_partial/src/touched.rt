@@ -1,0 +1,162 @@
+//! The area that touched boxes invalidate.
+ghost use Rattle.std.specs.Prelude.{◌≡◌, ◌≤◌, ◌+◌, ◌∷◌, [], ℤ, IfOk, OnOk};
+ghost use Rattle.rd_geom.specs.Areas.{in_area};
+ghost use Rattle.rd_list.specs.EntryNames.{kept_leaves};
+ghost use Rattle.rd_list.specs.KeptView.{kept_entries};
+ghost use Rattle.rd_stack.specs.Internal.Looks.{IsFirst};
+ghost use Rattle.rd_partial.specs.Looks.{holds_touched, looks_bound};
+ghost use Rattle.rd_partial.specs.Invalid.{any_shows, is_invalid};
+ghost use Rattle.rd_partial.specs.Internal.Touched.{Joins, leaf_shows, box_shows, own_shows, shows_below, shows_from, touched_looks, looks_under};
+
+use crate::look::{Looked, look_at};
+use crate::standing::Standing;
+use rd_area::Area;
+use rd_geom::{NoMemory, Steps};
+use rd_item::Leaf;
+use rd_keys::{BoxKey, Part};
+use rd_list::{Entry, ListView};
+use rd_stack::BoxData;
+use rd_tree::Tree;
+use std::alloc::Global;
+use std::sync::ledger::Ledger;
+
+fn add_leaf(area: &mut Area, leaf: Option<Leaf>) -> Result<(), NoMemory>
+    ensures { OnOk result (Joins (leaf_shows leaf) area.old area.new) }
+{
+    match leaf {
+        Some(leaf) => {
+            area.add(leaf.visible)?;
+            Ok(())
+        }
+        None => Ok(()),
+    }
+}
+
+/// Adds what may be seen of a box.
+fn add_box(area: &mut Area, s: &Standing, b: &BoxData) -> Result<(), NoMemory>
+    ensures { OnOk result (Joins (box_shows s.now b.now) area.old area.new) }
+{
+    add_leaf(area, s.leaf(b, Part::Back))?;
+    add_leaf(area, s.leaf(b, Part::Border))?;
+    add_leaf(area, s.leaf(b, Part::Content))?;
+    add_leaf(area, s.leaf(b, Part::Outline))?;
+    Ok(())
+}
+
+/// Adds what may be seen of a box, if it is touched.
+fn add_if_touched(area: &mut Area, s: &Standing, looked: &Looked) -> Result<(), NoMemory>
+    ensures { OnOk result (Joins (own_shows s.now looked.now) area.old area.new) }
+{
+    if looked.touched {
+        add_box(area, s, &looked.here)
+    } else {
+        Ok(())
+    }
+}
+
+/// Adds what may be seen of the touched boxes below a box; where there is none, no box is looked at.
+#[cycle(touching)]
+fn add_below<B: Ledger>(
+    tree: &Tree<B>,
+    area: &mut Area,
+    s: &Standing,
+    looked: &Looked,
+    looks: &mut Steps<B>,
+) -> Result<(), NoMemory>
+    requires live { IsFirst looked.now.first_child tree.now }
+    ensures area { OnOk result (Joins (shows_below s.now looked.now tree.now) area.old area.new) }
+    ensures looks { looks.new ≤ looks.old + looks_under looked.now tree.now }
+{
+    if looked.touched_below {
+        add_siblings(
+            tree,
+            area,
+            &s.below(&looked.here),
+            looked.first_child,
+            looks,
+        )
+    } else {
+        Ok(())
+    }
+}
+
+/// Adds what may be seen of the touched ones of some siblings, and of the touched boxes below them.
+#[cycle(touching)]
+fn add_siblings<B: Ledger>(
+    tree: &Tree<B>,
+    area: &mut Area,
+    s: &Standing,
+    first: Option<BoxKey>,
+    looks: &mut Steps<B>,
+) -> Result<(), NoMemory>
+    requires live { IsFirst first tree.now }
+    ensures area { OnOk result (Joins (shows_from s.now first tree.now) area.old area.new) }
+    ensures looks { looks.new ≤ looks.old + touched_looks first tree.now }
+{
+    let mut next = first;
+    while let Some(key) = next {
+        let looked = match look_at(tree, key, looks) {
+            Some(looked) => looked,
+            None => break,
+        };
+        add_if_touched(area, s, &looked)?;
+        add_below(tree, area, s, &looked, looks)?;
+        next = looked.next_sibling;
+    }
+    Ok(())
+}
+
+/// Adds what may be seen of the leaves of touched boxes in a level of a list, and in its groups.
+#[cycle(listing)]
+fn add_entries<A: Ledger, B: Ledger>(
+    tree: &Tree<B>,
+    area: &mut Area,
+    entries: &[Entry<A>],
+) -> Result<(), NoMemory>
+    ensures { OnOk result (Joins (any_shows tree.now (kept_leaves (kept_entries entries.now))) area.old area.new) }
+{
+    for entry in entries {
+        add_entry(tree, area, entry)?;
+    }
+    Ok(())
+}
+
+#[cycle(listing)]
+fn add_entry<A: Ledger, B: Ledger>(
+    tree: &Tree<B>,
+    area: &mut Area,
+    entry: &Entry<A>,
+) -> Result<(), NoMemory>
+    ensures { OnOk result (Joins (any_shows tree.now (kept_leaves (kept_entries (entry.now ∷ [])))) area.old area.new) }
+{
+    match entry {
+        Entry::Leaf(item) => {
+            if tree.touched(item.owner()) {
+                area.add(item.visible())?;
+            }
+            Ok(())
+        }
+        Entry::Group(group) => add_entries(tree, area, &group.inner.entries),
+    }
+}
+
+/// The pixels of the canvas in the visible rectangle of a leaf of a touched box, in a list that was painted before or in
+/// the fresh list of the tree. The list is read once, and no box of the tree is entered that is not touched and has no
+/// touched box below it. Looks are counted in `looks`, also where memory is wanting.
+pub fn touched_area<A: Ledger, B: Ledger>(
+    alloc: Global,
+    tree: &Tree<B>,
+    list: ListView<'_, A>,
+    looks: &mut Steps<B>,
+) -> Result<Area, NoMemory>
+    ensures canvas { IfOk result (λ a. a.size ≡ tree.now.canvas) }
+    ensures area { IfOk result (λ a. (x y : ℤ) → in_area a x y
+        ≡ is_invalid tree.now (kept_leaves list.entry.list.now.entries) x y) }
+    ensures looks { looks.new ≤ looks.old + looks_bound holds_touched tree.now.boxes }
+{
+    let mut area = Area::none(alloc, tree.canvas())?;
+    add_entries(tree, &mut area, list.entries())?;
+    let s = Standing::at_root(tree.canvas());
+    add_siblings(tree, &mut area, &s, Some(tree.root()), looks)?;
+    Ok(area)
+}

@@ -1,0 +1,637 @@
+//! One downward pass over a tree, which drops each box into the lists of the box that paints it (CSS 2.2 Appendix E.2).
+ghost use Rattle.std.specs.Prelude.{◌≡◌, OnOk, IfOk, ◌+◌, ◌≤◌, false, true};
+ghost use Rattle.rd_keys.specs.Keys.{same_key};
+ghost use Rattle.rd_style.specs.Classes as styles;
+ghost use Rattle.rd_style.specs.declared.kinds.Class.TheVariants as classes;
+ghost use Rattle.rd_list.specs.Entries.{◌▷◌, nil, only};
+ghost use Rattle.rd_list.specs.Nested.{laid_out};
+ghost use Rattle.rd_keys.specs.declared.entry.Part.TheVariants as parts;
+ghost use Rattle.rd_tree.specs.Forest.{IsApart};
+ghost use Rattle.rd_stack.specs.Fresh.{fresh_list};
+ghost use Rattle.rd_stack.specs.Internal.Looks.{IsFirst};
+ghost use Rattle.rd_partial.specs.Numbered.{numbered};
+ghost use Rattle.rd_partial.specs.Internal.Bands.{◌⊕◌};
+ghost use Rattle.rd_partial.specs.Internal.Pass as pass;
+ghost use Rattle.rd_partial.specs.Internal.Held.{held};
+ghost use Rattle.rd_partial.specs.Internal.Given.{gives, gives_back_border};
+ghost use Rattle.rd_partial.specs.Internal.Counting.{leaves_in, root_visits};
+ghost use Rattle.rd_partial.specs.Internal.Work.{layer_bands, layers_of, held_layers, own_cost, passes_from, passes_below, paints_from, boxed_from, cost_from, siblings_cost, visits_from};
+
+use crate::bands::{Layers, Local, Stacked};
+use crate::give::give;
+use crate::look::{Looked, look_at};
+use crate::order::{Begun, as_group, back_border, begin, finish};
+use crate::standing::Standing;
+use crate::wanted::Wanted;
+use rd_geom::{NoMemory, Steps};
+use rd_keys::{BoxKey, Part};
+use rd_list::{NewList, Pieces};
+use rd_stack::BoxData;
+use rd_style::{Class, class_of, level, real};
+use rd_tree::Tree;
+use std::alloc::Global;
+use std::mem::replace;
+use std::sync::ledger::Ledger;
+
+fn level_in(b: &BoxData) -> i32
+    ensures { result ≡ pass.level_in b.now }
+{
+    match level(b.style(), false) {
+        Some(z) => z,
+        None => 0,
+    }
+}
+
+/// All that a stacking context paints.
+#[cycle(build)]
+fn context<A: Ledger, B: Ledger, W: Wanted>(
+    alloc: Global,
+    tree: &Tree<B>,
+    wanted: &W,
+    number: u64,
+    s: &Standing,
+    b: &BoxData,
+    first: Option<BoxKey>,
+    made: &mut Steps<A>,
+    looks: &mut Steps<B>,
+) -> Result<Pieces<A>, NoMemory>
+    requires real { styles.real b.now.style s.now.root ≡ true }
+    requires live { IsFirst first tree.now }
+    ensures list { IfOk result (λ p. laid_out p ≡ paints_from (W.wants wanted.now) number s.now b.now first tree.now) }
+    ensures made { OnOk result (made.new ≡ made.old + cost_from
+        (W.wants wanted.now) number s.now b.now first tree.now) }
+    ensures most { made.new ≤ made.old + cost_from (W.wants wanted.now) number s.now b.now first tree.now }
+    ensures looks { looks.new ≤ looks.old + visits_from (W.wants wanted.now) first tree.now }
+{
+    let Begun {
+        out,
+        line,
+        outlines,
+    } = begin(alloc, wanted, number, s, b, made)?;
+    let mut local = Local {
+        backgrounds: Pieces::empty(alloc),
+        floats: Pieces::empty(alloc),
+        line,
+        contents: Pieces::empty(alloc),
+        outlines,
+    };
+    let mut layers = Layers {
+        negatives: Vec::new(alloc),
+        zeros: Pieces::empty(alloc),
+        positives: Vec::new(alloc),
+    };
+    let inner = s.below(b);
+    children(
+        alloc,
+        tree,
+        wanted,
+        number,
+        &inner,
+        first,
+        &mut local,
+        &mut layers,
+        made,
+        looks,
+    )?;
+    let order = finish(out, local, layers)?;
+    Ok(order)
+}
+
+/// All that a box paints as if it made a stacking context; the layers below it go to its own stacking context.
+#[cycle(build)]
+fn aside<A: Ledger, B: Ledger, W: Wanted>(
+    alloc: Global,
+    tree: &Tree<B>,
+    wanted: &W,
+    number: u64,
+    s: &Standing,
+    b: &BoxData,
+    first: Option<BoxKey>,
+    layers: &mut Layers<A>,
+    made: &mut Steps<A>,
+    looks: &mut Steps<B>,
+) -> Result<Pieces<A>, NoMemory>
+    requires unreal { styles.real b.now.style s.now.root ≡ false }
+    requires live { IsFirst first tree.now }
+    ensures list { IfOk result (λ p. laid_out p ≡ paints_from (W.wants wanted.now) number s.now b.now first tree.now) }
+    ensures layers { OnOk result (held_layers layers.new ≡ held_layers layers.old
+        ⊕ layers_of (passes_below (W.wants wanted.now) number s.now b.now first tree.now)) }
+    ensures made { OnOk result (made.new ≡ made.old + cost_from
+        (W.wants wanted.now) number s.now b.now first tree.now) }
+    ensures most { made.new ≤ made.old + cost_from (W.wants wanted.now) number s.now b.now first tree.now }
+    ensures looks { looks.new ≤ looks.old + visits_from (W.wants wanted.now) first tree.now }
+{
+    let Begun {
+        out,
+        line,
+        outlines,
+    } = begin(alloc, wanted, number, s, b, made)?;
+    let mut local = Local {
+        backgrounds: Pieces::empty(alloc),
+        floats: Pieces::empty(alloc),
+        line,
+        contents: Pieces::empty(alloc),
+        outlines,
+    };
+    let inner = s.below(b);
+    children(
+        alloc, tree, wanted, number, &inner, first, &mut local, layers, made, looks,
+    )?;
+    let none = Layers {
+        negatives: Vec::new(alloc),
+        zeros: Pieces::empty(alloc),
+        positives: Vec::new(alloc),
+    };
+    let order = finish(out, local, none)?;
+    Ok(order)
+}
+
+/// Drops a float.
+#[cycle(build)]
+fn float<A: Ledger, B: Ledger, W: Wanted>(
+    alloc: Global,
+    tree: &Tree<B>,
+    wanted: &W,
+    number: u64,
+    s: &Standing,
+    b: &BoxData,
+    first: Option<BoxKey>,
+    local: &mut Local<A>,
+    layers: &mut Layers<A>,
+    made: &mut Steps<A>,
+    looks: &mut Steps<B>,
+) -> Result<(), NoMemory>
+    requires class { styles.class b.now.style false ≡ classes.Float }
+    requires root { s.now.root ≡ false }
+    requires live { IsFirst first tree.now }
+    ensures list { OnOk result (held local.new layers.new ≡ held local.old layers.old
+        ⊕ boxed_from (W.wants wanted.now) number s.now b.now first tree.now) }
+    ensures made { OnOk result (made.new ≡ made.old + cost_from
+        (W.wants wanted.now) number s.now b.now first tree.now) }
+    ensures most { made.new ≤ made.old + cost_from (W.wants wanted.now) number s.now b.now first tree.now }
+    ensures looks { looks.new ≤ looks.old + visits_from (W.wants wanted.now) first tree.now }
+{
+    let order = aside(
+        alloc, tree, wanted, number, s, b, first, layers, made, looks,
+    )?;
+    local.floats.join(order)?;
+    Ok(())
+}
+
+/// Drops an atomic inline.
+#[cycle(build)]
+fn atom<A: Ledger, B: Ledger, W: Wanted>(
+    alloc: Global,
+    tree: &Tree<B>,
+    wanted: &W,
+    number: u64,
+    s: &Standing,
+    b: &BoxData,
+    first: Option<BoxKey>,
+    local: &mut Local<A>,
+    layers: &mut Layers<A>,
+    made: &mut Steps<A>,
+    looks: &mut Steps<B>,
+) -> Result<(), NoMemory>
+    requires class { styles.class b.now.style false ≡ classes.Atom }
+    requires root { s.now.root ≡ false }
+    requires live { IsFirst first tree.now }
+    ensures list { OnOk result (held local.new layers.new ≡ held local.old layers.old
+        ⊕ boxed_from (W.wants wanted.now) number s.now b.now first tree.now) }
+    ensures made { OnOk result (made.new ≡ made.old + cost_from
+        (W.wants wanted.now) number s.now b.now first tree.now) }
+    ensures most { made.new ≤ made.old + cost_from (W.wants wanted.now) number s.now b.now first tree.now }
+    ensures looks { looks.new ≤ looks.old + visits_from (W.wants wanted.now) first tree.now }
+{
+    let order = aside(
+        alloc, tree, wanted, number, s, b, first, layers, made, looks,
+    )?;
+    local.line.join(order)?;
+    Ok(())
+}
+
+/// Drops an inline box, and those below it into the same line.
+#[cycle(build)]
+fn inline<A: Ledger, B: Ledger, W: Wanted>(
+    alloc: Global,
+    tree: &Tree<B>,
+    wanted: &W,
+    number: u64,
+    s: &Standing,
+    b: &BoxData,
+    first: Option<BoxKey>,
+    local: &mut Local<A>,
+    layers: &mut Layers<A>,
+    made: &mut Steps<A>,
+    looks: &mut Steps<B>,
+) -> Result<(), NoMemory>
+    requires class { styles.class b.now.style false ≡ classes.Inline }
+    requires root { s.now.root ≡ false }
+    requires live { IsFirst first tree.now }
+    ensures list { OnOk result (held local.new layers.new ≡ held local.old layers.old
+        ⊕ boxed_from (W.wants wanted.now) number s.now b.now first tree.now) }
+    ensures made { OnOk result (made.new ≡ made.old + cost_from
+        (W.wants wanted.now) number s.now b.now first tree.now) }
+    ensures most { made.new ≤ made.old + cost_from (W.wants wanted.now) number s.now b.now first tree.now }
+    ensures looks { looks.new ≤ looks.old + visits_from (W.wants wanted.now) first tree.now }
+{
+    back_border(&mut local.line, wanted, number, s, b, made)?;
+    give(&mut local.line, wanted, number, s, b, Part::Content, made)?;
+    give(
+        &mut local.outlines,
+        wanted,
+        number,
+        s,
+        b,
+        Part::Outline,
+        made,
+    )?;
+    let inner = s.below(b);
+    children(
+        alloc, tree, wanted, number, &inner, first, local, layers, made, looks,
+    )?;
+    Ok(())
+}
+
+/// The lists of the box that paints a block, which wait while those below the block are dropped.
+#[derive(Drop)]
+struct Outer<A: Ledger> {
+    line: Pieces<A>,
+    contents: Pieces<A>,
+}
+
+/// Drops a block itself, and begins its line.
+fn open_block<A: Ledger, W: Wanted>(
+    alloc: Global,
+    wanted: &W,
+    number: u64,
+    s: &Standing,
+    b: &BoxData,
+    local: &mut Local<A>,
+    made: &mut Steps<A>,
+) -> Result<Outer<A>, NoMemory>
+    ensures outer { IfOk result (λ o. (o.line ≡ local.old.line) × (o.contents ≡ local.old.contents)) }
+    ensures floats { OnOk result (local.new.floats ≡ local.old.floats) }
+    ensures backgrounds { OnOk result (laid_out local.new.backgrounds ≡ laid_out local.old.backgrounds
+        ▷ gives_back_border (W.wants wanted.now) number s.now b.now) }
+    ensures line { OnOk result (laid_out local.new.line ≡ gives (W.wants wanted.now) number s.now b.now parts.Content) }
+    ensures contents { OnOk result (laid_out local.new.contents ≡ nil) }
+    ensures outlines { OnOk result (laid_out local.new.outlines ≡ laid_out local.old.outlines
+        ▷ gives (W.wants wanted.now) number s.now b.now parts.Outline) }
+    ensures made { OnOk result (made.new ≡ made.old + own_cost (W.wants wanted.now) number s.now b.now) }
+    ensures most { made.new ≤ made.old + own_cost (W.wants wanted.now) number s.now b.now }
+{
+    back_border(&mut local.backgrounds, wanted, number, s, b, made)?;
+    let mut line = Pieces::empty(alloc);
+    give(&mut line, wanted, number, s, b, Part::Content, made)?;
+    give(
+        &mut local.outlines,
+        wanted,
+        number,
+        s,
+        b,
+        Part::Outline,
+        made,
+    )?;
+    Ok(Outer {
+        line: replace(&mut local.line, line),
+        contents: replace(&mut local.contents, Pieces::empty(alloc)),
+    })
+}
+
+/// Ends a block: its line, and then the lines of the blocks below it.
+fn close_block<A: Ledger>(local: &mut Local<A>, outer: Outer<A>) -> Result<(), NoMemory>
+    ensures backgrounds { OnOk result (local.new.backgrounds ≡ local.old.backgrounds) }
+    ensures floats { OnOk result (local.new.floats ≡ local.old.floats) }
+    ensures line { OnOk result (local.new.line ≡ outer.line) }
+    ensures contents { OnOk result (laid_out local.new.contents ≡ (laid_out outer.contents ▷ laid_out local.old.line)
+        ▷ laid_out local.old.contents) }
+    ensures outlines { OnOk result (local.new.outlines ≡ local.old.outlines) }
+{
+    let line = replace(&mut local.line, outer.line);
+    let contents = replace(&mut local.contents, outer.contents);
+    local.contents.join(line)?;
+    local.contents.join(contents)?;
+    Ok(())
+}
+
+/// Drops a block, and those below it: its line comes before those of the blocks below it.
+#[cycle(build)]
+fn block<A: Ledger, B: Ledger, W: Wanted>(
+    alloc: Global,
+    tree: &Tree<B>,
+    wanted: &W,
+    number: u64,
+    s: &Standing,
+    b: &BoxData,
+    first: Option<BoxKey>,
+    local: &mut Local<A>,
+    layers: &mut Layers<A>,
+    made: &mut Steps<A>,
+    looks: &mut Steps<B>,
+) -> Result<(), NoMemory>
+    requires class { styles.class b.now.style false ≡ classes.Block }
+    requires root { s.now.root ≡ false }
+    requires live { IsFirst first tree.now }
+    ensures list { OnOk result (held local.new layers.new ≡ held local.old layers.old
+        ⊕ boxed_from (W.wants wanted.now) number s.now b.now first tree.now) }
+    ensures made { OnOk result (made.new ≡ made.old + cost_from
+        (W.wants wanted.now) number s.now b.now first tree.now) }
+    ensures most { made.new ≤ made.old + cost_from (W.wants wanted.now) number s.now b.now first tree.now }
+    ensures looks { looks.new ≤ looks.old + visits_from (W.wants wanted.now) first tree.now }
+{
+    let outer = open_block(alloc, wanted, number, s, b, local, made)?;
+    let inner = s.below(b);
+    children(
+        alloc, tree, wanted, number, &inner, first, local, layers, made, looks,
+    )?;
+    close_block(local, outer)?;
+    Ok(())
+}
+
+fn has_negative_level(b: &BoxData) -> bool
+    ensures { result ≡ pass.has_negative_level b.now }
+{
+    level_in(b) < 0
+}
+
+fn has_positive_level(b: &BoxData) -> bool
+    ensures { result ≡ pass.has_positive_level b.now }
+{
+    0 < level_in(b)
+}
+
+fn stacked<A: Ledger>(b: &BoxData, order: Pieces<A>) -> Stacked<A>
+    ensures level { result.level ≡ pass.level_in b.now }
+    ensures order { result.order ≡ order }
+{
+    Stacked {
+        level: level_in(b),
+        order,
+    }
+}
+
+/// Puts a layer among those of its stacking context, if it paints anything.
+#[tactic(auto, using(crate::proofs::Joining::joins))]
+fn stack<A: Ledger>(layers: &mut Layers<A>, b: &BoxData, order: Pieces<A>) -> Result<(), NoMemory>
+    ensures { OnOk result (held_layers layers.new ≡ held_layers layers.old
+        ⊕ layer_bands (pass.level_in b.now) (laid_out order)) }
+{
+    if order.is_empty() {
+        return Ok(());
+    }
+    if has_negative_level(b) {
+        layers.negatives.push(stacked(b, order))?;
+        return Ok(());
+    }
+    if has_positive_level(b) {
+        layers.positives.push(stacked(b, order))?;
+        return Ok(());
+    }
+    layers.zeros.join(order)?;
+    Ok(())
+}
+
+/// Drops a layer that makes a stacking context.
+#[cycle(build)]
+fn real_layer<A: Ledger, B: Ledger, W: Wanted>(
+    alloc: Global,
+    tree: &Tree<B>,
+    wanted: &W,
+    number: u64,
+    s: &Standing,
+    b: &BoxData,
+    first: Option<BoxKey>,
+    local: &mut Local<A>,
+    layers: &mut Layers<A>,
+    made: &mut Steps<A>,
+    looks: &mut Steps<B>,
+) -> Result<(), NoMemory>
+    requires class { styles.class b.now.style false ≡ classes.Layer }
+    requires real { styles.real b.now.style false ≡ true }
+    requires root { s.now.root ≡ false }
+    requires live { IsFirst first tree.now }
+    ensures list { OnOk result (held local.new layers.new ≡ held local.old layers.old
+        ⊕ boxed_from (W.wants wanted.now) number s.now b.now first tree.now) }
+    ensures made { OnOk result (made.new ≡ made.old + cost_from
+        (W.wants wanted.now) number s.now b.now first tree.now) }
+    ensures most { made.new ≤ made.old + cost_from (W.wants wanted.now) number s.now b.now first tree.now }
+    ensures looks { looks.new ≤ looks.old + visits_from (W.wants wanted.now) first tree.now }
+{
+    let order = context(alloc, tree, wanted, number, s, b, first, made, looks)?;
+    let order = as_group(alloc, false, b, order)?;
+    stack(layers, b, order)?;
+    Ok(())
+}
+
+/// Drops a layer that makes none: the layers at auto or 0 below it come after it.
+#[cycle(build)]
+fn auto_layer<A: Ledger, B: Ledger, W: Wanted>(
+    alloc: Global,
+    tree: &Tree<B>,
+    wanted: &W,
+    number: u64,
+    s: &Standing,
+    b: &BoxData,
+    first: Option<BoxKey>,
+    local: &mut Local<A>,
+    layers: &mut Layers<A>,
+    made: &mut Steps<A>,
+    looks: &mut Steps<B>,
+) -> Result<(), NoMemory>
+    requires class { styles.class b.now.style false ≡ classes.Layer }
+    requires unreal { styles.real b.now.style false ≡ false }
+    requires root { s.now.root ≡ false }
+    requires live { IsFirst first tree.now }
+    ensures list { OnOk result (held local.new layers.new ≡ held local.old layers.old
+        ⊕ boxed_from (W.wants wanted.now) number s.now b.now first tree.now) }
+    ensures made { OnOk result (made.new ≡ made.old + cost_from
+        (W.wants wanted.now) number s.now b.now first tree.now) }
+    ensures most { made.new ≤ made.old + cost_from (W.wants wanted.now) number s.now b.now first tree.now }
+    ensures looks { looks.new ≤ looks.old + visits_from (W.wants wanted.now) first tree.now }
+{
+    let outer = replace(&mut layers.zeros, Pieces::empty(alloc));
+    let order = aside(
+        alloc, tree, wanted, number, s, b, first, layers, made, looks,
+    )?;
+    let inner = replace(&mut layers.zeros, outer);
+    layers.zeros.join(order)?;
+    layers.zeros.join(inner)?;
+    Ok(())
+}
+
+/// Drops a box, and those below it.
+#[cycle(build)]
+fn one<A: Ledger, B: Ledger, W: Wanted>(
+    alloc: Global,
+    tree: &Tree<B>,
+    wanted: &W,
+    number: u64,
+    s: &Standing,
+    b: &BoxData,
+    first: Option<BoxKey>,
+    local: &mut Local<A>,
+    layers: &mut Layers<A>,
+    made: &mut Steps<A>,
+    looks: &mut Steps<B>,
+) -> Result<(), NoMemory>
+    requires root { s.now.root ≡ false }
+    requires live { IsFirst first tree.now }
+    ensures list { OnOk result (held local.new layers.new ≡ held local.old layers.old
+        ⊕ boxed_from (W.wants wanted.now) number s.now b.now first tree.now) }
+    ensures made { OnOk result (made.new ≡ made.old + cost_from
+        (W.wants wanted.now) number s.now b.now first tree.now) }
+    ensures most { made.new ≤ made.old + cost_from (W.wants wanted.now) number s.now b.now first tree.now }
+    ensures looks { looks.new ≤ looks.old + visits_from (W.wants wanted.now) first tree.now }
+{
+    match class_of(b.style(), false) {
+        Class::Layer => layer(
+            alloc, tree, wanted, number, s, b, first, local, layers, made, looks,
+        ),
+        Class::Float => float(
+            alloc, tree, wanted, number, s, b, first, local, layers, made, looks,
+        ),
+        Class::Atom => atom(
+            alloc, tree, wanted, number, s, b, first, local, layers, made, looks,
+        ),
+        Class::Block => block(
+            alloc, tree, wanted, number, s, b, first, local, layers, made, looks,
+        ),
+        Class::Inline => inline(
+            alloc, tree, wanted, number, s, b, first, local, layers, made, looks,
+        ),
+    }
+}
+
+/// Drops a layer.
+#[cycle(build)]
+fn layer<A: Ledger, B: Ledger, W: Wanted>(
+    alloc: Global,
+    tree: &Tree<B>,
+    wanted: &W,
+    number: u64,
+    s: &Standing,
+    b: &BoxData,
+    first: Option<BoxKey>,
+    local: &mut Local<A>,
+    layers: &mut Layers<A>,
+    made: &mut Steps<A>,
+    looks: &mut Steps<B>,
+) -> Result<(), NoMemory>
+    requires class { styles.class b.now.style false ≡ classes.Layer }
+    requires root { s.now.root ≡ false }
+    requires live { IsFirst first tree.now }
+    ensures list { OnOk result (held local.new layers.new ≡ held local.old layers.old
+        ⊕ boxed_from (W.wants wanted.now) number s.now b.now first tree.now) }
+    ensures made { OnOk result (made.new ≡ made.old + cost_from
+        (W.wants wanted.now) number s.now b.now first tree.now) }
+    ensures most { made.new ≤ made.old + cost_from (W.wants wanted.now) number s.now b.now first tree.now }
+    ensures looks { looks.new ≤ looks.old + visits_from (W.wants wanted.now) first tree.now }
+{
+    if real(b.style(), false) {
+        real_layer(
+            alloc, tree, wanted, number, s, b, first, local, layers, made, looks,
+        )
+    } else {
+        auto_layer(
+            alloc, tree, wanted, number, s, b, first, local, layers, made, looks,
+        )
+    }
+}
+
+/// Drops some siblings and those below them; those of which nothing is wanted are looked at, and no box below them is.
+#[cycle(build)]
+fn children<A: Ledger, B: Ledger, W: Wanted>(
+    alloc: Global,
+    tree: &Tree<B>,
+    wanted: &W,
+    number: u64,
+    s: &Standing,
+    first: Option<BoxKey>,
+    local: &mut Local<A>,
+    layers: &mut Layers<A>,
+    made: &mut Steps<A>,
+    looks: &mut Steps<B>,
+) -> Result<(), NoMemory>
+    requires root { s.now.root ≡ false }
+    requires live { IsFirst first tree.now }
+    ensures list { OnOk result (held local.new layers.new ≡ held local.old layers.old
+        ⊕ passes_from (W.wants wanted.now) number s.now first tree.now) }
+    ensures made { OnOk result (made.new ≡ made.old + siblings_cost (W.wants wanted.now) number s.now first tree.now) }
+    ensures most { made.new ≤ made.old + siblings_cost (W.wants wanted.now) number s.now first tree.now }
+    ensures looks { looks.new ≤ looks.old + visits_from (W.wants wanted.now) first tree.now }
+{
+    let mut next = first;
+    while let Some(key) = next {
+        let Looked {
+            here,
+            first_child,
+            next_sibling,
+            hull,
+            ..
+        } = match look_at(tree, key, looks) {
+            Some(looked) => looked,
+            None => break,
+        };
+        if wanted.meets(hull) {
+            one(
+                alloc,
+                tree,
+                wanted,
+                number,
+                s,
+                &here,
+                first_child,
+                local,
+                layers,
+                made,
+                looks,
+            )?;
+        }
+        next = next_sibling;
+    }
+    Ok(())
+}
+
+/// The fresh list of a tree as far as it is wanted, each item made by paint `number` (CSS 2.2 Appendix E).
+pub fn build_wanted<A: Ledger, B: Ledger, W: Wanted>(
+    alloc: Global,
+    tree: &Tree<B>,
+    wanted: &W,
+    number: u64,
+    made: &mut Steps<A>,
+    looks: &mut Steps<B>,
+) -> Result<NewList<A>, NoMemory>
+    ensures list { IfOk result (λ l. l ≡ numbered number (only (λ x. W.wants wanted.now x.visible)
+        (fresh_list tree.now))) }
+    ensures made { OnOk result (made.new ≡ made.old + leaves_in (only (λ x. W.wants wanted.now x.visible)
+        (fresh_list tree.now))) }
+    ensures most { made.new ≤ made.old + leaves_in (only (λ x. W.wants wanted.now x.visible) (fresh_list tree.now)) }
+    ensures looks { looks.new ≤ looks.old + root_visits (W.wants wanted.now) tree.now.boxes }
+    ensures apart { IsApart same_key tree.now.boxes }
+{
+    let s = Standing::at_root(tree.canvas());
+    let Looked {
+        here,
+        first_child,
+        ..
+    } = match look_at(tree, tree.root(), looks) {
+        Some(looked) => looked,
+        None => return Ok(NewList::empty(alloc)),
+    };
+    let order = context(
+        alloc,
+        tree,
+        wanted,
+        number,
+        &s,
+        &here,
+        first_child,
+        made,
+        looks,
+    )?;
+    let order = as_group(alloc, true, &here, order)?;
+    let mut list = NewList::empty(alloc);
+    order.lay_out(&mut list)?;
+    Ok(list)
+}
