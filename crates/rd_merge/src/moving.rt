@@ -8,7 +8,7 @@ use std::mem;
 use std::sync::ledger::Ledger;
 
 /// Takes an entry out of its place, and leaves a group without entries there.
-fn take_at<A: Ledger>(alloc: Global, entries: &mut Vec<Entry<A>>, i: usize) -> Entry<A>
+pub(crate) fn take_at<A: Ledger>(alloc: Global, entries: &mut Vec<Entry<A>>, i: usize) -> Entry<A>
     requires { i < vec_len entries.old }
     ensures taken { result ≡ slice_index_or entries.old.items i result }
     ensures kept { KeepsOthers i entries.old.items entries.new.items }

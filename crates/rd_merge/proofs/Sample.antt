@@ -1,0 +1,102 @@
+-- The small lists of the tests can be merged.
+use Rattle.std.proofs.Common.{◌≡◌, refl, ap, ◌∙◌, sym, subst, Bool, true, false, not, ◌||◌, ◌&&◌, List, [], ◌∷◌, map, arith, inl, inr}
+use Rattle.std.proofs.lemmas.List.Sorted.{IsPermutation-refl}
+use Rattle.rd_geom.specs.Plane.{Rectangle}
+use Rattle.rd_geom.specs.declared.color.Color.{Color}
+use Rattle.rd_graph.specs.Names.{same_entry, same_part}
+use Rattle.rd_graph.proofs.Entries.{same_entry-sound, same_entry-refl}
+use Rattle.rd_graph.proofs.Listing.{Has, Once, never, pairs_map}
+use Rattle.rd_keys.specs.Keys.{BoxKey, same_key}
+use Rattle.rd_keys.proofs.Keys.{same_key-refl}
+use Rattle.rd_keys.specs.declared.entry.EntryKey.{EntryKey}
+use Rattle.rd_keys.specs.declared.entry.EntryKey.TheVariants as key
+use Rattle.rd_keys.specs.declared.entry.Part.{Part}
+use Rattle.rd_keys.specs.declared.entry.Part.TheVariants.{Back, Border, Content}
+use Rattle.rd_item.specs.declared.leaf.Leaf.{Leaf}
+use Rattle.rd_item.specs.Items.{Made}
+use Rattle.rd_list.specs.Wrappers.{Wrapper}
+use Rattle.rd_list.specs.Entries.{Entries, nil, flat, routes, only}
+use Rattle.rd_list.specs.EntryNames.{entry_names, new_leaves}
+use Rattle.rd_list.specs.Kept.{KeptList, KeptReady}
+use Rattle.rd_list.specs.Lists as lists
+use Rattle.rd_list.specs.Lists.{leaves_meet}
+use Rattle.rd_list.specs.Laws.{IsCovered}
+use Rattle.rd_list.proofs.Naming.{display_merging, display_editing}
+use Rattle.rd_list.proofs.Starting.{display_starting}
+use Rattle.rd_merge.specs.Going.{is_untouched}
+use Rattle.rd_merge.specs.Merging.{CanBeMerged, MergedInto}
+use Rattle.rd_merge.specs.Internal.Sample.{whole_list, part_list}
+
+unlike : (a b : EntryKey) → same_entry a b ≡ false → a ≡ b → ⊥
+unlike a b f e = never (same_entry a b) (subst (λ (z : EntryKey). same_entry a z ≡ true) e (same_entry-refl a)) f
+
+neither : (b : Bool) → (b && false) ≡ false
+neither true = refl
+neither false = refl
+
+by_part : (k j : BoxKey) (p q : Part) → same_part p q ≡ false → key.Leaf k p ≡ key.Leaf j q → ⊥
+by_part k j p q h e = unlike (key.Leaf k p) (key.Leaf j q) (ap (λ (b : Bool). same_key k j && b) h ∙ neither (same_key k j)) e
+
+by_key : (k j : BoxKey) (p q : Part) → same_key k j ≡ false → key.Leaf k p ≡ key.Leaf j q → ⊥
+by_key k j p q h e = unlike (key.Leaf k p) (key.Leaf j q) (ap (λ (b : Bool). b && same_part p q) h) e
+
+abbrev everything : BoxKey → BoxKey → Bool
+everything other k = true || same_key other k
+
+abbrev other_one : BoxKey → BoxKey → Bool
+other_one other k = false || same_key other k
+
+abbrev nothing : KeptList EntryKey Wrapper Made
+nothing = record { graph = []; entries = nil }
+
+module _ (one other : BoxKey) (r s : Rectangle) (ink : Color) (apart : same_key other one ≡ false) where
+  abbrev F : Entries Wrapper Leaf
+  F = new_leaves (whole_list one other r s ink)
+
+  once_names : Once (map entry_names.leaf (flat F))
+  once_names = (
+    (λ h. elim h [ inl e ↦ by_part one one Border Back refl e | inr i ↦ elim i [ inl e ↦ by_key other one Back Back apart e | inr j ↦ elim j [ inl e ↦ by_part one one Content Back refl e | inr k ↦ k ] ] ]),
+    (
+      (λ h. elim h [ inl e ↦ by_part other one Back Border refl e | inr i ↦ elim i [ inl e ↦ by_part one one Content Border refl e | inr k ↦ k ] ]),
+      ((λ h. elim h [ inl e ↦ by_part one other Content Back refl e | inr k ↦ k ]), ((λ h. h), tt)),
+    ),
+  )
+
+  itself : lists.StandsFor F F
+  itself = record {
+    leaves = IsPermutation-refl (routes [] F);
+    once = pairs_map entry_names.leaf same_entry same_entry-sound same_entry-refl (flat F) once_names;
+    grouped = λ i j d l m. absurd (omega arith);
+    filled = refl;
+    ordered = λ a b c d m. refl;
+  }
+
+  ready : KeptReady entry_names (λ m. m.leaf) leaves_meet (is_untouched (everything other)) nothing F
+  ready = display_starting F (is_untouched (everything other)) (λ l c. refl)
+
+  pub first_can : (kept : KeptList EntryKey Wrapper Made) (new : Entries Wrapper Made) → kept ≡ record { graph = []; entries = nil } → new ≡ whole_list one other r s ink → CanBeMerged (λ k. true || same_key other k) kept new
+  first_can kept new e f =
+      subst (λ (x : KeptList EntryKey Wrapper Made). CanBeMerged (everything other) x new) (sym e)
+      (subst (λ (y : Entries Wrapper Made). CanBeMerged (everything other) nothing y) (sym f)
+      (record { fresh = F; in_area = λ l. true; itself = itself; ready = ready; limited = refl }))
+
+  ready_again : (kept : KeptList EntryKey Wrapper Made) → MergedInto (everything other) nothing (whole_list one other r s ink) kept → KeptReady entry_names (λ m. m.leaf) leaves_meet (is_untouched (other_one other)) kept F
+  ready_again kept merged =
+      let covered : IsCovered entry_names leaves_meet (is_untouched (everything other)) (λ l. true) F = record { itself = λ a c f. refl; others = λ a b c d f m. refl } in
+      let done = display_merging F nothing kept (whole_list one other r s ink) (is_untouched (everything other)) (λ l. true) itself covered ready refl merged in
+      display_editing F F kept (λ k. false) (λ k. same_key other k) itself refl done.2
+
+  pub second_can : (start kept : KeptList EntryKey Wrapper Made) (first new : Entries Wrapper Made) → start ≡ record { graph = []; entries = nil } → first ≡ whole_list one other r s ink → MergedInto (λ k. true || same_key other k) start first kept → new ≡ part_list one other s ink
+      → CanBeMerged (λ k. false || same_key other k) kept new
+  second_can start kept first new e f merged h =
+      let from : MergedInto (everything other) nothing (whole_list one other r s ink) kept =
+      subst (λ (x : KeptList EntryKey Wrapper Made). MergedInto (everything other) x (whole_list one other r s ink) kept) e
+      (subst (λ (y : Entries Wrapper Made). MergedInto (everything other) start y kept) f merged) in
+      subst (λ (y : Entries Wrapper Made). CanBeMerged (other_one other) kept y) (sym h)
+      (record {
+        fresh = F;
+        in_area = λ l. same_key other l.owner || same_part l.part Border;
+        itself = itself;
+        ready = ready_again kept from;
+        limited = rw (apart, same_key-refl other) refl;
+      })

@@ -1,0 +1,206 @@
+//! Two merges of small lists, worked out by hand.
+ghost use Rattle.std.specs.Prelude.{◌≡◌, ◌<◌, ◌||◌, ◌∷◌, [], true, false, IfOk};
+ghost use Rattle.rd_geom.specs.Plane.{has_none};
+ghost use Rattle.rd_keys.specs.Keys.{same_key};
+ghost use Rattle.rd_list.specs.Entries as list;
+ghost use Rattle.rd_list.specs.NewView.{new_entries};
+ghost use Rattle.rd_merge.specs.Internal.Sample.{one_item, whole_list, part_list};
+
+use crate::{Touches, gather, merge};
+use rd_geom::{Color, Rect, Steps};
+use rd_item::{Item, Shape};
+use rd_keys::{Arena, BoxKey, BoxMark, Part};
+use rd_list::{Entry, Kept, NewEntry, NewList};
+use std::alloc::{AllocError, Global};
+use std::marker::Brand;
+use std::sync::ledger::{Blank, Ledger};
+use std::test::Fail;
+
+const INK: Color = Color {
+    r: 0,
+    g: 0,
+    b: 0,
+    a: 255,
+};
+
+/// One box is touched, or every box.
+#[derive(Drop)]
+struct Only {
+    all: bool,
+    key: BoxKey,
+}
+
+impl Touches for Only {
+    ghost is_touched = { λ t k. t.all || same_key t.key k };
+
+    fn touches(&self, key: BoxKey) -> bool {
+        self.all || self.key.is(key)
+    }
+}
+
+fn leaf<A: Ledger>(
+    owner: BoxKey,
+    part: Part,
+    rect: Rect,
+    at: u64,
+    made: &mut Steps<A>,
+) -> NewEntry<A>
+    requires { has_none rect ≡ false }
+    ensures { new_entries (result ∷ []) ≡ list.one_leaf (one_item owner part rect INK at) }
+{
+    let shape = Shape {
+        outer: rect,
+        inner: rect,
+    };
+    NewEntry::Leaf(Item::make(owner, part, rect, shape, INK, true, at, made))
+}
+
+fn whole<A: Ledger>(
+    alloc: Global,
+    one: BoxKey,
+    other: BoxKey,
+    outside: Rect,
+    inside: Rect,
+    made: &mut Steps<A>,
+) -> Result<NewList<A>, AllocError>
+    requires outside { has_none outside ≡ false }
+    requires inside { has_none inside ≡ false }
+    ensures { IfOk result (λ l. l ≡ whole_list one other outside inside INK) }
+{
+    let mut inner = Vec::with_capacity(alloc, 2)?;
+    inner.push(leaf(one, Part::Border, inside, 1, made))?;
+    inner.push(leaf(other, Part::Back, inside, 1, made))?;
+    let mut entries = Vec::with_capacity(alloc, 3)?;
+    entries.push(leaf(one, Part::Back, outside, 1, made))?;
+    entries.push(NewEntry::Group {
+        key: one,
+        opacity: 128,
+        inner: NewList { entries: inner },
+    })?;
+    entries.push(leaf(one, Part::Content, outside, 1, made))?;
+    Ok(NewList { entries })
+}
+
+fn part<A: Ledger>(
+    alloc: Global,
+    one: BoxKey,
+    other: BoxKey,
+    inside: Rect,
+    made: &mut Steps<A>,
+) -> Result<NewList<A>, AllocError>
+    requires { has_none inside ≡ false }
+    ensures { IfOk result (λ l. l ≡ part_list one other inside INK) }
+{
+    let mut inner = Vec::with_capacity(alloc, 2)?;
+    inner.push(leaf(one, Part::Border, inside, 2, made))?;
+    inner.push(leaf(other, Part::Back, inside, 2, made))?;
+    let mut entries = Vec::with_capacity(alloc, 1)?;
+    entries.push(NewEntry::Group {
+        key: one,
+        opacity: 128,
+        inner: NewList { entries: inner },
+    })?;
+    Ok(NewList { entries })
+}
+
+fn is_leaf<A: Ledger>(entry: &Entry<A>, owner: BoxKey, part: Part, at: u64) -> bool {
+    match entry {
+        Entry::Leaf(item) => item.owner() == owner && item.part() == part && item.made_at() == at,
+        Entry::Group(_) => false,
+    }
+}
+
+// The back and the content stay as they were. In the group the other box was touched, and the border lies in the same area.
+fn is_as_worked<A: Ledger>(kept: &Kept<A>, one: BoxKey, other: BoxKey) -> bool {
+    if kept.entries.len() != 3 {
+        return false;
+    }
+    let back = is_leaf(&kept.entries[0], one, Part::Back, 1);
+    let content = is_leaf(&kept.entries[2], one, Part::Content, 1);
+    match &kept.entries[1] {
+        Entry::Leaf(_) => false,
+        Entry::Group(group) => {
+            let inside = &group.inner.entries;
+            back && content
+                && group.opacity == 128
+                && inside.len() == 2
+                && is_leaf(&inside[0], one, Part::Border, 2)
+                && is_leaf(&inside[1], other, Part::Back, 2)
+        }
+    }
+}
+
+// A first merge of nothing with the whole list, and a second one where the other box was touched.
+fn merged_twice<A: Ledger>(
+    alloc: Global,
+    one: BoxKey,
+    other: BoxKey,
+    outside: Rect,
+    inside: Rect,
+    made: &mut Steps<A>,
+) -> Result<bool, AllocError>
+    requires outside { has_none outside ≡ false }
+    requires inside { has_none inside ≡ false }
+    requires apart { same_key other one ≡ false }
+{
+    let first = whole(alloc, one, other, outside, inside, made)?;
+    let second = part(alloc, one, other, inside, made)?;
+    let all = Only {
+        all: true,
+        key: other,
+    };
+    let touched = Only {
+        all: false,
+        key: other,
+    };
+    match merge(alloc, Kept::empty(alloc), first, &all) {
+        Ok(kept) => match merge(alloc, kept, second, &touched) {
+            Ok(kept) => Ok(is_as_worked(&kept, one, other)),
+            Err((_, e)) => Err(e),
+        },
+        Err((_, e)) => Err(e),
+    }
+}
+
+fn merges<A: Ledger>(
+    alloc: Global,
+    one: BoxKey,
+    other: BoxKey,
+    blank: Blank,
+) -> Result<bool, AllocError>
+    requires name { blank.name ≡ A.name }
+    requires parts { blank.parts ≡ A.parts }
+    requires some { 0 < blank.parts }
+{
+    let mut made = Steps::<A>::new(blank);
+    if other.is(one) {
+        return Ok(false);
+    }
+    match (Rect::new(0, 0, 4, 4), Rect::new(8, 0, 4, 4)) {
+        (Some(outside), Some(inside)) => {
+            merged_twice(alloc, one, other, outside, inside, &mut made)
+        }
+        (_, _) => Ok(false),
+    }
+}
+
+// Of nothing, nothing is gathered.
+fn gathers(alloc: Global) -> bool {
+    let mut entries: Vec<Entry<Brand>> = Vec::new(alloc);
+    let mut room: Vec<Entry<Brand>> = Vec::new(alloc);
+    gather(alloc, &mut entries, &[], &mut room);
+    room.is_empty()
+}
+
+#[test]
+fn two_merges(rt: HostRuntime) -> Result<(), Fail> {
+    assert!(rt; gathers(rt.alloc()));
+    let mut boxes = Arena::<u8, BoxMark>::starting_at(rt.alloc(), 2, 0);
+    match (boxes.insert(0), boxes.insert(1)) {
+        (Ok(one), Ok(other)) => {
+            assert!(rt; merges::<Brand>(rt.alloc(), one, other, Blank::new(1))?);
+        }
+        (_, _) => assert!(rt; false),
+    }
+    Ok(())
+}

@@ -1,0 +1,16 @@
+//! The boxes of a tree that are touched.
+ghost use Rattle.std.specs.Prelude.{◌≡◌};
+ghost use Rattle.rd_tree.specs.Document as document;
+
+use crate::going::Touches;
+use rd_keys::BoxKey;
+use rd_tree::Tree;
+use std::sync::ledger::Ledger;
+
+impl<B: Ledger> Touches for Tree<B> {
+    ghost is_touched = { λ t k. document.is_touched k t.boxes };
+
+    fn touches(&self, key: BoxKey) -> bool {
+        self.touched(key)
+    }
+}
