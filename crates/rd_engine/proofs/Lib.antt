@@ -1,2 +1,15 @@
 pub mod Accepted
 pub mod Kept
+pub mod NewLeaves
+pub mod Larger
+pub mod Shallow
+pub mod Alike
+pub mod Nothing
+pub mod Stood
+pub mod Fewer
+pub mod Stands
+pub mod Regions
+pub mod Due
+pub mod Keeping
+pub mod Remaking
+pub mod Putting

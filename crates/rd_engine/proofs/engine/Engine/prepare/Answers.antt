@@ -1,0 +1,23 @@
+use Rattle.std.proofs.Common.{refl, arith}
+use Rattle.rd_engine.proofs.engine.Engine.prepare.Goals as goal
+
+pub planned-requires : goal.planned-requires
+planned-requires g c = c.in_ok-new.ensures.new
+
+pub same-new : goal.same-new
+same-new g c = refl
+
+pub leaves_of-built-requires : goal.leaves_of-built-requires
+leaves_of-built-requires g c = c.in_ok-new.ensures.new.few
+
+pub rows-requires : goal.rows-requires
+rows-requires g c =
+    let e = c.leaves_of-built.ensures in
+    let f = c.in_ok-new.ensures.new.few in
+    omega (arith, e, f)
+
+pub same-area : goal.same-area
+same-area g c = refl
+
+pub same-plan : goal.same-plan
+same-plan g c = refl
