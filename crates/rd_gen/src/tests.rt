@@ -79,7 +79,10 @@ fn command_text(alloc: Global, command: &Command) -> Result<String, AllocError> 
     match command {
         Command::Change(edit) => edit_text(alloc, edit),
         Command::Paint => String::from_str(alloc, "paint"),
+        Command::Hit { x, y } => format!(in alloc; "hit {x} {y}"),
+        Command::Pixel { x, y } => format!(in alloc; "pixel {x} {y}"),
         Command::Dump => String::from_str(alloc, "dump"),
+        Command::Shot => String::from_str(alloc, "shot"),
     }
 }
 

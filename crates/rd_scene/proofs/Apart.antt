@@ -1,13 +1,13 @@
 -- Boxes stay apart where some are put among them.
-use Rattle.std.proofs.Common.{◌≡◌, refl, ◌∙◌, sym, subst, true, false, ◌||◌, cond, Option, Some, None, inl, inr}
+use Rattle.std.proofs.Common.{◌≡◌, refl, ◌∙◌, sym, subst, true, false, ◌||◌, cond, Option, inl, inr}
 use Rattle.rd_keys.specs.Keys.{same_key}
 use Rattle.rd_keys.proofs.Keys.{same_key-sound, same_key-refl}
 use Rattle.rd_tree.specs.declared.node.Item.{Item}
 use Rattle.rd_tree.specs.Document.{BoxKey, BoxForest, with_child}
 use Rattle.rd_tree.specs.Forest.{empty, tree, has, starting_at, children, with_children, insert_among, without_branch, without_siblings, branch, ◌▷◌, AreApart, IsApart}
 use Rattle.rd_tree.specs.Changes.{put_elsewhere}
-use Rattle.rd_tree.proofs.Linking.Standing.{cases, either, join-empty, has-join, out_of_children, differs_back}
-use Rattle.rd_tree.proofs.Forests.Under.{no_under, apart_under, apart_join}
+use Rattle.rd_tree.proofs.Linking.Standing.{cases, either, has-join, differs_back}
+use Rattle.rd_tree.proofs.Forests.Under.{no_under, apart_under}
 use Rattle.rd_tree.proofs.Linking.Cutting.{in_children}
 use Rattle.rd_tree.proofs.Linking.Placing.{Joined, joined}
 use Rattle.rd_tree.proofs.Forests.Without.{flipped, apart_without, stays_out}

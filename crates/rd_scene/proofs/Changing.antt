@@ -1,12 +1,12 @@
 -- Trees stay well formed where they are changed.
-use Rattle.std.proofs.Common.{◌≡◌, refl, ap, ◌∙◌, sym, subst, ℕ, ◌+◌, ◌<◌, Bool, true, false, ◌||◌, cond, arith, inl, inr, List, [], ◌∷◌, ◌++◌, length, Option, Some, None}
+use Rattle.std.proofs.Common.{◌≡◌, refl, ap, ◌∙◌, sym, subst, ℕ, ◌<◌, Bool, true, false, ◌||◌, cond, arith, inl, inr, List, [], ◌∷◌, ◌++◌, length, Option, Some, None}
 use Rattle.std.proofs.lemmas.List.{length-set, get_or-set_other}
 use Rattle.rd_keys.specs.Keys.{BoxKey, same_key}
 use Rattle.rd_keys.proofs.Keys.{same_key-sound, same_key-refl}
 use Rattle.rd_tree.specs.declared.node.Item.{Item}
 use Rattle.rd_tree.specs.Document.{Document, BoxForest, Slot, slot_of, with_left, with_all_left, with_taken, with_child, IsNext, IsKeyed, contains}
-use Rattle.rd_tree.specs.Forest.{Forest, empty, tree, keys, has, ◌▷◌, starting_at, children, with_children, insert_among, insert_before, without_branch, without_siblings, branch, map_where, in_subtree, at_box, at_subtree, IsApart}
-use Rattle.rd_tree.specs.Changes.{Change, insertion, removal, moving, styling, placing, shifting, after, put_elsewhere, restyle, with_rect, shift_item}
+use Rattle.rd_tree.specs.Forest.{empty, tree, keys, has, children, insert_among, insert_before, without_branch, branch, map_where, in_subtree}
+use Rattle.rd_tree.specs.Changes.{Change, insertion, removal, moving, styling, placing, shifting, after, restyle, with_rect, shift_item}
 use Rattle.rd_tree.specs.Touching.{edited, touch, touched_by}
 use Rattle.rd_tree.proofs.Linking.Standing.{cases, either, from_left, from_right, has-join, out_of_children}
 use Rattle.rd_tree.proofs.Forests.Under.{out_of_under}

@@ -1,5 +1,5 @@
 -- A forest with one child more: its keys, depths and names.
-use Rattle.std.proofs.Common.{◌≡◌, refl, ap, ◌∙◌, sym, subst, ℕ, ◌+◌, Bool, true, false, ◌||◌, cond, arith, inl, inr, List, Option, Some, None, bytes_eq}
+use Rattle.std.proofs.Common.{◌≡◌, refl, ap, ◌∙◌, sym, ℕ, ◌+◌, Bool, true, false, ◌||◌, cond, arith, inl, inr, List, Option, Some, None, bytes_eq}
 use Rattle.rd_keys.specs.Keys.{BoxKey, same_key}
 use Rattle.rd_keys.proofs.Keys.{same_key-sound, same_key-refl}
 use Rattle.rd_tree.specs.declared.node.Item.{Item}

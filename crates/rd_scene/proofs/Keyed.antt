@@ -1,16 +1,14 @@
 -- Trees stay well formed where a box is added, and the slots of a planted tree.
-use Rattle.std.proofs.Common.{◌≡◌, ◌≢◌, refl, ap, ◌∙◌, sym, subst, ℕ, ◌+◌, ◌<◌, Bool, true, false, ◌||◌, cond, arith, inl, inr, List, [], ◌∷◌, ◌++◌, length, Option, Some, None, replicate}
-use Rattle.std.specs.Prelude.{slice_set, nat_lt}
+use Rattle.std.proofs.Common.{◌≡◌, ◌≢◌, refl, ap, ◌∙◌, sym, subst, ℕ, ◌+◌, ◌<◌, Bool, true, false, ◌||◌, arith, inl, inr, List, [], ◌∷◌, ◌++◌, length, None, replicate}
+use Rattle.std.specs.Prelude.{nat_lt}
 use Rattle.std.proofs.lemmas.Grind.{common_steps}
 use Rattle.std.proofs.lemmas.List.{get_or-replicate}
 use Rattle.rd_keys.specs.Keys.{BoxKey, same_key}
-use Rattle.rd_keys.proofs.Keys.{same_key-sound, same_key-refl}
+use Rattle.rd_keys.proofs.Keys.{same_key-sound}
 use Rattle.rd_tree.specs.declared.node.Item.{Item}
 use Rattle.rd_tree.specs.Document.{Document, BoxForest, Slot, slot_of, with_taken, IsNext, IsNextOf, IsKeyed, contains}
-use Rattle.rd_tree.specs.Forest.{has, tree, empty, IsApart}
-use Rattle.rd_tree.specs.Changes.{insertion}
-use Rattle.rd_tree.specs.Touching.{edited, touch}
-use Rattle.rd_tree.proofs.Linking.Standing.{cases}
+use Rattle.rd_tree.specs.Forest.{has, IsApart}
+use Rattle.rd_tree.specs.Touching.{touch}
 use Rattle.rd_tree.proofs.Forests.Under.{which}
 use Rattle.rd_tree.proofs.Changing.NextKeys.{next-absent}
 use Rattle.rd_tree.proofs.Changing.Effects.{edited-insertion}

@@ -1,19 +1,30 @@
 -- What is within the limits.
-use Rattle.std.proofs.Common.{◌≡◌, ℤ, pos, ◌-ℤ◌, Bool, true, false, ◌&&◌, refl, ap, sym, subst, ◌∙◌, arith, Option, Some, None}
+use Rattle.std.proofs.Common.{◌≡◌, ℕ, ◌≤◌, nat_le, unwrap_or, ℤ, pos, ◌-ℤ◌, Bool, true, false, ◌&&◌, refl, ap, sym, subst, arith, Option, Some, None, Ok}
 use Rattle.std.specs.Prelude.{IsTrue, IfSome, IfNone}
 use Rattle.std.proofs.lemmas.Int.{ints}
 use Rattle.rd_geom.specs.Plane.{Rectangle, IsPlaced}
 use Rattle.rd_geom.specs.declared.color.Color.{Color}
 use Rattle.rd_style.specs.declared.limits.TheConstants.{MAX_COORDINATE, MAX_EXTENT}
-use Rattle.rd_style.specs.declared.kinds.Position.{Position}
 use Rattle.rd_style.specs.Limits.{is_between, fits_rect, fits, FitsRect, Fits}
 use Rattle.rd_style.specs.Changes.{plain, changed}
 use Rattle.rd_style.proofs.Bounds.{fits_rect-open}
-use Rattle.rd_scene.specs.Styles.{naming}
+use Rattle.rd_style.specs.declared.styles.StyleChange.{StyleChange}
+use Rattle.rd_style.specs.declared.kinds.Visibility.{Visibility}
+use Rattle.rd_style.specs.declared.kinds.Pointer.{Pointer}
+use Rattle.rd_style.specs.declared.limits.TheConstants.{MAX_LINE_WIDTH}
+use Rattle.rd_geom.specs.declared.rect.Sides.{Sides}
+use Rattle.std.proofs.lemmas.Bool.Decides.{nat_tests}
+use Rattle.rd_scene.specs.Styles.{painting, joined}
+use Rattle.rd_scene.specs.Rects.{Four, coordinate, extent, placed}
+use Rattle.rd_scene.specs.Internal.Widths.{AreWidths}
 
 both : (a b : Bool) → IsTrue a → IsTrue b → IsTrue (a && b)
 both true b p q = q
 both false b p q = absurd (let no : false ≡ true = p in cc)
+
+five : (a b c d e : ℕ) → a ≤ MAX_LINE_WIDTH → b ≤ MAX_LINE_WIDTH → c ≤ MAX_LINE_WIDTH → d ≤ MAX_LINE_WIDTH → e ≤ MAX_LINE_WIDTH
+    → IsTrue (nat_le a MAX_LINE_WIDTH && nat_le b MAX_LINE_WIDTH && nat_le c MAX_LINE_WIDTH && nat_le d MAX_LINE_WIDTH && nat_le e MAX_LINE_WIDTH)
+five a b c d e p q r s t = grind (arith, nat_tests)
 
 -- a rectangle whose numbers are within the limits
 pub fits_four : (x y w h : ℤ) → IsTrue (is_between (pos 0 -ℤ MAX_COORDINATE) x MAX_COORDINATE) → IsTrue (is_between (pos 0 -ℤ MAX_COORDINATE) y MAX_COORDINATE)
@@ -35,15 +46,45 @@ fits_placed r f =
     let h = b.h in
     grind (arith, ints)
 
-pub placed_some : (o : Option Rectangle) (r q : Rectangle) → r ≡ q → FitsRect q → IfSome o (λ s. s ≡ r) → IfNone o (IsPlaced r → ⊥) → o ≡ Some q
-placed_some None r q same f s n = absurd (n (subst IsPlaced (sym same) (fits_placed q f)))
-placed_some (Some s) r q same f e n = ap Some (e ∙ same)
+pub made_some : (o : Option Rectangle) (r q : Rectangle) → r ≡ q → FitsRect q → IfNone o (IsPlaced r → ⊥) → o ≡ None → ⊥
+made_some None r q same f n e = n (subst IsPlaced (sym same) (fits_placed q f))
+made_some (Some s) r q same f n e = cc
 
--- the default style, and one with another position, level and background
+pub placed_is : (n : Four) (x y w h : ℤ) (r : Rectangle) → r ≡ record { x = x; y = y; w = w; h = h } → Ok x ≡ (coordinate n.0).first → Ok y ≡ (coordinate n.1).first
+    → Ok w ≡ (extent n.2).first → Ok h ≡ (extent n.3).first → Ok r ≡ (placed n).first
+unfolding placed
+placed_is n x y w h r e a b c d = rw (sym a, sym b, sym c, sym d) (ap Ok e)
+
+-- the default style, and ones with other widths
 pub plain_fits : Fits plain
 unfolding fits
 plain_fits = refl
 
-pub naming_fits : (p : Option Position) (z : Option (Option ℤ)) (b : Option Color) → Fits (changed plain (naming p z b))
-unfolding fits
-naming_fits p z b = refl
+pub painting_fits : (b : Option Color) (w : Option Sides) (c : Option Color) (t : Option (Option Color)) (n : Option ℕ) (o : Option Color)
+    → IfSome w AreWidths → IfSome n (λ m. m ≤ MAX_LINE_WIDTH) → Fits (changed plain (painting b w c t n o))
+unfolding fits painting
+painting_fits b w c t n o ws m = five _ _ _ _ _ (top w ws) (right w ws) (bottom w ws) (left w ws) (outline n m)
+  where
+    top : (w : Option Sides) → IfSome w AreWidths → (unwrap_or w plain.border_width).top ≤ MAX_LINE_WIDTH
+    top None h = omega arith
+    top (Some s) h = h.top
+
+    right : (w : Option Sides) → IfSome w AreWidths → (unwrap_or w plain.border_width).right ≤ MAX_LINE_WIDTH
+    right None h = omega arith
+    right (Some s) h = h.right
+
+    bottom : (w : Option Sides) → IfSome w AreWidths → (unwrap_or w plain.border_width).bottom ≤ MAX_LINE_WIDTH
+    bottom None h = omega arith
+    bottom (Some s) h = h.bottom
+
+    left : (w : Option Sides) → IfSome w AreWidths → (unwrap_or w plain.border_width).left ≤ MAX_LINE_WIDTH
+    left None h = omega arith
+    left (Some s) h = h.left
+
+    outline : (n : Option ℕ) → IfSome n (λ m. m ≤ MAX_LINE_WIDTH) → unwrap_or n 0 ≤ MAX_LINE_WIDTH
+    outline None h = omega arith
+    outline (Some k) h = h
+
+pub joined_fits : (c p : StyleChange) (v : Option Visibility) (h : Option Pointer) → Fits (changed plain p) → Fits (changed plain (joined c p v h))
+unfolding fits joined
+joined_fits c p v h f = f

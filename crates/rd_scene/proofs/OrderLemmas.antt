@@ -1,21 +1,16 @@
 -- One step of the walk over the boxes.
-use Rattle.std.proofs.Common.{◌≡◌, ℕ, zero, suc, ◌+◌, ◌<◌, ◌==◌, Bool, true, false, ◌&&◌, List, [], ◌∷◌, ◌++◌, length, take, drop, reverse, get_or, drop-cons, take-suc, add-one, Option, Some, None, is_none, is_some, refl, sym, ap, ◌∙◌, bytes_eq, arith}
-use Rattle.std.proofs.lemmas.List.{take_more, reverse-append}
+use Rattle.std.proofs.Common.{◌≡◌, ℕ, suc, ◌+◌, ◌<◌, ◌==◌, nat_lt, if◌then◌else◌, Bool, true, false, ◌&&◌, List, [], ◌∷◌, ◌++◌, length, reverse, Option, Some, None, Ok, Err, is_none, refl, sym, ap, ◌∙◌, bytes_eq, arith, unwrap_or, ok_or, append_assoc, append-nil, subst, take, drop, get_or, drop-cons, add-one}
+use Rattle.std.specs.Bool.{⊤}
+use Rattle.std.proofs.lemmas.List.{take_more, reverse-append, length-reverse}
 use Rattle.std.proofs.lemmas.Bool.{ne_eqb}
-use Rattle.std.specs.Borrow.{Bor}
-use Rattle.std.proofs.lemmas.Map.Text.{hash_map_updates_str}
-use Rattle.indexmap.specs.IndexMap.{IndexMap, get_by, Updates}
+use Rattle.rd_tree.specs.declared.limits.TheConstants.{MAX_DEPTH}
+use Rattle.rd_scene.specs.declared.fault.Why.{Why}
+use Rattle.rd_scene.specs.declared.fault.Why.TheVariants as why
 use Rattle.rd_scene.specs.declared.script.SceneBox.{SceneBox}
-use Rattle.rd_scene.specs.Members.{only_if}
-use Rattle.rd_scene.specs.Order.{depth_of, depth_below, is_first, has_place, are_in_order}
-
-pub refused : (p : Bool) (d : ℕ) → only_if p (Some d) ≡ None → p ≡ false
-refused true d h = cc
-refused false d h = refl
-
-pub admitted : (p : Bool) (d x : ℕ) → only_if p (Some d) ≡ Some x → (p ≡ true) × (d ≡ x)
-admitted true d x h = (refl, cc)
-admitted false d x h = cc
+use Rattle.rd_scene.specs.Checked.{by_case}
+use Rattle.rd_scene.specs.Boxes.{depth_under}
+use Rattle.rd_scene.specs.Internal.Steps.{IsNoted}
+use Rattle.rd_scene.specs.Order.{depth_of, depth_below, is_first, has_level_below, has_place, are_in_order}
 
 module _ (bs : List SceneBox) (i : ℕ) (b : SceneBox) (within : i < length bs) (is : b ≡ get_or bs i b) where
   -- the boxes so far, and one more
@@ -26,42 +21,77 @@ module _ (bs : List SceneBox) (i : ℕ) (b : SceneBox) (within : i < length bs) 
   pub next_box : drop i bs ≡ b ∷ drop (i + 1) bs
   next_box = rw (add-one i) (drop-cons bs i b within ∙ ap (λ c. c ∷ drop (suc i) bs) (sym is))
 
+-- What a depth says of a parent: the box may stand there, and so deep.
+pub record Stands (before : List SceneBox) (parent : Option (List ℕ)) (depth : ℕ) : Type 0 where
+  pub place : has_place before parent ≡ true
+  pub deep : depth_below before parent ≡ depth
+
+pub stands_under : (before : List SceneBox) (parent : Option (List ℕ)) (depth : ℕ)
+    → (depth_under (is_first before) (λ id. depth_of id before) parent).first ≡ Ok depth → Stands before parent depth
+unfolding depth_under
+stands_under [] None depth h = record { place = refl; deep = cc }
+stands_under [] (Some p) depth h = cc
+stands_under (b ∷ before) None depth h = cc
+stands_under (b ∷ before) (Some p) depth h = by (depth_of p (b ∷ before)) refl h
+  where
+    level : (above : ℕ) (t : Bool) → depth_of p (b ∷ before) ≡ Some above → nat_lt above MAX_DEPTH ≡ t
+        → by_case {F = Why} {A = ⊤} (λ _. Ok (above + 1)) Err (if t then Ok tt else Err why.Depth) ≡ Ok depth → Stands (b ∷ before) (Some p) depth
+    level above true e f g = record { place = ap has_level_below e ∙ f; deep = ap (λ (o : Option ℕ). unwrap_or o 0 + 1) e ∙ cc }
+    level above false e f g = cc
+
+    by : (o : Option ℕ) → depth_of p (b ∷ before) ≡ o
+        → by_case {F = Why} (λ (above : ℕ). by_case {F = Why} {A = ⊤} (λ _. Ok (above + 1)) Err (if nat_lt above MAX_DEPTH then Ok tt else Err why.Depth)) Err (ok_or o why.Parent) ≡ Ok depth
+        → Stands (b ∷ before) (Some p) depth
+    by None e g = cc
+    by (Some above) e g = level above (nat_lt above MAX_DEPTH) e refl g
+
 -- none stands before the first box alone
-pub first_at : (bs : List SceneBox) (i : ℕ) (d : SceneBox) → i < length bs → (i == 0) ≡ is_first (reverse (take i bs))
-first_at bs zero d h = refl
-first_at bs (suc i) d h =
-    let before : i < length bs = omega arith in
-    let more : take (suc i) bs ≡ take i bs ++ get_or bs i d ∷ [] = take-suc bs i d before in
-    let not_zero : suc i ≡ zero → ⊥ = λ e. omega (arith, e) in
-    ne_eqb (suc i) zero not_zero ∙ rw (more, reverse-append) refl
-
-and_no : (x y z : Bool) → y ≡ false → (x && y && z) ≡ false
-and_no true y z h = rw h refl
-and_no false y z h = refl
-
--- a box without a place, or with an id that is taken, and one that may stand
-pub no_place : (before rest : List SceneBox) (b : SceneBox) → has_place before b.parent ≡ false → are_in_order before (b ∷ rest) ≡ false
-no_place before rest b h = and_no _ _ _ h
-
-pub taken_id : (before rest : List SceneBox) (b : SceneBox) → is_some (depth_of b.id before) ≡ true → are_in_order before (b ∷ rest) ≡ false
-taken_id before rest b h = by (depth_of b.id before) h
+pub first_at : (bs : List SceneBox) (i : ℕ) → length bs ≡ i → (i == 0) ≡ is_first (reverse bs)
+first_at bs i e = by (reverse bs) i (length-reverse bs ∙ e)
   where
-    by : (o : Option ℕ) → is_some o ≡ true → (is_none o && has_place before b.parent && are_in_order (b ∷ before) rest) ≡ false
-    by None h = cc
-    by (Some d) h = refl
-
-pub may_stand : (before rest : List SceneBox) (b : SceneBox) → is_some (depth_of b.id before) ≡ false → has_place before b.parent ≡ true
-    → are_in_order before (b ∷ rest) ≡ are_in_order (b ∷ before) rest
-may_stand before rest b free place = by (depth_of b.id before) free
-  where
-    by : (o : Option ℕ) → is_some o ≡ false → (is_none o && has_place before b.parent && are_in_order (b ∷ before) rest) ≡ are_in_order (b ∷ before) rest
-    by None h = rw place refl
-    by (Some d) h = cc
+    by : (cs : List SceneBox) (i : ℕ) → length cs ≡ i → (i == 0) ≡ is_first cs
+    by [] i e = rw (sym e) refl
+    by (c ∷ cs) i e = ne_eqb i 0 (λ z. omega (arith, e, z))
 
 -- the depths with one more box
-pub depths_more : {S : Type 0} (id : List ℕ) (m n : IndexMap (Bor (List ℕ)) ℕ S) (before : List SceneBox) (b : SceneBox) (depth : ℕ)
-    → Updates (λ x y. bytes_eq x.now y.now) m n (record { ref_ptr = (0, 0); now = id }) (Some depth) → id ≡ b.id → depth_below before b.parent ≡ depth
-    → ((q : List ℕ) → get_by (λ k. bytes_eq q k.now) m ≡ depth_of q before)
-    → (q : List ℕ) → get_by (λ k. bytes_eq q k.now) n ≡ depth_of q (b ∷ before)
-depths_more id m n before b depth updates same below tells q =
-    hash_map_updates_str id m n (Some depth) updates q ∙ rw (tells q, same, below) refl
+pub depths_more : (before : List SceneBox) (b : SceneBox) (depth : ℕ) (old new : List ℕ → Option ℕ) → ((q : List ℕ) → old q ≡ depth_of q before)
+    → depth_below before b.parent ≡ depth → ((q : List ℕ) → new q ≡ (if bytes_eq b.id q then Some depth else old q)) → (q : List ℕ) → new q ≡ depth_of q (b ∷ before)
+depths_more before b depth old new tells deep noted q = noted q ∙ rw (tells q, sym deep) refl
+
+turned : (before : List SceneBox) (c : SceneBox) (done : List SceneBox) → reverse (c ∷ done) ++ before ≡ reverse done ++ (c ∷ before)
+turned before c done = ap (λ (l : List SceneBox). l ++ before) (reverse-append (c ∷ []) done) ∙ append_assoc (reverse done) (c ∷ []) before
+
+step : (x y p q : Bool) → (p ≡ true → q ≡ true) → (x && y && p) ≡ true → (x && y && q) ≡ true
+step true true p q go g = go g
+step true false p q go g = cc
+step false y p q go g = cc
+
+-- a box more after the others
+pub order_more : (before done : List SceneBox) (b : SceneBox) → are_in_order before done ≡ true → depth_of b.id (reverse done ++ before) ≡ None
+    → has_place (reverse done ++ before) b.parent ≡ true → are_in_order before (done ++ b ∷ []) ≡ true
+order_more before [] b h free place = rw (free, place) refl
+order_more before (c ∷ done) b h free place =
+    step (is_none (depth_of c.id before)) (has_place before c.parent) (are_in_order (c ∷ before) done) (are_in_order (c ∷ before) (done ++ b ∷ []))
+    (λ g. order_more (c ∷ before) done b g (ap (λ (l : List SceneBox). depth_of b.id l) (sym (turned before c done)) ∙ free)
+    (ap (λ (l : List SceneBox). has_place l b.parent) (sym (turned before c done)) ∙ place)) h
+
+-- What holds of the depths after one more box.
+pub record Noted (done : List SceneBox) (new : List ℕ → Option ℕ) : Type 0 where
+  pub depths : (q : List ℕ) → new q ≡ depth_of q (reverse done)
+  pub order : are_in_order [] done ≡ true
+
+pub noted_more : (done : List SceneBox) (b : SceneBox) (i : ℕ) (old new : List ℕ → Option ℕ) → length done ≡ i → ((q : List ℕ) → old q ≡ depth_of q (reverse done))
+    → are_in_order [] done ≡ true → IsNoted (i == 0) b old new → Noted (done ++ b ∷ []) new
+noted_more done b i old new long tells order n =
+    let before : List SceneBox = reverse done in
+    let told : old ≡ (λ (q : List ℕ). depth_of q before) = λ k q. tells q k in
+    let under : (depth_under (is_first before) (λ q. depth_of q before) b.parent).first ≡ Ok n.depth =
+    subst (λ (o : List ℕ → Option ℕ). (depth_under (is_first before) o b.parent).first ≡ Ok n.depth) told
+    (subst (λ (f : Bool). (depth_under f old b.parent).first ≡ Ok n.depth) (first_at done i long) n.stands) in
+    let s : Stands before b.parent n.depth = stands_under before b.parent n.depth under in
+    let grown : reverse (done ++ b ∷ []) ≡ b ∷ before = reverse-append done (b ∷ []) in
+    let all : before ++ [] ≡ before = append-nil before in
+    record {
+      depths = λ q. depths_more before b n.depth old new tells s.deep n.noted q ∙ ap (λ (l : List SceneBox). depth_of q l) (sym grown);
+      order = order_more [] done b order (ap (λ (l : List SceneBox). depth_of b.id l) all ∙ sym (tells b.id) ∙ n.fresh) (ap (λ (l : List SceneBox). has_place l b.parent) all ∙ s.place);
+    }

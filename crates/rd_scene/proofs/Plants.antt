@@ -1,7 +1,7 @@
 -- The walk over the boxes that are planted.
-use Rattle.std.proofs.Common.{◌≡◌, ℕ, ◌+◌, ◌<◌, ◌≤◌, Bool, true, false, ◌&&◌, ◌||◌, cond, List, [], ◌∷◌, ◌++◌, reverse, Option, Some, None, is_none, is_some, IsSome, refl, sym, ap, ◌∙◌, bytes_eq, unwrap_or, option_and_then, option_map, arith, inl, inr}
+use Rattle.std.proofs.Common.{◌≡◌, ℕ, ◌+◌, ◌≤◌, Bool, true, false, ◌&&◌, List, [], ◌∷◌, ◌++◌, reverse, Option, Some, None, is_none, is_some, IsSome, refl, sym, ap, ◌∙◌, bytes_eq, option_and_then, option_map, arith, inl, inr}
 use Rattle.rd_keys.specs.Keys.{same_key}
-use Rattle.rd_tree.specs.Forest.{empty, tree, has, depth}
+use Rattle.rd_tree.specs.Forest.{has, depth}
 use Rattle.rd_tree.specs.Touching.{touch}
 use Rattle.rd_tree.specs.declared.limits.TheConstants.{MAX_DEPTH}
 use Rattle.rd_tree.proofs.Nodes.Naming.{named_there, bytes_same}

@@ -1,35 +1,65 @@
 -- Commands as a script writes them. They are this project's own choice.
-use Rattle.std.specs.Prelude.{ℕ, if◌then◌else◌, List, [], ◌∷◌, codes, bytes_eq, Option, Some, None}
-use Rattle.serde_json.specs.Data.{Data}
-use Rattle.serde_json.specs.Find.{get, as_str}
+use Rattle.std.specs.Prelude.{ℕ, ◌+◌, ℤ, pos, ◌-ℤ◌, if◌then◌else◌, List, [], ◌∷◌, codes, bytes_eq, IsTrue}
+use Rattle.serde_json.specs.Data.{Data, Members, Items, no_items, item}
+use Rattle.rd_style.specs.declared.limits.TheConstants.{MAX_COORDINATE}
+use Rattle.rd_style.specs.Limits.{is_between}
+use Rattle.rd_scene.specs.declared.fault.Why.{Why}
+use Rattle.rd_scene.specs.declared.fault.Place.TheVariants as place
 use Rattle.rd_scene.specs.declared.script.Command.{Command}
-use Rattle.rd_scene.specs.declared.script.Command.TheVariants.{Change, Paint, Dump}
-use Rattle.rd_scene.specs.Members.{◌>>=◌, only_if, has_only}
+use Rattle.rd_scene.specs.declared.script.Command.TheVariants.{Change, Paint, Hit, Pixel, Dump, Shot}
+use Rattle.rd_scene.specs.Checked.{Checked, good, ◌⊛◌, ◌>>=◌}
+use Rattle.rd_scene.specs.Members.{members, known, needed, string, number}
+use Rattle.rd_scene.specs.Places.{FormFault, at}
 use Rattle.rd_scene.specs.Edits.{edit_named, FitsEdit}
 
--- what the words `paint` and `dump` name
-abbrev pub command_named : List ℕ → Option Command
-command_named w =
-    if bytes_eq w (codes "paint") then Some Paint else
-    if bytes_eq w (codes "dump") then Some Dump else None
+-- a command that has no other member
+abbrev pub alone : Command → Members → Checked Why Command
+alone c ms = good (λ _. c) ⊛ known (codes "do" ∷ []) ms
 
--- the command, where the value has no other member
-abbrev pub alone : Command → Data → Option Command
-alone c d = only_if (has_only (codes "do" ∷ []) d) (Some c)
+-- a column or a row of a pixel
+unfoldable pub pixel_at : List ℕ → Data → Checked Why ℤ
+pixel_at name d = needed name d >>= number (pos 0 -ℤ MAX_COORDINATE) MAX_COORDINATE
 
--- such a command, or else an edit
-abbrev pub command_by : Option Command → List ℕ → Data → Option Command
-command_by (Some c) w d = alone c d
-command_by None w d = edit_named w d >>= λ e. Some (Change e)
+-- `hit` and `pixel` have a column and a row
+unfoldable pub at_pixel : (ℤ → ℤ → Command) → Members → Data → Checked Why Command
+at_pixel c ms d =
+    good (λ _ x y. c x y)
+    ⊛ known (codes "do" ∷ codes "x" ∷ codes "y" ∷ []) ms
+    ⊛ pixel_at (codes "x") d
+    ⊛ pixel_at (codes "y") d
+
+-- the words of commands; any other one is that of an edit
+unfoldable pub command_named : List ℕ → Members → Data → Checked Why Command
+command_named w ms d =
+    if bytes_eq w (codes "paint") then alone Paint ms else
+    if bytes_eq w (codes "hit") then at_pixel Hit ms d else
+    if bytes_eq w (codes "pixel") then at_pixel Pixel ms d else
+    if bytes_eq w (codes "dump") then alone Dump ms else
+    if bytes_eq w (codes "shot") then alone Shot ms else (edit_named w ms d >>= λ e. good (Change e))
+
+-- the word at the member `do`
+abbrev pub word_at : Data → Checked Why (List ℕ)
+word_at d = needed (codes "do") d >>= string
 
 -- an object whose member `do` names the command
-unfoldable pub command_of : Data → Option Command
-command_of d = do
-  w ← (get (codes "do") d >>= as_str)
-  command_by (command_named w) w d
+unfoldable pub command_of : Data → Checked Why Command
+command_of d = members d >>= λ ms. (word_at d >>= λ w. command_named w ms d)
+
+-- the commands of an array from the i-th on
+unfoldable pub commands_from : ℕ → Items → Checked FormFault (List Command)
+commands_from i no_items = good []
+commands_from i (item d ds) = good ◌∷◌ ⊛ at (place.Command i) (command_of d) ⊛ commands_from (i + 1) ds
+
+-- may a pixel be asked for there?
+abbrev pub IsPixel : ℤ → ℤ → Type 0
+IsPixel x y =
+    IsTrue (is_between (pos 0 -ℤ MAX_COORDINATE) x MAX_COORDINATE) × IsTrue (is_between (pos 0 -ℤ MAX_COORDINATE) y MAX_COORDINATE)
 
 -- What a command names is within the limits.
 abbrev pub FitsCommand : Command → Type 0
 FitsCommand (Change e) = FitsEdit e
 FitsCommand Paint = Unit {0}
+FitsCommand (Hit x y) = IsPixel x y
+FitsCommand (Pixel x y) = IsPixel x y
 FitsCommand Dump = Unit {0}
+FitsCommand Shot = Unit {0}

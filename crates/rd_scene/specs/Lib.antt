@@ -1,12 +1,16 @@
 pub mod Boxes
+pub mod Checked
 pub mod Colors
 pub mod Commands
+pub mod Differing
 pub mod Edits
 pub mod Members
 pub mod Order
+pub mod Places
 pub mod Planting
 pub mod Reading
 pub mod Rects
 pub mod Scripts
 pub mod Styles
+pub mod Writing
 pub mod Internal

@@ -1,67 +1,77 @@
--- Members of an object, whole numbers and arrays, where a JSON value (RFC 8259) has them. What a script takes of them is
--- this project's own choice.
-use Rattle.std.specs.Prelude.{ℕ, ◌+◌, ℤ, Bool, true, false, ◌&&◌, nat_le, if◌then◌else◌, List, [], ◌∷◌, bytes_eq, Option, Some, None}
+-- Members of an object, whole numbers and arrays, where a JSON value (RFC 8259) has them. What a script takes of them
+-- is this project's own choice.
+use Rattle.std.specs.Prelude.{ℕ, ◌+◌, ℤ, Bool, true, ◌&&◌, nat_le, if◌then◌else◌, List, bytes_eq, Option, Some, None, option_and_then, ok_or, Ok, Err, ⊤}
 use Rattle.std.specs.List.{list_any}
-use Rattle.serde_json.specs.Data.{Data, null, boolean, number, string, array, object, Items, no_items, item, Members, no_members, member}
-use Rattle.serde_json.specs.Find.{get, as_number, as_array, as_i64}
+use Rattle.serde_json.specs.Data.{Data, Items, no_items, item, Members, no_members, member}
+use Rattle.serde_json.specs.Find.{get, as_number, as_str, as_array, as_object, as_i64}
 use Rattle.rd_style.specs.Limits.{is_between}
+use Rattle.rd_scene.specs.declared.fault.Why.{Why}
+use Rattle.rd_scene.specs.declared.fault.Why.TheVariants as why
+use Rattle.rd_scene.specs.Checked.{Checked, rule, good, ◌>>=◌}
 
-infixl 10 ◌>>=◌
--- what follows of a value, where there is one
-abbrev pub ◌>>=◌ : {A B : Type 0} → Option A → (A → Option B) → Option B
-None >>= f = None
-(Some a) >>= f = f a
+-- what is there, or this rule is broken
+abbrev pub there : {A : Type 0} → Why → Option A → Checked Why A
+there w o = rule (ok_or o w)
 
--- o where b holds, and nothing where it does not
-abbrev pub only_if : {A : Type 0} → Bool → Option A → Option A
-only_if b o = if b then o else None
+-- the test holds, or this rule is broken
+abbrev pub holds : Why → Bool → Checked Why ⊤
+holds w b = rule (if b then Ok tt else Err w)
 
 -- Has every member one of these names?
 abbrev pub are_known : List (List ℕ) → Members → Bool
 are_known names no_members = true
 are_known names (member k d ms) = list_any (bytes_eq k) names && are_known names ms
 
--- Is it an object without members of other names?
-abbrev pub has_only : List (List ℕ) → Data → Bool
-has_only names null = false
-has_only names (boolean b) = false
-has_only names (number n) = false
-has_only names (string s) = false
-has_only names (array ds) = false
-has_only names (object ms) = are_known names ms
+-- an object
+abbrev pub members : Data → Checked Why Members
+members d = there why.Kind (as_object d)
+
+-- no member has another name than these
+abbrev pub known : List (List ℕ) → Members → Checked Why ⊤
+known names ms = holds why.Unknown (are_known names ms)
+
+-- a member that must be there
+abbrev pub needed : List ℕ → Data → Checked Why Data
+needed name d = there why.Missing (get name d)
+
+-- a value that need not be there
+abbrev pub optional : {A : Type 0} → (Data → Checked Why A) → Option Data → Checked Why (Option A)
+optional read None = good None
+optional read (Some d) = read d >>= λ a. good (Some a)
 
 -- a member that need not be there
-abbrev pub optional : {A : Type 0} → A → (Data → Option A) → Option Data → Option A
-optional default read None = Some default
-optional default read (Some d) = read d
+abbrev pub if_given : {A : Type 0} → (Data → Checked Why A) → List ℕ → Data → Checked Why (Option A)
+if_given read name d = optional read (get name d)
 
--- a member that is named or not
-abbrev pub if_given : {A : Type 0} → (Data → Option A) → Option Data → Option (Option A)
-if_given read None = Some None
-if_given read (Some d) = read d >>= λ a. Some (Some a)
+-- a string
+abbrev pub string : Data → Checked Why (List ℕ)
+string d = there why.Kind (as_str d)
 
 -- a number written as a whole number of 64 bits
-abbrev pub whole_number : Data → Option ℤ
-whole_number d = as_number d >>= as_i64
+unfoldable pub whole_number : Data → Checked Why ℤ
+whole_number d = there why.Kind (option_and_then as_i64 (as_number d))
 
--- such a number from low to high
-abbrev pub from_to : ℤ → ℤ → Data → Option ℤ
-from_to low high d = whole_number d >>= λ z. only_if (is_between low z high) (Some z)
+-- a whole number is from low to high
+abbrev pub within : ℤ → ℤ → ℤ → Checked Why ℤ
+within low high z = rule (if is_between low z high then Ok z else Err why.Range)
+
+-- a whole number from low to high
+abbrev pub number : ℤ → ℤ → Data → Checked Why ℤ
+number low high d = whole_number d >>= within low high
+
+-- an array
+abbrev pub elements : Data → Checked Why Items
+elements d = there why.Kind (as_array d)
+
+-- the array at a member
+abbrev pub elements_at : List ℕ → Data → Checked Why Items
+elements_at name d = needed name d >>= elements
 
 -- how many elements an array has
 abbrev pub count : Items → ℕ
 count no_items = 0
 count (item d ds) = count ds + 1
 
--- an array of low to high elements
-abbrev pub array_of : ℕ → ℕ → Data → Option Items
-array_of low high d = as_array d >>= λ ds. only_if (nat_le low (count ds) && nat_le (count ds) high) (Some ds)
-
--- the elements of the array at a member
-abbrev pub elements : List ℕ → ℕ → ℕ → Data → Option Items
-elements name low high d = get name d >>= array_of low high
-
--- what each element is read as, where each is
-abbrev pub read_each : {A : Type 0} → (Data → Option A) → Items → Option (List A)
-read_each read no_items = Some []
-read_each read (item d ds) = read d >>= λ a. (read_each read ds >>= λ rest. Some (a ∷ rest))
+-- there are low to high of them
+abbrev pub counted : ℕ → ℕ → ℕ → Checked Why ⊤
+counted low high n = holds why.Count (nat_le low n && nat_le n high)

@@ -1,50 +1,81 @@
 -- Sizes and rectangles as a script writes them. Their form is this project's own choice.
-use Rattle.std.specs.Prelude.{ℤ, pos, ◌-ℤ◌, [], ◌∷◌, codes, Option, Some, None}
+use Rattle.std.specs.Prelude.{ℕ, ℤ, pos, ◌-ℤ◌, List, [], ◌∷◌, codes, unsigned_abs, Err}
 use Rattle.serde_json.specs.Data.{Data, Items, no_items, item}
-use Rattle.serde_json.specs.Find.{get, as_array}
 use Rattle.rd_geom.specs.Plane.{Rectangle}
 use Rattle.rd_geom.specs.declared.rect.Size.{Size}
+use Rattle.rd_geom.specs.declared.rect.Sides.{Sides}
 use Rattle.rd_geom.specs.declared.rect.TheConstants.{MAX_CANVAS_SIDE}
-use Rattle.rd_style.specs.declared.limits.TheConstants.{MAX_COORDINATE, MAX_EXTENT}
-use Rattle.rd_scene.specs.Members.{◌>>=◌, only_if, has_only, from_to}
+use Rattle.rd_style.specs.declared.limits.TheConstants.{MAX_COORDINATE, MAX_EXTENT, MAX_LINE_WIDTH}
+use Rattle.rd_scene.specs.declared.fault.Why.{Why}
+use Rattle.rd_scene.specs.declared.fault.Why.TheVariants as why
+use Rattle.rd_scene.specs.Checked.{Checked, rule, good, ◌⊛◌, ◌>>=◌}
+use Rattle.rd_scene.specs.Members.{members, known, needed, elements, whole_number, within, number}
+
+-- four whole numbers
+abbrev pub Four : Type 0
+Four = ℤ × ℤ × ℤ × ℤ
+
+-- each a whole number
+unfoldable pub four_numbers : Data → Data → Data → Data → Checked Why Four
+four_numbers a b c d =
+    good (λ w x y z. (w, x, y, z)) ⊛ whole_number a ⊛ whole_number b ⊛ whole_number c ⊛ whole_number d
+
+-- exactly four elements
+abbrev pub four_of : Items → Checked Why Four
+four_of (item a (item b (item c (item d no_items)))) = four_numbers a b c d
+four_of ds = rule (Err why.Kind)
 
 -- a column or a row where a box begins
-abbrev pub coordinate : Data → Option ℤ
-coordinate d = from_to (pos 0 -ℤ MAX_COORDINATE) MAX_COORDINATE d
+unfoldable pub coordinate : ℤ → Checked Why ℤ
+coordinate z = within (pos 0 -ℤ MAX_COORDINATE) MAX_COORDINATE z
 
 -- a width or a height of a box
-abbrev pub extent : Data → Option ℤ
-extent d = from_to (pos 0) MAX_EXTENT d
+unfoldable pub extent : ℤ → Checked Why ℤ
+extent z = within (pos 0) MAX_EXTENT z
 
 -- CSS 2.2 section 8.1: the border box with this left, top, width and height
-unfoldable pub rect_from : Data → Data → Data → Data → Option Rectangle
-rect_from a b c d = do
-  x ← coordinate a
-  y ← coordinate b
-  w ← extent c
-  h ← extent d
-  Some (record { x = x; y = y; w = w; h = h })
-
--- an array of exactly four
-abbrev pub four : Items → Option Rectangle
-four (item a (item b (item c (item d no_items)))) = rect_from a b c d
-four ds = None
+unfoldable pub placed : Four → Checked Why Rectangle
+placed n =
+    good (λ x y w h. record { x = x; y = y; w = w; h = h })
+    ⊛ coordinate n.0 ⊛ coordinate n.1 ⊛ extent n.2 ⊛ extent n.3
 
 -- a rectangle is an array of left, top, width and height
-abbrev pub rect_of : Data → Option Rectangle
-rect_of d = as_array d >>= four
+abbrev pub rect_of : Data → Checked Why Rectangle
+rect_of d = elements d >>= four_of >>= placed
 
 -- the rectangle of a box or an edit
-abbrev pub rect_at : Data → Option Rectangle
-rect_at d = get (codes "rect") d >>= rect_of
+abbrev pub rect_at : Data → Checked Why Rectangle
+rect_at d = needed (codes "rect") d >>= rect_of
+
+-- a width of a border or an outline
+unfoldable pub width : ℤ → Checked Why ℕ
+width z = within (pos 0) (pos MAX_LINE_WIDTH) z >>= λ w. good (unsigned_abs w)
+
+-- CSS 2.2 section 8.5.1: the widths of the four borders
+unfoldable pub bordered : Four → Checked Why Sides
+bordered n =
+    good (λ t r b l. record { top = t; right = r; bottom = b; left = l })
+    ⊛ width n.0 ⊛ width n.1 ⊛ width n.2 ⊛ width n.3
+
+-- the widths of the borders are an array: top, right, bottom and left
+abbrev pub sides_of : Data → Checked Why Sides
+sides_of d = elements d >>= four_of >>= bordered
+
+-- CSS 2.2 section 18.4: the width of the outline
+abbrev pub outline_width_of : Data → Checked Why ℕ
+outline_width_of d = whole_number d >>= width
 
 -- a width or a height of the canvas
-abbrev pub side : Data → Option ℤ
-side d = from_to (pos 1) MAX_CANVAS_SIDE d
+abbrev pub side : Data → Checked Why ℤ
+side d = number (pos 1) MAX_CANVAS_SIDE d
+
+-- the same at its member
+abbrev pub side_at : List ℕ → Data → Checked Why ℤ
+side_at name d = needed name d >>= side
 
 -- the canvas is an object of its two sides
-unfoldable pub canvas_of : Data → Option Size
-canvas_of d = only_if (has_only (codes "w" ∷ codes "h" ∷ []) d) do
-  w ← (get (codes "w") d >>= side)
-  h ← (get (codes "h") d >>= side)
-  Some (record { w = w; h = h })
+unfoldable pub canvas_of : Data → Checked Why Size
+canvas_of d = members d >>= λ ms.
+    good (λ _ w h. record { w = w; h = h })
+    ⊛ known (codes "w" ∷ codes "h" ∷ []) ms
+    ⊛ side_at (codes "w") d ⊛ side_at (codes "h") d

@@ -1,7 +1,6 @@
 -- Scripts: what they are, and what a JSON value says as one. The limits and the form are this project's own choice.
-use Rattle.std.specs.Prelude.{◌≡◌, ◌≤◌, pos, true, ◌&&◌, List, [], ◌∷◌, length, All, codes, Option, Some}
+use Rattle.std.specs.Prelude.{◌≡◌, ◌≤◌, ℤ, pos, ⊤, true, List, [], ◌∷◌, length, All, codes, Option}
 use Rattle.serde_json.specs.Data.{Data}
-use Rattle.serde_json.specs.Find.{get}
 use Rattle.rd_geom.specs.declared.rect.Size.{Size}
 use Rattle.rd_geom.specs.Canvas.{IsCanvas}
 use Rattle.rd_style.specs.Limits.{Fits, FitsRect}
@@ -9,11 +8,15 @@ use Rattle.rd_tree.specs.declared.limits.TheConstants.{MAX_BOXES}
 use Rattle.rd_scene.specs.declared.script.TheConstants.{MAX_COMMANDS}
 use Rattle.rd_scene.specs.declared.script.SceneBox.{SceneBox}
 use Rattle.rd_scene.specs.declared.script.Command.{Command}
-use Rattle.rd_scene.specs.Members.{◌>>=◌, only_if, has_only, from_to, elements, read_each}
+use Rattle.rd_scene.specs.declared.fault.Why.{Why}
+use Rattle.rd_scene.specs.declared.fault.Place.TheVariants as place
+use Rattle.rd_scene.specs.Checked.{Checked, faults, value, good, ◌⊛◌, ◌>>=◌}
+use Rattle.rd_scene.specs.Members.{members, known, needed, number, elements_at, count, counted}
+use Rattle.rd_scene.specs.Places.{FormFault, at}
 use Rattle.rd_scene.specs.Rects.{canvas_of}
-use Rattle.rd_scene.specs.Boxes.{box_of}
+use Rattle.rd_scene.specs.Boxes.{boxes_from}
 use Rattle.rd_scene.specs.Order.{are_in_order}
-use Rattle.rd_scene.specs.Commands.{command_of, FitsCommand}
+use Rattle.rd_scene.specs.Commands.{commands_from, FitsCommand}
 
 -- a canvas, its boxes in the order of the text, and what is done to them
 pub record Script : Type 0 where
@@ -36,12 +39,43 @@ pub record IsScript (s : Script) : Type 0 where
   pub few : length s.commands ≤ MAX_COMMANDS
   pub commands : All FitsCommand s.commands
 
--- a script object, of version 1
-unfoldable pub script_of : Data → Option Script
-script_of d = only_if (has_only (codes "version" ∷ codes "canvas" ∷ codes "boxes" ∷ codes "script" ∷ []) d) do
-  version ← (get (codes "version") d >>= from_to (pos 1) (pos 1))
-  canvas ← (get (codes "canvas") d >>= canvas_of)
-  boxes ← (elements (codes "boxes") 1 MAX_BOXES d >>= read_each box_of)
-  only_if (are_in_order [] boxes) do
-    commands ← (elements (codes "script") 0 MAX_COMMANDS d >>= read_each command_of)
-    Some (record { canvas = canvas; boxes = boxes; commands = commands })
+-- the boxes of a script object
+abbrev pub boxes_at : Data → Checked FormFault (List SceneBox)
+boxes_at d = at place.Top (elements_at (codes "boxes") d) >>= λ ds.
+    good (λ _ boxes. boxes) ⊛ at place.Top (counted 1 MAX_BOXES (count ds)) ⊛ boxes_from 0 [] ds
+
+-- the commands of a script object
+abbrev pub commands_at : Data → Checked FormFault (List Command)
+commands_at d = at place.Top (elements_at (codes "script") d) >>= λ ds.
+    good (λ _ commands. commands) ⊛ at place.Top (counted 0 MAX_COMMANDS (count ds)) ⊛ commands_from 0 ds
+
+-- the canvas of a script object
+abbrev pub canvas_at : Data → Checked FormFault Size
+canvas_at d = at place.Top (needed (codes "canvas") d) >>= λ c. at place.Canvas (canvas_of c)
+
+-- an object of a script's members
+abbrev pub known_at : Data → Checked FormFault ⊤
+known_at d = at place.Top (members d) >>= λ ms.
+    at place.Top (known (codes "version" ∷ codes "canvas" ∷ codes "boxes" ∷ codes "script" ∷ []) ms)
+
+-- version 1
+abbrev pub version_of : Data → Checked Why ℤ
+version_of d = needed (codes "version") d >>= number (pos 1) (pos 1)
+
+-- the version of a script object
+abbrev pub version_at : Data → Checked FormFault ℤ
+version_at d = at place.Top (version_of d)
+
+-- a script object
+unfoldable pub reading_of : Data → Checked FormFault Script
+reading_of d =
+    good (λ _ _ canvas boxes commands. record { canvas = canvas; boxes = boxes; commands = commands })
+    ⊛ known_at d ⊛ version_at d ⊛ canvas_at d ⊛ boxes_at d ⊛ commands_at d
+
+-- every rule of the format that the value breaks, in order
+abbrev pub form_faults : Data → List FormFault
+form_faults d = faults (reading_of d)
+
+-- the script that the value is, where it breaks none
+abbrev pub script_of : Data → Option Script
+script_of d = value (reading_of d)

@@ -1,23 +1,45 @@
--- Styles as a script writes them. The members that a script may name so far are this project's own choice.
-use Rattle.std.specs.Prelude.{ℕ, ℤ, pos, negsuc, Bool, false, if◌then◌else◌, List, [], ◌∷◌, codes, bytes_eq, Option, Some, None}
+-- Styles as a script writes them. Which members there are, and in which order they are read, is this project's own
+-- choice.
+use Rattle.std.specs.Prelude.{ℕ, ℤ, pos, negsuc, Bool, false, if◌then◌else◌, List, [], ◌∷◌, codes, bytes_eq, Option, Some, None, unsigned_abs}
 use Rattle.serde_json.specs.Data.{Data}
 use Rattle.serde_json.specs.Find.{get, as_str}
 use Rattle.rd_geom.specs.declared.color.Color.{Color}
+use Rattle.rd_geom.specs.declared.rect.Sides.{Sides}
 use Rattle.rd_style.specs.declared.styles.Style.{Style}
+use Rattle.rd_style.specs.declared.styles.StyleChange.{StyleChange}
 use Rattle.rd_style.specs.declared.kinds.Position.{Position}
 use Rattle.rd_style.specs.declared.kinds.Position.TheVariants as position
-use Rattle.rd_style.specs.declared.styles.StyleChange.{StyleChange}
+use Rattle.rd_style.specs.declared.kinds.Overflow.{Overflow}
+use Rattle.rd_style.specs.declared.kinds.Overflow.TheVariants as overflow
+use Rattle.rd_style.specs.declared.kinds.Display.{Display}
+use Rattle.rd_style.specs.declared.kinds.Display.TheVariants as display
+use Rattle.rd_style.specs.declared.kinds.Floating.{Floating}
+use Rattle.rd_style.specs.declared.kinds.Floating.TheVariants as floating
+use Rattle.rd_style.specs.declared.kinds.Visibility.{Visibility}
+use Rattle.rd_style.specs.declared.kinds.Visibility.TheVariants as visibility
+use Rattle.rd_style.specs.declared.kinds.Pointer.{Pointer}
+use Rattle.rd_style.specs.declared.kinds.Pointer.TheVariants as pointer
 use Rattle.rd_style.specs.Changes.{plain, changed, nothing_named}
-use Rattle.rd_scene.specs.Members.{◌>>=◌, only_if, has_only, if_given, from_to}
-use Rattle.rd_scene.specs.Colors.{color_of}
+use Rattle.rd_scene.specs.declared.fault.Why.{Why}
+use Rattle.rd_scene.specs.declared.fault.Why.TheVariants as why
+use Rattle.rd_scene.specs.Checked.{Checked, good, ◌⊛◌, ◌>>=◌}
+use Rattle.rd_scene.specs.Members.{there, members, known, if_given, string, number}
+use Rattle.rd_scene.specs.Colors.{color_of, content_of}
+use Rattle.rd_scene.specs.Rects.{sides_of, outline_width_of}
+
+-- what a word stands for in a list of words
+abbrev pub meaning : {A : Type 0} → List (List ℕ × A) → List ℕ → Option A
+meaning [] w = None
+meaning (e ∷ es) w = if bytes_eq w e.0 then Some e.1 else meaning es w
+
+-- one of these words
+abbrev pub word_of : {A : Type 0} → List (List ℕ × A) → Data → Checked Why A
+word_of words d = string d >>= λ w. there why.Kind (meaning words w)
 
 -- CSS 2.2 section 9.3.1: `position`
-abbrev pub position_of : Data → Option Position
-position_of d = as_str d >>= λ w.
-    if bytes_eq w (codes "static") then Some position.Static else
-    if bytes_eq w (codes "relative") then Some position.Relative else
-    if bytes_eq w (codes "absolute") then Some position.Absolute else
-    if bytes_eq w (codes "fixed") then Some position.Fixed else None
+abbrev pub position_of : Data → Checked Why Position
+position_of = word_of ((codes "static", position.Static) ∷ (codes "relative", position.Relative)
+    ∷ (codes "absolute", position.Absolute) ∷ (codes "fixed", position.Fixed) ∷ [])
 
 -- Is this the word `auto`?
 abbrev pub is_auto : Option (List ℕ) → Bool
@@ -25,21 +47,106 @@ is_auto None = false
 is_auto (Some w) = bytes_eq w (codes "auto")
 
 -- CSS 2.2 section 9.9.1: `z-index`, `auto` or a whole number, here of 32 bits; None is auto
-abbrev pub z_of : Data → Option (Option ℤ)
-z_of d = if is_auto (as_str d) then Some None else (from_to (negsuc 2147483647) (pos 2147483647) d >>= λ z. Some (Some z))
+abbrev pub z_of : Data → Checked Why (Option ℤ)
+z_of d = if is_auto (as_str d) then good None else (number (negsuc 2147483647) (pos 2147483647) d >>= λ z. good (Some z))
 
--- a change that names these members
-abbrev pub naming : Option Position → Option (Option ℤ) → Option Color → StyleChange
-naming p z background = record nothing_named { position = p; z = z; background = background }
+-- CSS Color 3 section 3.2: `opacity`, here of 8 bits
+abbrev pub opacity_of : Data → Checked Why ℕ
+opacity_of d = number (pos 0) (pos 255) d >>= λ z. good (unsigned_abs z)
+
+-- CSS 2.2 section 11.1.1: `overflow`
+abbrev pub overflow_of : Data → Checked Why Overflow
+overflow_of = word_of ((codes "visible", overflow.Visible) ∷ (codes "hidden", overflow.Hidden)
+    ∷ (codes "scroll", overflow.Scroll) ∷ (codes "auto", overflow.Auto) ∷ [])
+
+-- CSS 2.2 section 9.2.4: `display`, as far as a box here has it
+abbrev pub display_of : Data → Checked Why Display
+display_of = word_of ((codes "block", display.Block) ∷ (codes "inline", display.Inline)
+    ∷ (codes "inline-block", display.InlineBlock) ∷ [])
+
+-- CSS 2.2 section 9.5.1: `float`
+abbrev pub float_of : Data → Checked Why Floating
+float_of = word_of ((codes "none", floating.No) ∷ (codes "left", floating.Left) ∷ (codes "right", floating.Right) ∷ [])
+
+-- CSS 2.2 section 11.2: `visibility`
+abbrev pub visibility_of : Data → Checked Why Visibility
+visibility_of = word_of ((codes "visible", visibility.Visible) ∷ (codes "hidden", visibility.Hidden)
+    ∷ (codes "collapse", visibility.Collapse) ∷ [])
+
+-- whether a pointer hits the box
+abbrev pub pointer_of : Data → Checked Why Pointer
+pointer_of = word_of ((codes "auto", pointer.Auto) ∷ (codes "none", pointer.Off) ∷ [])
+
+-- a change that names members that place a box
+unfoldable pub placing : Option Position → Option (Option ℤ) → Option ℕ → Option Overflow → Option Display → Option Floating → StyleChange
+placing p z o v d f = record nothing_named { position = p; z = z; opacity = o; overflow = v; display = d; float = f }
+
+-- a change that names members that a box is painted with
+unfoldable pub painting : Option Color → Option Sides → Option Color → Option (Option Color) → Option ℕ → Option Color → StyleChange
+painting b w c t n o =
+    record nothing_named { background = b; border_width = w; border_color = c; content = t; outline_width = n; outline_color = o }
+
+-- what the first change names of placing, the second of painting, and then these two
+unfoldable pub joined : StyleChange → StyleChange → Option Visibility → Option Pointer → StyleChange
+joined c p v h = record c {
+  background = p.background;
+  border_width = p.border_width;
+  border_color = p.border_color;
+  content = p.content;
+  outline_width = p.outline_width;
+  outline_color = p.outline_color;
+  visibility = v;
+  pointer = h;
+}
+
+-- the members that place a box
+unfoldable pub placing_of : Data → Checked Why StyleChange
+placing_of d =
+    good placing
+    ⊛ if_given position_of (codes "position") d
+    ⊛ if_given z_of (codes "z-index") d
+    ⊛ if_given opacity_of (codes "opacity") d
+    ⊛ if_given overflow_of (codes "overflow") d
+    ⊛ if_given display_of (codes "display") d
+    ⊛ if_given float_of (codes "float") d
+
+-- the members that a box is painted with
+unfoldable pub painting_of : Data → Checked Why StyleChange
+painting_of d =
+    good painting
+    ⊛ if_given color_of (codes "background") d
+    ⊛ if_given sides_of (codes "border-width") d
+    ⊛ if_given color_of (codes "border-color") d
+    ⊛ if_given content_of (codes "content") d
+    ⊛ if_given outline_width_of (codes "outline-width") d
+    ⊛ if_given color_of (codes "outline-color") d
+
+-- the names of all members
+abbrev pub style_names : List (List ℕ)
+style_names =
+    codes "position" ∷ codes "z-index" ∷ codes "opacity" ∷ codes "overflow" ∷ codes "display" ∷ codes "float"
+    ∷ codes "background" ∷ codes "border-width" ∷ codes "border-color" ∷ codes "content" ∷ codes "outline-width"
+    ∷ codes "outline-color" ∷ codes "visibility" ∷ codes "pointer-events" ∷ []
 
 -- a style object names members, of which each may be absent
-unfoldable pub change_of : Data → Option StyleChange
-change_of d = only_if (has_only (codes "position" ∷ codes "z-index" ∷ codes "background" ∷ []) d) do
-  p ← if_given position_of (get (codes "position") d)
-  z ← if_given z_of (get (codes "z-index") d)
-  background ← if_given color_of (get (codes "background") d)
-  Some (naming p z background)
+unfoldable pub change_of : Data → Checked Why StyleChange
+change_of d = members d >>= λ ms.
+    good (λ _ c p v h. joined c p v h)
+    ⊛ known style_names ms
+    ⊛ placing_of d
+    ⊛ painting_of d
+    ⊛ if_given visibility_of (codes "visibility") d
+    ⊛ if_given pointer_of (codes "pointer-events") d
 
 -- the style of a box has the default where a member is absent
-abbrev pub style_of : Data → Option Style
-style_of d = change_of d >>= λ c. Some (changed plain c)
+abbrev pub style_of : Data → Checked Why Style
+style_of d = change_of d >>= λ c. good (changed plain c)
+
+-- a style that may be absent, as if it were empty
+abbrev pub style_or_plain : Option Data → Checked Why Style
+style_or_plain None = good plain
+style_or_plain (Some d) = style_of d
+
+-- the style of a box or an insertion
+abbrev pub style_at : Data → Checked Why Style
+style_at d = style_or_plain (get (codes "style") d)

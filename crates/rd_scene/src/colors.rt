@@ -4,6 +4,8 @@ ghost use Rattle.std.specs.Prelude.{◌≡◌};
 ghost use Rattle.serde_json.specs.View.{view};
 ghost use Rattle.rd_scene.specs.Colors as spec;
 
+use crate::fault::Why;
+use crate::members::string;
 use rd_geom::Color;
 use serde_json::Value;
 
@@ -51,14 +53,34 @@ fn hashed(word: &[u8]) -> Option<Color>
     }
 }
 
-/// `transparent`, or `#` and six or eight digits.
-pub(crate) fn color_of(v: &Value) -> Option<Color>
-    ensures { result ≡ spec.color_of (view v.now) }
+fn named_color(word: &str) -> Option<Color>
+    ensures { result ≡ spec.named_color word.now }
 {
-    let word = v.as_str()?;
     if word == "transparent" {
         Some(Color::TRANSPARENT)
     } else {
         hashed(word.as_bytes())
     }
+}
+
+/// `transparent`, or `#` and six or eight digits.
+pub(crate) fn color_of(v: &Value) -> Result<Color, Why>
+    ensures { result ≡ (spec.color_of (view v.now)).first }
+{
+    let word = string(v)?;
+    match named_color(word) {
+        Some(color) => Ok(color),
+        None => Err(Why::Color),
+    }
+}
+
+/// The colour of a box's content, or `null` for none.
+pub(crate) fn content_of(v: &Value) -> Result<Option<Color>, Why>
+    ensures { result ≡ (spec.content_of (view v.now)).first }
+{
+    if v.is_null() {
+        return Ok(None);
+    }
+    let color = color_of(v)?;
+    Ok(Some(color))
 }

@@ -1,75 +1,129 @@
 //! Commands as a script writes them.
 
-ghost use Rattle.std.specs.Prelude.{◌≡◌, length, All, IfOk, IfSome, vec_len};
-ghost use Rattle.serde_json.specs.View.{view, items_view};
+ghost use Rattle.std.specs.Prelude.{◌≡◌, pos, ◌-ℤ◌, ◌≤◌, length, All, IfOk, IsTrue, vec_len};
+ghost use Rattle.std.specs.Result.{result_map_both};
+ghost use Rattle.serde_json.specs.View.{view, items_view, members_view};
+ghost use Rattle.rd_style.specs.Limits.{is_between};
+ghost use Rattle.rd_scene.specs.declared.script.TheConstants.{MAX_COMMANDS};
+ghost use Rattle.rd_scene.specs.declared.script.Command.TheVariants as command;
 ghost use Rattle.rd_scene.specs.Commands as spec;
 ghost use Rattle.rd_scene.specs.Commands.{FitsCommand};
-ghost use Rattle.rd_scene.specs.Members.{read_each};
-ghost use Rattle.rd_scene.specs.Reading.{Gives};
+ghost use Rattle.rd_scene.specs.declared.fault.Place.TheVariants as place;
+ghost use Rattle.rd_scene.specs.Places.{at};
+ghost use Rattle.rd_scene.specs.Internal.Gives.{Gives, GivesAt};
 
 use crate::edits::edit_named;
-use crate::fault::SceneFault;
-use crate::members::{has_only, member};
+use crate::fault::{Place, Refusal, SceneFault, Why};
+use crate::members::{known, members, needed, number, string};
 use crate::script::Command;
-use serde_json::Value;
+use rd_style::MAX_COORDINATE;
+use serde_json::{Map, Value};
 use std::alloc::Global;
 
-fn command_named(word: &str) -> Option<Command>
-    ensures value { result ≡ spec.command_named word.now }
-    ensures fits { IfSome result (λ c. FitsCommand c) }
+/// The command, where the value has no other member.
+fn alone(members: &Map<String, Value>, command: Command) -> Result<Command, Why>
+    requires { FitsCommand command }
+    ensures value { result ≡ (spec.alone command (members_view members.now.entries)).first }
+    ensures fits { IfOk result (λ c. FitsCommand c) }
+{
+    known(members, &["do"])?;
+    Ok(command)
+}
+
+#[tactic(auto, unfolding(crate::specs::Commands::pixel_at))]
+fn pixel_at(v: &Value, name: &str) -> Result<i32, Why>
+    ensures value { result ≡ (spec.pixel_at name.now (view v.now)).first }
+    ensures range { IfOk result (λ z. IsTrue (is_between (pos 0 -ℤ MAX_COORDINATE) z MAX_COORDINATE)) }
+{
+    let place = needed(v, name)?;
+    number(-MAX_COORDINATE, MAX_COORDINATE, place)
+}
+
+/// Which box is hit at a column and a row.
+#[tactic(auto, unfolding(crate::specs::Commands::at_pixel))]
+fn hit_of(members: &Map<String, Value>, v: &Value) -> Result<Command, Why>
+    ensures value { result ≡ (spec.at_pixel command.Hit (members_view members.now.entries) (view v.now)).first }
+    ensures fits { IfOk result (λ c. FitsCommand c) }
+{
+    known(members, &["do", "x", "y"])?;
+    let x = pixel_at(v, "x")?;
+    let y = pixel_at(v, "y")?;
+    Ok(Command::Hit { x, y })
+}
+
+/// Which colour a pixel has.
+#[tactic(auto, unfolding(crate::specs::Commands::at_pixel))]
+fn pixel_of(members: &Map<String, Value>, v: &Value) -> Result<Command, Why>
+    ensures value { result ≡ (spec.at_pixel command.Pixel (members_view members.now.entries) (view v.now)).first }
+    ensures fits { IfOk result (λ c. FitsCommand c) }
+{
+    known(members, &["do", "x", "y"])?;
+    let x = pixel_at(v, "x")?;
+    let y = pixel_at(v, "y")?;
+    Ok(Command::Pixel { x, y })
+}
+
+/// The command that a word names, with its members.
+#[tactic(auto, unfolding(crate::specs::Commands::command_named))]
+fn command_named(
+    alloc: Global,
+    word: &str,
+    members: &Map<String, Value>,
+    v: &Value,
+) -> Result<Command, Refusal>
+    ensures value { Gives (λ c. c) result
+        (spec.command_named word.now (members_view members.now.entries) (view v.now)).first }
+    ensures fits { IfOk result (λ c. FitsCommand c) }
 {
     match word {
-        "paint" => Some(Command::Paint),
-        "dump" => Some(Command::Dump),
-        _ => None,
+        "paint" => Ok(alone(members, Command::Paint)?),
+        "hit" => Ok(hit_of(members, v)?),
+        "pixel" => Ok(pixel_of(members, v)?),
+        "dump" => Ok(alone(members, Command::Dump)?),
+        "shot" => Ok(alone(members, Command::Shot)?),
+        _ => Ok(Command::Change(edit_named(alloc, word, members, v)?)),
     }
 }
 
-/// The command, where the value has no other member.
-fn alone(v: &Value, command: Command) -> Option<Command>
-    ensures { result ≡ spec.alone command (view v.now) }
+/// The word at the member `do`.
+fn word_at(v: &Value) -> Result<&str, Why>
+    ensures { result_map_both (λ w. w.now) (λ w. w) result ≡ (spec.word_at (view v.now)).first }
 {
-    if has_only(v, &["do"]) {
-        Some(command)
-    } else {
-        None
-    }
+    let word = needed(v, "do")?;
+    string(word)
 }
 
 #[tactic(auto, unfolding(crate::specs::Commands::command_of))]
-fn command_of(alloc: Global, v: &Value) -> Result<Command, SceneFault>
-    ensures value { Gives (λ c. c) result (spec.command_of (view v.now)) }
+fn command_of(alloc: Global, v: &Value) -> Result<Command, Refusal>
+    ensures value { Gives (λ c. c) result (spec.command_of (view v.now)).first }
     ensures fits { IfOk result (λ c. FitsCommand c) }
 {
-    let Some(word) = member(v, "do") else {
-        return Err(SceneFault::Form);
-    };
-    let Some(word) = word.as_str() else {
-        return Err(SceneFault::Form);
-    };
-    match command_named(word) {
-        Some(command) => alone(v, command).ok_or(SceneFault::Form),
-        None => Ok(Command::Change(edit_named(alloc, word, v)?)),
-    }
+    let members = members(v)?;
+    let word = word_at(v)?;
+    command_named(alloc, word, members, v)
 }
 
-/// The command that a value is, which is gone then.
-fn command_from(alloc: Global, v: Value) -> Result<Command, SceneFault>
-    ensures value { Gives (λ c. c) result (spec.command_of (view v)) }
+/// The command of this number that a value is, which is gone then.
+fn command_from(alloc: Global, i: u32, v: Value) -> Result<Command, SceneFault>
+    ensures value { GivesAt (λ c. c) result (at (place.Command i) (spec.command_of (view v))).first }
     ensures fits { IfOk result (λ c. FitsCommand c) }
 {
-    command_of(alloc, &v)
+    match command_of(alloc, &v) {
+        Ok(command) => Ok(command),
+        Err(refusal) => Err(refusal.at(Place::Command(i))),
+    }
 }
 
 /// The commands of an array. Each value goes as it is read.
 pub(crate) fn commands_of(alloc: Global, list: Vec<Value>) -> Result<Vec<Command>, SceneFault>
-    ensures value { Gives (λ v. v.items) result (read_each spec.command_of (items_view list.items)) }
+    requires { vec_len list ≤ MAX_COMMANDS }
+    ensures value { GivesAt (λ v. v.items) result (spec.commands_from 0 (items_view list.items)).first }
     ensures len { IfOk result (λ v. vec_len v ≡ length list.items) }
     ensures fits { IfOk result (λ v. All FitsCommand v.items) }
 {
     let mut commands = Vec::with_capacity(alloc, list.len())?;
     for v in list {
-        let command = command_from(alloc, v)?;
+        let command = command_from(alloc, commands.len() as u32, v)?;
         commands.push(command)?;
     }
     Ok(commands)

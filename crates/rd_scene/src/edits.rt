@@ -1,50 +1,65 @@
 //! Edits as a script writes them.
 
-ghost use Rattle.std.specs.Prelude.{◌≡◌, pos, ◌-ℤ◌, IfOk, IfSome, IsTrue};
-ghost use Rattle.serde_json.specs.View.{view};
-ghost use Rattle.rd_style.specs.Limits.{is_between};
+ghost use Rattle.std.specs.Prelude.{◌≡◌, pos, ◌-ℤ◌, option_map, IfOk, IsTrue};
+ghost use Rattle.serde_json.specs.View.{view, members_view};
+ghost use Rattle.rd_style.specs.Changes.{plain, changed};
+ghost use Rattle.rd_style.specs.Limits.{is_between, Fits};
 ghost use Rattle.rd_scene.specs.Edits as spec;
 ghost use Rattle.rd_scene.specs.Edits.{FitsEdit};
-ghost use Rattle.rd_scene.specs.Reading.{Gives};
+ghost use Rattle.rd_scene.specs.Internal.Gives.{Gives};
 
-use crate::boxes::{id_at, id_or_null, style_at};
-use crate::fault::SceneFault;
-use crate::members::{from_to, has_only, member};
+use crate::boxes::{id_at, id_of};
+use crate::fault::{Refusal, Why};
+use crate::members::{known, member, needed, number};
 use crate::rects::rect_at;
 use crate::script::MAX_DISTANCE;
-use crate::styles::change_of;
+use crate::styles::{change_of, style_at};
 use rd_edits::Edit;
+use rd_style::StyleChange;
 use rd_tree::Id;
-use serde_json::Value;
+use serde_json::{Map, Value};
 use std::alloc::Global;
 
-/// The box to stand before, which may be absent.
-fn before_at(alloc: Global, v: &Value) -> Result<Option<Id>, SceneFault>
-    ensures { Gives (λ i. i) result (spec.before_at (view v.now)) }
+/// `null` for none, or an id.
+fn id_or_null(alloc: Global, v: &Value) -> Result<Option<Id>, Refusal>
+    ensures { Gives (λ i. i) result (spec.id_or_null (view v.now)).first }
 {
-    match member(v, "before") {
+    if v.is_null() {
+        return Ok(None);
+    }
+    let id = id_of(alloc, v)?;
+    Ok(Some(id))
+}
+
+/// The box to stand before; none where the member is absent.
+fn before_of(alloc: Global, v: Option<&Value>) -> Result<Option<Id>, Refusal>
+    ensures { Gives (λ i. i) result (spec.before_of (option_map (λ v. view v.now) v.entry)).first }
+{
+    match v {
         Some(before) => id_or_null(alloc, before),
         None => Ok(None),
     }
 }
 
+/// The box to stand before, at its member.
+fn before_at(alloc: Global, v: &Value) -> Result<Option<Id>, Refusal>
+    ensures { Gives (λ i. i) result (spec.before_at (view v.now)).first }
+{
+    before_of(alloc, member(v, "before"))
+}
+
+/// A new box: an id, a parent, perhaps a box to stand before, a rectangle and perhaps a style.
 #[tactic(auto, unfolding(crate::specs::Edits::insert_of))]
-fn insert_of(alloc: Global, v: &Value) -> Result<Edit, SceneFault>
-    ensures value { Gives (λ e. e) result (spec.insert_of (view v.now)) }
+fn insert_of(alloc: Global, members: &Map<String, Value>, v: &Value) -> Result<Edit, Refusal>
+    ensures value { Gives (λ e. e) result (spec.insert_of (members_view members.now.entries) (view v.now)).first }
     ensures fits { IfOk result (λ e. FitsEdit e) }
 {
-    if !has_only(v, &["do", "id", "parent", "before", "rect", "style"]) {
-        return Err(SceneFault::Form);
-    }
+    known(members, &["do", "id", "parent", "before", "rect", "style"])?;
     let id = id_at(alloc, v, "id")?;
     let parent = id_at(alloc, v, "parent")?;
     let before = before_at(alloc, v)?;
-    let Some(rect) = rect_at(v) else {
-        return Err(SceneFault::Form);
-    };
-    let Some(style) = style_at(v) else {
-        return Err(SceneFault::Form);
-    };
+    let rect = rect_at(v)?;
+    let style = style_at(v)?;
     Ok(Edit::Insert {
         id,
         parent,
@@ -54,99 +69,103 @@ fn insert_of(alloc: Global, v: &Value) -> Result<Edit, SceneFault>
     })
 }
 
+/// A removal: an id.
 #[tactic(auto, unfolding(crate::specs::Edits::remove_of))]
-fn remove_of(alloc: Global, v: &Value) -> Result<Edit, SceneFault>
-    ensures value { Gives (λ e. e) result (spec.remove_of (view v.now)) }
+fn remove_of(alloc: Global, members: &Map<String, Value>, v: &Value) -> Result<Edit, Refusal>
+    ensures value { Gives (λ e. e) result (spec.remove_of (members_view members.now.entries) (view v.now)).first }
     ensures fits { IfOk result (λ e. FitsEdit e) }
 {
-    if !has_only(v, &["do", "id"]) {
-        return Err(SceneFault::Form);
-    }
+    known(members, &["do", "id"])?;
     let id = id_at(alloc, v, "id")?;
     Ok(Edit::Remove { id })
 }
 
+/// A move: an id, a parent and perhaps a box to stand before.
 #[tactic(auto, unfolding(crate::specs::Edits::move_of))]
-fn move_of(alloc: Global, v: &Value) -> Result<Edit, SceneFault>
-    ensures value { Gives (λ e. e) result (spec.move_of (view v.now)) }
+fn move_of(alloc: Global, members: &Map<String, Value>, v: &Value) -> Result<Edit, Refusal>
+    ensures value { Gives (λ e. e) result (spec.move_of (members_view members.now.entries) (view v.now)).first }
     ensures fits { IfOk result (λ e. FitsEdit e) }
 {
-    if !has_only(v, &["do", "id", "parent", "before"]) {
-        return Err(SceneFault::Form);
-    }
+    known(members, &["do", "id", "parent", "before"])?;
     let id = id_at(alloc, v, "id")?;
     let parent = id_at(alloc, v, "parent")?;
     let before = before_at(alloc, v)?;
     Ok(Edit::Move { id, parent, before })
 }
 
+fn change_at(v: &Value) -> Result<StyleChange, Why>
+    ensures value { result ≡ (spec.change_at (view v.now)).first }
+    ensures fits { IfOk result (λ c. Fits (changed plain c)) }
+{
+    let style = needed(v, "style")?;
+    change_of(style)
+}
+
+/// A change of style: an id and the members of the style that are named.
 #[tactic(auto, unfolding(crate::specs::Edits::set_style_of))]
-fn set_style_of(alloc: Global, v: &Value) -> Result<Edit, SceneFault>
-    ensures value { Gives (λ e. e) result (spec.set_style_of (view v.now)) }
+fn set_style_of(alloc: Global, members: &Map<String, Value>, v: &Value) -> Result<Edit, Refusal>
+    ensures value { Gives (λ e. e) result (spec.set_style_of (members_view members.now.entries) (view v.now)).first }
     ensures fits { IfOk result (λ e. FitsEdit e) }
 {
-    if !has_only(v, &["do", "id", "style"]) {
-        return Err(SceneFault::Form);
-    }
+    known(members, &["do", "id", "style"])?;
     let id = id_at(alloc, v, "id")?;
-    let Some(change) = member(v, "style").and_then(change_of) else {
-        return Err(SceneFault::Form);
-    };
+    let change = change_at(v)?;
     Ok(Edit::SetStyle { id, change })
 }
 
+/// Another rectangle: an id and the rectangle.
 #[tactic(auto, unfolding(crate::specs::Edits::set_rect_of))]
-fn set_rect_of(alloc: Global, v: &Value) -> Result<Edit, SceneFault>
-    ensures value { Gives (λ e. e) result (spec.set_rect_of (view v.now)) }
+fn set_rect_of(alloc: Global, members: &Map<String, Value>, v: &Value) -> Result<Edit, Refusal>
+    ensures value { Gives (λ e. e) result (spec.set_rect_of (members_view members.now.entries) (view v.now)).first }
     ensures fits { IfOk result (λ e. FitsEdit e) }
 {
-    if !has_only(v, &["do", "id", "rect"]) {
-        return Err(SceneFault::Form);
-    }
+    known(members, &["do", "id", "rect"])?;
     let id = id_at(alloc, v, "id")?;
-    let Some(rect) = rect_at(v) else {
-        return Err(SceneFault::Form);
-    };
+    let rect = rect_at(v)?;
     Ok(Edit::SetRect { id, rect })
 }
 
-fn distance(v: &Value) -> Option<i32>
-    ensures value { result ≡ spec.distance (view v.now) }
-    ensures range { IfSome result (λ z. IsTrue (is_between (pos 0 -ℤ MAX_DISTANCE) z MAX_DISTANCE)) }
+#[tactic(auto, unfolding(crate::specs::Edits::distance_at))]
+fn distance_at(v: &Value, name: &str) -> Result<i32, Why>
+    ensures value { result ≡ (spec.distance_at name.now (view v.now)).first }
+    ensures range { IfOk result (λ z. IsTrue (is_between (pos 0 -ℤ MAX_DISTANCE) z MAX_DISTANCE)) }
 {
-    from_to(-MAX_DISTANCE, MAX_DISTANCE, v)
+    let distance = needed(v, name)?;
+    number(-MAX_DISTANCE, MAX_DISTANCE, distance)
 }
 
+/// A shift: an id and two distances, right and down.
 #[tactic(auto, unfolding(crate::specs::Edits::shift_of))]
-fn shift_of(alloc: Global, v: &Value) -> Result<Edit, SceneFault>
-    ensures value { Gives (λ e. e) result (spec.shift_of (view v.now)) }
+fn shift_of(alloc: Global, members: &Map<String, Value>, v: &Value) -> Result<Edit, Refusal>
+    ensures value { Gives (λ e. e) result (spec.shift_of (members_view members.now.entries) (view v.now)).first }
     ensures fits { IfOk result (λ e. FitsEdit e) }
 {
-    if !has_only(v, &["do", "id", "dx", "dy"]) {
-        return Err(SceneFault::Form);
-    }
+    known(members, &["do", "id", "dx", "dy"])?;
     let id = id_at(alloc, v, "id")?;
-    let Some(dx) = member(v, "dx").and_then(distance) else {
-        return Err(SceneFault::Form);
-    };
-    let Some(dy) = member(v, "dy").and_then(distance) else {
-        return Err(SceneFault::Form);
-    };
+    let dx = distance_at(v, "dx")?;
+    let dy = distance_at(v, "dy")?;
     Ok(Edit::Shift { id, dx, dy })
 }
 
-/// The edit that this word names, with its members.
-pub(crate) fn edit_named(alloc: Global, word: &str, v: &Value) -> Result<Edit, SceneFault>
-    ensures value { Gives (λ e. e) result (spec.edit_named word.now (view v.now)) }
+/// The edit that a word names, with its members.
+#[tactic(auto, unfolding(crate::specs::Edits::edit_named))]
+pub(crate) fn edit_named(
+    alloc: Global,
+    word: &str,
+    members: &Map<String, Value>,
+    v: &Value,
+) -> Result<Edit, Refusal>
+    ensures value { Gives (λ e. e) result
+        (spec.edit_named word.now (members_view members.now.entries) (view v.now)).first }
     ensures fits { IfOk result (λ e. FitsEdit e) }
 {
     match word {
-        "insert" => insert_of(alloc, v),
-        "remove" => remove_of(alloc, v),
-        "move" => move_of(alloc, v),
-        "style" => set_style_of(alloc, v),
-        "rect" => set_rect_of(alloc, v),
-        "shift" => shift_of(alloc, v),
-        _ => Err(SceneFault::Form),
+        "insert" => insert_of(alloc, members, v),
+        "remove" => remove_of(alloc, members, v),
+        "move" => move_of(alloc, members, v),
+        "style" => set_style_of(alloc, members, v),
+        "rect" => set_rect_of(alloc, members, v),
+        "shift" => shift_of(alloc, members, v),
+        _ => Err(Refusal::Rule(Why::Command)),
     }
 }

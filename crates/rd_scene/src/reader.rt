@@ -1,54 +1,115 @@
 //! Reads a script.
 
-ghost use Rattle.std.specs.Prelude.{◌≡◌, pos, IfOk, IsErrOf};
+ghost use Rattle.std.specs.Prelude.{◌≡◌, ◌≤◌, true, [], length, All, IfOk, IsErrOf};
 ghost use Rattle.serde_json.specs.View.{view};
-ghost use Rattle.rd_scene.specs.Members as members;
-ghost use Rattle.rd_scene.specs.Reading.{Gives, Reads, HasNoReading, IsOffForm, IsScriptText};
+ghost use Rattle.rd_geom.specs.Canvas.{IsCanvas};
+ghost use Rattle.rd_tree.specs.declared.limits.TheConstants.{MAX_BOXES};
+ghost use Rattle.rd_scene.specs.declared.script.TheConstants.{MAX_COMMANDS};
+ghost use Rattle.rd_scene.specs.declared.fault.Place.TheVariants as place;
+ghost use Rattle.rd_scene.specs.declared.fault.SceneFault.TheVariants.{Form};
+ghost use Rattle.rd_scene.specs.Commands.{FitsCommand};
+ghost use Rattle.rd_scene.specs.Order.{are_in_order};
+ghost use Rattle.rd_scene.specs.Reading.{Reads, HasNoReading, IsOffForm, IsScriptText};
 ghost use Rattle.rd_scene.specs.Scripts as spec;
-ghost use Rattle.rd_scene.specs.Scripts.{IsScript};
+ghost use Rattle.rd_scene.specs.Scripts.{IsScript, FitsBox};
+ghost use Rattle.rd_scene.specs.Internal.Gives.{GivesAt};
 
 use crate::boxes::boxes_of;
 use crate::commands::commands_of;
-use crate::fault::SceneFault;
-use crate::members::{elements, from_to, has_only, member, take_elements};
-use crate::order::are_in_order;
+use crate::fault::{Place, SceneFault, Why};
+use crate::members::{counted, elements_at, known, members, needed, number, take_elements};
 use crate::rects::canvas_of;
-use crate::script::{MAX_COMMANDS, Script};
+use crate::script::{Command, MAX_COMMANDS, SceneBox, Script};
+use rd_geom::Size;
 use rd_tree::MAX_BOXES;
 use serde_json::Value;
 use std::alloc::Global;
 
-fn version_of(v: &Value) -> Option<i32>
-    ensures { result ≡ members.from_to (pos 1) (pos 1) (view v.now) }
+/// The fault where a rule of the top object is broken.
+fn in_top(why: Why) -> SceneFault
+    ensures { result ≡ Form place.Top why }
 {
-    from_to(1, 1, v)
+    SceneFault::Form {
+        place: Place::Top,
+        why,
+    }
+}
+
+/// The fault where a rule of the canvas is broken.
+fn in_canvas(why: Why) -> SceneFault
+    ensures { result ≡ Form place.Canvas why }
+{
+    SceneFault::Form {
+        place: Place::Canvas,
+        why,
+    }
+}
+
+/// The value is an object of a script's members.
+fn known_at(v: &Value) -> Result<(), SceneFault>
+    ensures { GivesAt (λ u. u) result (spec.known_at (view v.now)).first }
+{
+    let members = members(v).map_err(in_top)?;
+    known(members, &["version", "canvas", "boxes", "script"]).map_err(in_top)
+}
+
+/// It is of version 1.
+fn version_of(v: &Value) -> Result<i32, Why>
+    ensures { result ≡ (spec.version_of (view v.now)).first }
+{
+    let version = needed(v, "version")?;
+    number(1, 1, version)
+}
+
+fn version_at(v: &Value) -> Result<i32, SceneFault>
+    ensures { GivesAt (λ z. z) result (spec.version_at (view v.now)).first }
+{
+    version_of(v).map_err(in_top)
+}
+
+fn canvas_at(v: &Value) -> Result<Size, SceneFault>
+    ensures value { GivesAt (λ s. s) result (spec.canvas_at (view v.now)).first }
+    ensures canvas { IfOk result (λ s. IsCanvas s) }
+{
+    let canvas = needed(v, "canvas").map_err(in_top)?;
+    canvas_of(canvas).map_err(in_canvas)
+}
+
+#[tactic(auto, using(crate::proofs::Items::items))]
+fn boxes_at(alloc: Global, v: &Value) -> Result<Vec<SceneBox>, SceneFault>
+    ensures value { GivesAt (λ v. v.items) result (spec.boxes_at (view v.now)).first }
+    ensures some { IfOk result (λ v. 1 ≤ length v.items) }
+    ensures most { IfOk result (λ v. length v.items ≤ MAX_BOXES) }
+    ensures order { IfOk result (λ v. are_in_order [] v.items ≡ true) }
+    ensures fits { IfOk result (λ v. All FitsBox v.items) }
+{
+    let list = elements_at(v, "boxes").map_err(in_top)?;
+    counted(1, MAX_BOXES as usize, list.len()).map_err(in_top)?;
+    boxes_of(alloc, list)
+}
+
+/// The commands; the value goes as they are read.
+#[tactic(auto, using(crate::proofs::Items::items))]
+fn commands_at(alloc: Global, v: Value) -> Result<Vec<Command>, SceneFault>
+    ensures value { GivesAt (λ v. v.items) result (spec.commands_at (view v)).first }
+    ensures few { IfOk result (λ v. length v.items ≤ MAX_COMMANDS) }
+    ensures fits { IfOk result (λ v. All FitsCommand v.items) }
+{
+    let list = take_elements(v, "script").map_err(in_top)?;
+    counted(0, MAX_COMMANDS, list.len()).map_err(in_top)?;
+    commands_of(alloc, list)
 }
 
 /// The script that a value is. The value goes as it is read.
-#[tactic(auto, unfolding(crate::specs::Scripts::script_of))]
+#[tactic(auto, unfolding(crate::specs::Scripts::reading_of))]
 fn script_of(alloc: Global, v: Value) -> Result<Script, SceneFault>
-    ensures { Gives (λ s. s) result (spec.script_of (view v)) }
+    ensures { GivesAt (λ s. s) result (spec.reading_of (view v)).first }
 {
-    if !has_only(&v, &["version", "canvas", "boxes", "script"]) {
-        return Err(SceneFault::Form);
-    }
-    let Some(_) = member(&v, "version").and_then(version_of) else {
-        return Err(SceneFault::Form);
-    };
-    let Some(canvas) = member(&v, "canvas").and_then(canvas_of) else {
-        return Err(SceneFault::Form);
-    };
-    let Some(boxes) = elements(&v, "boxes", 1, MAX_BOXES as usize) else {
-        return Err(SceneFault::Form);
-    };
-    let boxes = boxes_of(alloc, boxes)?;
-    if !are_in_order(alloc, &boxes)? {
-        return Err(SceneFault::Form);
-    }
-    let Some(commands) = take_elements(v, "script", 0, MAX_COMMANDS) else {
-        return Err(SceneFault::Form);
-    };
-    let commands = commands_of(alloc, commands)?;
+    known_at(&v)?;
+    version_at(&v)?;
+    let canvas = canvas_at(&v)?;
+    let boxes = boxes_at(alloc, &v)?;
+    let commands = commands_at(alloc, v)?;
     Ok(Script {
         canvas,
         boxes,
@@ -60,7 +121,7 @@ fn script_of(alloc: Global, v: Value) -> Result<Script, SceneFault>
 fn value_of(alloc: Global, bytes: &[u8]) -> Result<Value, SceneFault>
     ensures value { IfOk result (λ v. Reads bytes.now (view v)) }
     ensures not_json { IsErrOf result SceneFault.NotJson → HasNoReading bytes.now }
-    ensures not_form { IsErrOf result SceneFault.Form → ⊥ }
+    ensures not_form { (p : Place) → (w : Why) → IsErrOf result (SceneFault.Form p w) → ⊥ }
 {
     let Ok(text) = std::str::from_utf8(bytes) else {
         return Err(SceneFault::NotJson);
@@ -77,13 +138,13 @@ fn value_of(alloc: Global, bytes: &[u8]) -> Result<Value, SceneFault>
     }
 }
 
-/// Reads a script from the bytes of a JSON text. `NotJson` where the bytes are none, and `Form` where their value is not of
-/// the form of a script.
+/// Reads a script from the bytes of a JSON text. `NotJson` where the bytes are none, and `Form` where their value breaks
+/// a rule of the format, with the first rule that is broken and its place.
 pub fn read(alloc: Global, bytes: &[u8]) -> Result<Script, SceneFault>
     ensures script { IfOk result (λ s. IsScriptText bytes.now s) }
     ensures rules { IfOk result (λ s. IsScript s) }
     ensures not_json { IsErrOf result SceneFault.NotJson → HasNoReading bytes.now }
-    ensures form { IsErrOf result SceneFault.Form → IsOffForm bytes.now }
+    ensures form { (p : Place) → (w : Why) → IsErrOf result (SceneFault.Form p w) → IsOffForm bytes.now p w }
 {
     let value = value_of(alloc, bytes)?;
     script_of(alloc, value)

@@ -28,13 +28,20 @@ pub enum Command {
     Change(Edit),
     /// Paints what changed.
     Paint,
+    /// Asks which box is hit at a column and a row of pixels.
+    Hit { x: i32, y: i32 },
+    /// Asks which colour the pixel in a column and a row has.
+    Pixel { x: i32, y: i32 },
     /// Writes out the display list.
     Dump,
+    /// Asks for the digest of the picture.
+    Shot,
 }
 
 /// A scene and what is done to it. Contracts see a script that keeps the rules of the format: a canvas of 1 to 4,096
 /// pixels each way; 1 to 20,000 boxes with ids of their own, each after its parent and at most 256 deep, within the limits
-/// of rectangles and widths; at most [`MAX_COMMANDS`] commands, whose rectangles, widths and distances are within the limits.
+/// of rectangles and widths; at most [`MAX_COMMANDS`] commands,
+/// whose rectangles, widths, distances and pixels are within the limits.
 #[derive(Drop)]
 pub struct Script {
     pub canvas: Size,

@@ -1,29 +1,36 @@
 //! Styles as a script writes them.
 
-ghost use Rattle.std.specs.Prelude.{◌≡◌, option_map, IfSome};
+ghost use Rattle.std.specs.Prelude.{◌≡◌, ◌≤◌, codes, option_map, IfOk, IfSome};
 ghost use Rattle.serde_json.specs.View.{view};
 ghost use Rattle.serde_json.specs.Find.{as_str};
 ghost use Rattle.rd_style.specs.Changes.{plain, changed};
 ghost use Rattle.rd_style.specs.Limits.{Fits};
+ghost use Rattle.rd_style.specs.declared.limits.TheConstants.{MAX_LINE_WIDTH};
 ghost use Rattle.rd_scene.specs.Members.{optional, if_given};
 ghost use Rattle.rd_scene.specs.Styles as spec;
 ghost use Rattle.rd_scene.specs.Colors as colors;
+ghost use Rattle.rd_scene.specs.Rects as rects;
+ghost use Rattle.rd_scene.specs.Internal.Widths.{AreWidths};
 
-use crate::colors::color_of;
-use crate::members::{from_to, has_only, member};
-use rd_geom::Color;
-use rd_style::{Position, Style, StyleChange, changed};
+use crate::colors::{color_of, content_of};
+use crate::fault::Why;
+use crate::members::{known, member, members, number, string};
+use crate::rects::{outline_width_of, sides_of};
+use rd_geom::{Color, Sides};
+use rd_style::{
+    Display, Floating, Overflow, Pointer, Position, Style, StyleChange, Visibility, changed,
+};
 use serde_json::Value;
 
-fn position_of(v: &Value) -> Option<Position>
-    ensures { result ≡ spec.position_of (view v.now) }
+fn position_of(v: &Value) -> Result<Position, Why>
+    ensures { result ≡ (spec.position_of (view v.now)).first }
 {
-    match v.as_str()? {
-        "static" => Some(Position::Static),
-        "relative" => Some(Position::Relative),
-        "absolute" => Some(Position::Absolute),
-        "fixed" => Some(Position::Fixed),
-        _ => None,
+    match string(v)? {
+        "static" => Ok(Position::Static),
+        "relative" => Ok(Position::Relative),
+        "absolute" => Ok(Position::Absolute),
+        "fixed" => Ok(Position::Fixed),
+        _ => Err(Why::Kind),
     }
 }
 
@@ -36,90 +43,313 @@ fn is_auto(v: &Value) -> bool
     }
 }
 
-fn z_of(v: &Value) -> Option<Option<i32>>
-    ensures { result ≡ spec.z_of (view v.now) }
+fn z_of(v: &Value) -> Result<Option<i32>, Why>
+    ensures { result ≡ (spec.z_of (view v.now)).first }
 {
     if is_auto(v) {
-        return Some(None);
+        return Ok(None);
     }
-    let z = from_to(i32::MIN, i32::MAX, v)?;
-    Some(Some(z))
+    let z = number(i32::MIN, i32::MAX, v)?;
+    Ok(Some(z))
 }
 
-fn position_if(v: Option<&Value>) -> Option<Option<Position>>
-    ensures { result ≡ if_given spec.position_of (option_map (λ v. view v.now) v.entry) }
+fn opacity_of(v: &Value) -> Result<u8, Why>
+    ensures { result ≡ (spec.opacity_of (view v.now)).first }
 {
-    match v {
-        Some(v) => Some(Some(position_of(v)?)),
-        None => Some(None),
-    }
+    let z = number(0, 255, v)?;
+    Ok(z as u8)
 }
 
-fn z_if(v: Option<&Value>) -> Option<Option<Option<i32>>>
-    ensures { result ≡ if_given spec.z_of (option_map (λ v. view v.now) v.entry) }
+fn overflow_of(v: &Value) -> Result<Overflow, Why>
+    ensures { result ≡ (spec.overflow_of (view v.now)).first }
 {
-    match v {
-        Some(v) => Some(Some(z_of(v)?)),
-        None => Some(None),
+    match string(v)? {
+        "visible" => Ok(Overflow::Visible),
+        "hidden" => Ok(Overflow::Hidden),
+        "scroll" => Ok(Overflow::Scroll),
+        "auto" => Ok(Overflow::Auto),
+        _ => Err(Why::Kind),
     }
 }
 
-fn color_if(v: Option<&Value>) -> Option<Option<Color>>
-    ensures { result ≡ if_given colors.color_of (option_map (λ v. view v.now) v.entry) }
+fn display_of(v: &Value) -> Result<Display, Why>
+    ensures { result ≡ (spec.display_of (view v.now)).first }
 {
-    match v {
-        Some(v) => Some(Some(color_of(v)?)),
-        None => Some(None),
+    match string(v)? {
+        "block" => Ok(Display::Block),
+        "inline" => Ok(Display::Inline),
+        "inline-block" => Ok(Display::InlineBlock),
+        _ => Err(Why::Kind),
     }
 }
 
-/// A change that names these members.
-fn naming(
+fn float_of(v: &Value) -> Result<Floating, Why>
+    ensures { result ≡ (spec.float_of (view v.now)).first }
+{
+    match string(v)? {
+        "none" => Ok(Floating::No),
+        "left" => Ok(Floating::Left),
+        "right" => Ok(Floating::Right),
+        _ => Err(Why::Kind),
+    }
+}
+
+fn visibility_of(v: &Value) -> Result<Visibility, Why>
+    ensures { result ≡ (spec.visibility_of (view v.now)).first }
+{
+    match string(v)? {
+        "visible" => Ok(Visibility::Visible),
+        "hidden" => Ok(Visibility::Hidden),
+        "collapse" => Ok(Visibility::Collapse),
+        _ => Err(Why::Kind),
+    }
+}
+
+fn pointer_of(v: &Value) -> Result<Pointer, Why>
+    ensures { result ≡ (spec.pointer_of (view v.now)).first }
+{
+    match string(v)? {
+        "auto" => Ok(Pointer::Auto),
+        "none" => Ok(Pointer::Off),
+        _ => Err(Why::Kind),
+    }
+}
+
+fn position_at(v: &Value) -> Result<Option<Position>, Why>
+    ensures { result ≡ (if_given spec.position_of (codes "position") (view v.now)).first }
+{
+    member(v, "position").map(position_of).transpose()
+}
+
+fn z_at(v: &Value) -> Result<Option<Option<i32>>, Why>
+    ensures { result ≡ (if_given spec.z_of (codes "z-index") (view v.now)).first }
+{
+    member(v, "z-index").map(z_of).transpose()
+}
+
+fn opacity_at(v: &Value) -> Result<Option<u8>, Why>
+    ensures { result ≡ (if_given spec.opacity_of (codes "opacity") (view v.now)).first }
+{
+    member(v, "opacity").map(opacity_of).transpose()
+}
+
+fn overflow_at(v: &Value) -> Result<Option<Overflow>, Why>
+    ensures { result ≡ (if_given spec.overflow_of (codes "overflow") (view v.now)).first }
+{
+    member(v, "overflow").map(overflow_of).transpose()
+}
+
+fn display_at(v: &Value) -> Result<Option<Display>, Why>
+    ensures { result ≡ (if_given spec.display_of (codes "display") (view v.now)).first }
+{
+    member(v, "display").map(display_of).transpose()
+}
+
+fn float_at(v: &Value) -> Result<Option<Floating>, Why>
+    ensures { result ≡ (if_given spec.float_of (codes "float") (view v.now)).first }
+{
+    member(v, "float").map(float_of).transpose()
+}
+
+fn color_at(v: &Value, name: &str) -> Result<Option<Color>, Why>
+    ensures { result ≡ (if_given colors.color_of name.now (view v.now)).first }
+{
+    member(v, name).map(color_of).transpose()
+}
+
+fn border_width_at(v: &Value) -> Result<Option<Sides>, Why>
+    ensures value { result ≡ (if_given rects.sides_of (codes "border-width") (view v.now)).first }
+    ensures fits { IfOk result (λ o. IfSome o (λ s. AreWidths s)) }
+{
+    member(v, "border-width").map(sides_of).transpose()
+}
+
+fn content_at(v: &Value) -> Result<Option<Option<Color>>, Why>
+    ensures { result ≡ (if_given colors.content_of (codes "content") (view v.now)).first }
+{
+    member(v, "content").map(content_of).transpose()
+}
+
+fn outline_width_at(v: &Value) -> Result<Option<u16>, Why>
+    ensures value { result ≡ (if_given rects.outline_width_of (codes "outline-width") (view v.now)).first }
+    ensures most { IfOk result (λ o. IfSome o (λ n. n ≤ MAX_LINE_WIDTH)) }
+{
+    member(v, "outline-width").map(outline_width_of).transpose()
+}
+
+fn visibility_at(v: &Value) -> Result<Option<Visibility>, Why>
+    ensures { result ≡ (if_given spec.visibility_of (codes "visibility") (view v.now)).first }
+{
+    member(v, "visibility").map(visibility_of).transpose()
+}
+
+fn pointer_at(v: &Value) -> Result<Option<Pointer>, Why>
+    ensures { result ≡ (if_given spec.pointer_of (codes "pointer-events") (view v.now)).first }
+{
+    member(v, "pointer-events").map(pointer_of).transpose()
+}
+
+/// A change that names these members, which place a box.
+#[tactic(auto, unfolding(crate::specs::Styles::placing))]
+fn placing(
     position: Option<Position>,
     z: Option<Option<i32>>,
-    background: Option<Color>,
+    opacity: Option<u8>,
+    overflow: Option<Overflow>,
+    display: Option<Display>,
+    float: Option<Floating>,
 ) -> StyleChange
-    ensures { result ≡ spec.naming position z background }
+    ensures { result ≡ spec.placing position z opacity overflow display float }
 {
     StyleChange {
         position,
         z,
-        background,
+        opacity,
+        overflow,
+        display,
+        float,
         ..StyleChange::none()
     }
 }
 
-/// The members of a style object, of which each may be absent.
-#[tactic(auto, unfolding(crate::specs::Styles::change_of), using(crate::proofs::Limits::naming_fits))]
-pub(crate) fn change_of(v: &Value) -> Option<StyleChange>
-    ensures value { result ≡ spec.change_of (view v.now) }
-    ensures fits { IfSome result (λ c. Fits (changed plain c)) }
+/// A change that names these members, which a box is painted with.
+#[tactic(auto, unfolding(crate::specs::Styles::painting))]
+fn painting(
+    background: Option<Color>,
+    border_width: Option<Sides>,
+    border_color: Option<Color>,
+    content: Option<Option<Color>>,
+    outline_width: Option<u16>,
+    outline_color: Option<Color>,
+) -> StyleChange
+    ensures { result ≡ spec.painting background border_width border_color content outline_width outline_color }
 {
-    if !has_only(v, &["position", "z-index", "background"]) {
-        return None;
+    StyleChange {
+        background,
+        border_width,
+        border_color,
+        content,
+        outline_width,
+        outline_color,
+        ..StyleChange::none()
     }
-    let position = position_if(member(v, "position"))?;
-    let z = z_if(member(v, "z-index"))?;
-    let background = color_if(member(v, "background"))?;
-    Some(naming(position, z, background))
 }
 
-fn style_of(v: &Value) -> Option<Style>
-    ensures value { result ≡ spec.style_of (view v.now) }
-    ensures fits { IfSome result (λ s. Fits s) }
+/// What the first change names of placing, the second of painting, and these two members.
+#[tactic(auto, unfolding(crate::specs::Styles::joined))]
+fn joined(
+    c: StyleChange,
+    p: StyleChange,
+    visibility: Option<Visibility>,
+    pointer: Option<Pointer>,
+) -> StyleChange
+    ensures { result ≡ spec.joined c p visibility pointer }
+{
+    StyleChange {
+        background: p.background,
+        border_width: p.border_width,
+        border_color: p.border_color,
+        content: p.content,
+        outline_width: p.outline_width,
+        outline_color: p.outline_color,
+        visibility,
+        pointer,
+        ..c
+    }
+}
+
+/// The members that place a box.
+#[tactic(auto, unfolding(crate::specs::Styles::placing_of))]
+fn placing_of(v: &Value) -> Result<StyleChange, Why>
+    ensures { result ≡ (spec.placing_of (view v.now)).first }
+{
+    let position = position_at(v)?;
+    let z = z_at(v)?;
+    let opacity = opacity_at(v)?;
+    let overflow = overflow_at(v)?;
+    let display = display_at(v)?;
+    let float = float_at(v)?;
+    Ok(placing(position, z, opacity, overflow, display, float))
+}
+
+/// The members that a box is painted with.
+#[tactic(auto, unfolding(crate::specs::Styles::painting_of), using(crate::proofs::Limits::painting_fits))]
+fn painting_of(v: &Value) -> Result<StyleChange, Why>
+    ensures value { result ≡ (spec.painting_of (view v.now)).first }
+    ensures fits { IfOk result (λ c. Fits (changed plain c)) }
+{
+    let background = color_at(v, "background")?;
+    let border_width = border_width_at(v)?;
+    let border_color = color_at(v, "border-color")?;
+    let content = content_at(v)?;
+    let outline_width = outline_width_at(v)?;
+    let outline_color = color_at(v, "outline-color")?;
+    Ok(painting(
+        background,
+        border_width,
+        border_color,
+        content,
+        outline_width,
+        outline_color,
+    ))
+}
+
+const NAMES: [&str; 14] = [
+    "position",
+    "z-index",
+    "opacity",
+    "overflow",
+    "display",
+    "float",
+    "background",
+    "border-width",
+    "border-color",
+    "content",
+    "outline-width",
+    "outline-color",
+    "visibility",
+    "pointer-events",
+];
+
+/// The members of a style object, of which each may be absent.
+#[tactic(auto, unfolding(crate::specs::Styles::change_of), using(crate::proofs::Limits::joined_fits))]
+pub(crate) fn change_of(v: &Value) -> Result<StyleChange, Why>
+    ensures value { result ≡ (spec.change_of (view v.now)).first }
+    ensures fits { IfOk result (λ c. Fits (changed plain c)) }
+{
+    let members = members(v)?;
+    known(members, &NAMES)?;
+    let places = placing_of(v)?;
+    let paints = painting_of(v)?;
+    let visibility = visibility_at(v)?;
+    let pointer = pointer_at(v)?;
+    Ok(joined(places, paints, visibility, pointer))
+}
+
+fn style_of(v: &Value) -> Result<Style, Why>
+    ensures value { result ≡ (spec.style_of (view v.now)).first }
+    ensures fits { IfOk result (λ s. Fits s) }
 {
     let change = change_of(v)?;
-    Some(changed(&Style::plain(), &change))
+    Ok(changed(&Style::plain(), &change))
 }
 
-/// The style that a box's member gives; without it, the default style.
+/// The style that a member gives; without it, the default style.
 #[tactic(auto, using(crate::proofs::Limits::plain_fits))]
-pub(crate) fn style_or_plain(v: Option<&Value>) -> Option<Style>
-    ensures value { result ≡ optional plain spec.style_of (option_map (λ v. view v.now) v.entry) }
-    ensures fits { IfSome result (λ s. Fits s) }
+fn style_or_plain(v: Option<&Value>) -> Result<Style, Why>
+    ensures value { result ≡ (spec.style_or_plain (option_map (λ v. view v.now) v.entry)).first }
+    ensures fits { IfOk result (λ s. Fits s) }
 {
     match v {
         Some(v) => style_of(v),
-        None => Some(Style::plain()),
+        None => Ok(Style::plain()),
     }
+}
+
+/// The style of a box or an insertion.
+pub(crate) fn style_at(v: &Value) -> Result<Style, Why>
+    ensures value { result ≡ (spec.style_at (view v.now)).first }
+    ensures fits { IfOk result (λ s. Fits s) }
+{
+    style_or_plain(member(v, "style"))
 }

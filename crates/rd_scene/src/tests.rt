@@ -1,301 +1,402 @@
-//! What no clause says: which texts are scripts, and that large scenes are read and planted.
+//! What no clause says: which texts are scripts and which rule others break first, and that large scenes are read and
+//! planted.
 
 use super::*;
+use rd_geom::{Color, Sides};
+use rd_style::{Display, Floating, Overflow, Pointer, Position, Visibility};
 use std::alloc::{AllocError, Global};
 use std::marker::Brand;
 use std::test::Fail;
 
-/// The name of what a text gives.
-fn outcome(alloc: Global, text: &str) -> &'static str {
-    match read(alloc, text.as_bytes()) {
-        Ok(_) => "script",
-        Err(SceneFault::NotJson) => "not json",
-        Err(SceneFault::Form) => "form",
-        Err(SceneFault::NoMemory) => "no memory",
+/// What a text gives.
+#[derive(Clone, Copy, PartialEq, Eq, Debug)]
+enum Outcome {
+    Script,
+    NotJson,
+    Form(Place, Why),
+    NoMemory,
+}
+
+fn given(alloc: Global, text: &[u8]) -> Outcome {
+    match read(alloc, text) {
+        Ok(_) => Outcome::Script,
+        Err(SceneFault::NotJson) => Outcome::NotJson,
+        Err(SceneFault::Form { place, why }) => Outcome::Form(place, why),
+        Err(SceneFault::NoMemory) => Outcome::NoMemory,
     }
 }
 
-/// A script with this canvas, these boxes and these commands.
-fn script(alloc: Global, canvas: &str, boxes: &str, commands: &str) -> Result<String, AllocError> {
-    let mut text = String::from_str(alloc, "{\"version\":1,\"canvas\":")?;
-    text.push_str(canvas)?;
-    text.push_str(",\"boxes\":[")?;
+/// A script with these boxes and these commands.
+fn script(alloc: Global, boxes: &str, commands: &str) -> Result<String, AllocError> {
+    let mut text = String::from_str(alloc, r#"{"version":1,"canvas":{"w":10,"h":10},"boxes":["#)?;
     text.push_str(boxes)?;
-    text.push_str("],\"script\":[")?;
+    text.push_str(r#"],"script":["#)?;
     text.push_str(commands)?;
     text.push_str("]}")?;
     Ok(text)
 }
 
-const CANVAS: &str = "{\"w\":10,\"h\":10}";
+const ROOT: &str = r#"{"id":"root","parent":null,"rect":[0,0,10,10]}"#;
 
-const ROOT: &str =
-    "{\"id\":\"root\",\"parent\":null,\"rect\":[0,0,10,10],\"style\":{\"background\":\"#ffffff\"}}";
-
-/// The root and a box with this id, this parent, this rectangle and this style.
-fn two_boxes(
-    alloc: Global,
-    id: &str,
-    parent: &str,
-    rect: &str,
-    style: &str,
-) -> Result<String, AllocError> {
+/// The root and another box.
+fn two_boxes(alloc: Global, second: &str) -> Result<String, AllocError> {
     let mut boxes = String::from_str(alloc, ROOT)?;
-    boxes.push_str(",{\"id\":")?;
-    boxes.push_str(id)?;
-    boxes.push_str(",\"parent\":")?;
-    boxes.push_str(parent)?;
-    boxes.push_str(",\"rect\":")?;
-    boxes.push_str(rect)?;
-    boxes.push_str(",\"style\":")?;
-    boxes.push_str(style)?;
-    boxes.push_str("}")?;
-    script(alloc, CANVAS, boxes.as_str(), "{\"do\":\"paint\"}")
+    boxes.push_str(",")?;
+    boxes.push_str(second)?;
+    script(alloc, boxes.as_str(), "")
+}
+
+/// The root and a box with this style.
+fn styled(alloc: Global, style: &str) -> Result<String, AllocError> {
+    let mut second = String::from_str(
+        alloc,
+        r#"{"id":"a","parent":"root","rect":[0,0,1,1],"style":"#,
+    )?;
+    second.push_str(style)?;
+    second.push_str("}")?;
+    two_boxes(alloc, second.as_str())
 }
 
 /// A scene of so many boxes: each below the one before it, or all below the root.
 fn scene(alloc: Global, boxes: u32, deep: bool) -> Result<String, AllocError> {
-    let mut text = String::from_str(alloc, "{\"id\":\"d1\",\"parent\":null,\"rect\":[0,0,1,1]}")?;
+    let mut text = String::from_str(alloc, r#"{"id":"d1","parent":null,"rect":[0,0,1,1]}"#)?;
     for i in 1..boxes {
         let number = i + 1;
         let above = if deep { i } else { 1 };
-        text.push_str(",{\"id\":\"d")?;
+        text.push_str(r#",{"id":"d"#)?;
         text.push_str(number.to_string(alloc)?.as_str())?;
-        text.push_str("\",\"parent\":\"d")?;
+        text.push_str(r#"","parent":"d"#)?;
         text.push_str(above.to_string(alloc)?.as_str())?;
-        text.push_str("\",\"rect\":[0,0,1,1]}")?;
+        text.push_str(r#"","rect":[0,0,1,1]}"#)?;
     }
-    script(alloc, CANVAS, text.as_str(), "")
+    script(alloc, text.as_str(), "")
 }
 
 #[test]
-fn the_first_script(rt: HostRuntime) -> Result<(), Fail> {
+fn tops(rt: HostRuntime) -> Result<(), Fail> {
     let alloc = rt.alloc();
-    let text =
-        "{\"version\":1,\"canvas\":{\"w\":10,\"h\":10},\"boxes\":[{\"id\":\"root\",\"parent\":null,\"rect\":[0,0,10,10],\"style\":{\"background\":\"#ffffff\"}},{\"id\":\"p\",\"parent\":\"root\",\"rect\":[0,0,2,2],\"style\":{\"position\":\"relative\",\"z-index\":2147483647,\"background\":\"#ff0000\"}},{\"id\":\"q\",\"parent\":\"root\",\"rect\":[0,0,2,2],\"style\":{\"position\":\"relative\",\"z-index\":0,\"background\":\"#00ff00\"}},{\"id\":\"r\",\"parent\":\"root\",\"rect\":[0,0,2,2],\"style\":{\"position\":\"relative\",\"z-index\":\"auto\",\"background\":\"#0000ff\"}},{\"id\":\"s\",\"parent\":\"root\",\"rect\":[0,0,2,2],\"style\":{\"position\":\"relative\",\"z-index\":-2147483648,\"background\":\"#000000\"}}],\"script\":[{\"do\":\"paint\"},{\"do\":\"dump\"}]}";
+    let bytes: [u8; 1] = [255];
+    assert_eq!(rt; given(alloc, &bytes), Outcome::NotJson);
+    for (text, want) in [
+        ("", Outcome::NotJson),
+        ("{} {}", Outcome::NotJson),
+        ("[]", Outcome::Form(Place::Top, Why::Kind)),
+        ("{}", Outcome::Form(Place::Top, Why::Missing)),
+        (r#"{"x":1}"#, Outcome::Form(Place::Top, Why::Unknown)),
+        (r#"{"version":1.0}"#, Outcome::Form(Place::Top, Why::Kind)),
+        (r#"{"version":3}"#, Outcome::Form(Place::Top, Why::Range)),
+        (r#"{"version":1}"#, Outcome::Form(Place::Top, Why::Missing)),
+        (
+            r#"{"version":1,"canvas":7}"#,
+            Outcome::Form(Place::Canvas, Why::Kind),
+        ),
+        (
+            r#"{"version":1,"canvas":{"h":1}}"#,
+            Outcome::Form(Place::Canvas, Why::Missing),
+        ),
+        (
+            r#"{"version":1,"canvas":{"d":1}}"#,
+            Outcome::Form(Place::Canvas, Why::Unknown),
+        ),
+        (
+            r#"{"version":1,"canvas":{"w":4097,"h":"1"}}"#,
+            Outcome::Form(Place::Canvas, Why::Range),
+        ),
+        (
+            r#"{"version":1,"canvas":{"w":4096,"h":1}}"#,
+            Outcome::Form(Place::Top, Why::Missing),
+        ),
+        (
+            r#"{"version":1,"canvas":{"w":1,"h":1},"boxes":7}"#,
+            Outcome::Form(Place::Top, Why::Kind),
+        ),
+        (
+            r#"{"version":1,"canvas":{"w":1,"h":1},"boxes":[]}"#,
+            Outcome::Form(Place::Top, Why::Count),
+        ),
+        (
+            r#"{"version":1,"canvas":{"w":1,"h":1},"boxes":[7]}"#,
+            Outcome::Form(Place::Box(0), Why::Kind),
+        ),
+    ] {
+        assert_eq!(rt; given(alloc, text.as_bytes()), want, "{text}");
+    }
+    Ok(())
+}
+
+#[test]
+fn second_boxes(rt: HostRuntime) -> Result<(), Fail> {
+    let alloc = rt.alloc();
+    for (second, want) in [
+        (
+            r#"{"id":"A.b:c-9_","parent":"root","rect":[-1000000,1000000,0,1000000]}"#,
+            None,
+        ),
+        ("[]", Some(Why::Kind)),
+        (r#"{"id":7,"colour":7}"#, Some(Why::Unknown)),
+        (r#"{"parent":7}"#, Some(Why::Missing)),
+        (r#"{"id":7}"#, Some(Why::Kind)),
+        (r#"{"id":"a b","parent":7}"#, Some(Why::Range)),
+        (r#"{"id":"root","parent":7}"#, Some(Why::Duplicate)),
+        (r#"{"id":"a"}"#, Some(Why::Missing)),
+        (r#"{"id":"a","parent":7}"#, Some(Why::Kind)),
+        (r#"{"id":"a","parent":null,"rect":7}"#, Some(Why::Parent)),
+        (r#"{"id":"a","parent":"a","rect":7}"#, Some(Why::Parent)),
+        (r#"{"id":"a","parent":"a b","rect":7}"#, Some(Why::Parent)),
+        (
+            r#"{"id":"a","parent":"root","style":7}"#,
+            Some(Why::Missing),
+        ),
+        (
+            r#"{"id":"a","parent":"root","rect":[0,0,1000001]}"#,
+            Some(Why::Kind),
+        ),
+        (
+            r#"{"id":"a","parent":"root","rect":[1000001,0,0,1.5]}"#,
+            Some(Why::Kind),
+        ),
+        (
+            r#"{"id":"a","parent":"root","rect":[1000001,0,0,0],"style":7}"#,
+            Some(Why::Range),
+        ),
+        (
+            r#"{"id":"a","parent":"root","rect":[0,0,-1,0]}"#,
+            Some(Why::Range),
+        ),
+        (
+            r#"{"id":"a","parent":"root","rect":[0,0,1,1],"style":null}"#,
+            Some(Why::Kind),
+        ),
+    ] {
+        let text = two_boxes(alloc, second)?;
+        let want = match want {
+            Some(why) => Outcome::Form(Place::Box(1), why),
+            None => Outcome::Script,
+        };
+        assert_eq!(rt; given(alloc, text.as_bytes()), want, "{text}");
+    }
+    Ok(())
+}
+
+#[test]
+fn styles_off_form(rt: HostRuntime) -> Result<(), Fail> {
+    let alloc = rt.alloc();
+    for (style, why) in [
+        (r#"{"position":"sticky","color":7}"#, Why::Unknown),
+        (r#"{"position":"sticky"}"#, Why::Kind),
+        (r#"{"z-index":"none"}"#, Why::Kind),
+        (r#"{"z-index":1e2}"#, Why::Kind),
+        (r#"{"z-index":9223372036854775808}"#, Why::Kind),
+        (r#"{"z-index":2147483648,"opacity":"1"}"#, Why::Range),
+        (r#"{"opacity":256}"#, Why::Range),
+        (r#"{"overflow":"none"}"#, Why::Kind),
+        (r#"{"display":"none"}"#, Why::Kind),
+        (r#"{"float":7}"#, Why::Kind),
+        (r##"{"background":"#12345"}"##, Why::Color),
+        (r#"{"background":null}"#, Why::Kind),
+        (r#"{"border-width":[0,1001,0]}"#, Why::Kind),
+        (r#"{"border-width":[0,1001,0,0]}"#, Why::Range),
+        (r##"{"border-color":"#gg0000"}"##, Why::Color),
+        (r#"{"content":"none"}"#, Why::Color),
+        (r#"{"outline-width":-1}"#, Why::Range),
+        (r#"{"visibility":"hide"}"#, Why::Kind),
+        (r#"{"pointer-events":"all"}"#, Why::Kind),
+    ] {
+        let text = styled(alloc, style)?;
+        assert_eq!(rt;
+            given(alloc, text.as_bytes()),
+            Outcome::Form(Place::Box(1), why),
+            "{text}"
+        );
+    }
+    Ok(())
+}
+
+#[test]
+fn every_member_of_a_style(rt: HostRuntime) -> Result<(), Fail> {
+    let alloc = rt.alloc();
+    let text = styled(
+        alloc,
+        r##"{"position":"fixed","z-index":-7,"opacity":9,"overflow":"scroll","display":"inline-block","float":"right","background":"#0102Ff04","border-width":[1,2,3,1000],"border-color":"#0a0B0c","content":"transparent","outline-width":5,"outline-color":"#ffffff00","visibility":"collapse","pointer-events":"none"}"##,
+    )?;
     let script = read(alloc, text.as_bytes())?;
-    assert_eq!(rt; script.boxes.len(), 5);
-    assert_eq!(rt; script.commands.len(), 2);
-    let tree = plant::<Brand>(alloc, &script)?;
-    assert!(rt; tree.find(&script.boxes[4].id).is_some());
-    assert_eq!(rt; outcome(alloc, "{\"vers"), "not json");
-    assert_eq!(rt; outcome(alloc, "  "), "not json");
-    assert_eq!(rt; outcome(alloc, "[]"), "form");
+    assert_eq!(rt; script.boxes.len(), 2);
+    let s = script.boxes[1].style;
+    assert!(rt; s.position == Position::Fixed && s.z == Some(-7) && s.opacity == 9);
+    assert!(rt;
+        s.overflow == Overflow::Scroll
+            && s.display == Display::InlineBlock
+            && s.float == Floating::Right
+    );
+    assert_eq!(rt;
+        s.background,
+        Color {
+            r: 1,
+            g: 2,
+            b: 255,
+            a: 4
+        }
+    );
+    assert_eq!(rt;
+        s.border_width,
+        Sides {
+            top: 1,
+            right: 2,
+            bottom: 3,
+            left: 1000
+        }
+    );
+    assert_eq!(rt;
+        s.border_color,
+        Color {
+            r: 10,
+            g: 11,
+            b: 12,
+            a: 255
+        }
+    );
+    assert_eq!(rt; s.content, Some(Color::TRANSPARENT));
+    assert_eq!(rt; s.outline_width, 5);
+    assert_eq!(rt;
+        s.outline_color,
+        Color {
+            r: 255,
+            g: 255,
+            b: 255,
+            a: 0
+        }
+    );
+    assert!(rt; s.visibility == Visibility::Collapse && s.pointer == Pointer::Off);
     Ok(())
 }
 
 #[test]
-fn boxes_of_the_form(rt: HostRuntime) -> Result<(), Fail> {
+fn commands_off_form(rt: HostRuntime) -> Result<(), Fail> {
     let alloc = rt.alloc();
-    for (id, parent, rect, style, want) in [
-        ("\"a\"", "\"root\"", "[0,0,1,1]", "{}", "script"),
+    for (command, why) in [
+        ("7", Why::Kind),
+        (r#"{"id":"a"}"#, Why::Missing),
+        (r#"{"do":7}"#, Why::Kind),
+        (r#"{"do":"draw","x":1}"#, Why::Command),
+        (r#"{"do":"paint","x":1}"#, Why::Unknown),
+        (r#"{"do":"shot","id":"a"}"#, Why::Unknown),
+        (r#"{"do":"hit","x":0}"#, Why::Missing),
+        (r#"{"do":"hit","x":"0","y":0}"#, Why::Kind),
+        (r#"{"do":"pixel","x":0,"y":1000001}"#, Why::Range),
+        (r#"{"do":"insert","id":"a","parent":null}"#, Why::Kind),
         (
-            "\"A.b:c-9_\"",
-            "\"root\"",
-            "[-1000000,1000000,0,1000000]",
-            "{\"background\":\"transparent\"}",
-            "script",
+            r#"{"do":"insert","id":"a","parent":"a","before":7}"#,
+            Why::Kind,
         ),
         (
-            "\"a\"",
-            "\"root\"",
-            "[0,0,1,1]",
-            "{\"background\":\"#AbCdEf80\",\"position\":\"fixed\"}",
-            "script",
+            r#"{"do":"insert","id":"a","parent":"a","before":"","rect":7}"#,
+            Why::Range,
         ),
         (
-            "\"a\"",
-            "\"root\"",
-            "[0,0,1,1]",
-            "{\"opacity\":255}",
-            "form",
+            r#"{"do":"insert","id":"a","parent":"a","before":null}"#,
+            Why::Missing,
         ),
         (
-            "\"a\"",
-            "\"root\"",
-            "[0,0,1,1]",
-            "{\"background\":\"#abcde\"}",
-            "form",
+            r##"{"do":"insert","id":"a","parent":"a","rect":[0,0,1,1],"style":{"content":"#0"}}"##,
+            Why::Color,
+        ),
+        (r#"{"do":"remove","id":""}"#, Why::Range),
+        (
+            r#"{"do":"move","id":"a","parent":"a","rect":[]}"#,
+            Why::Unknown,
+        ),
+        (r#"{"do":"move","id":"a"}"#, Why::Missing),
+        (r#"{"do":"style","id":"a"}"#, Why::Missing),
+        (
+            r#"{"do":"style","id":"a","style":{"rect":7}}"#,
+            Why::Unknown,
         ),
         (
-            "\"a\"",
-            "\"root\"",
-            "[0,0,1,1]",
-            "{\"z-index\":2147483648}",
-            "form",
+            r#"{"do":"rect","id":"a","rect":[0,0,0,1000001]}"#,
+            Why::Range,
         ),
         (
-            "\"a\"",
-            "\"root\"",
-            "[0,0,1,1]",
-            "{\"z-index\":1.0}",
-            "form",
+            r#"{"do":"shift","id":"a","dx":-2000001,"dy":null}"#,
+            Why::Range,
         ),
-        ("\"a\"", "\"root\"", "[0,0,1,1]", "null", "form"),
-        ("\"root\"", "\"root\"", "[0,0,1,1]", "{}", "form"),
-        ("\"a b\"", "\"root\"", "[0,0,1,1]", "{}", "form"),
-        ("\"\"", "\"root\"", "[0,0,1,1]", "{}", "form"),
-        ("\"a\"", "\"Q\"", "[0,0,1,1]", "{}", "form"),
-        ("\"a\"", "\"a\"", "[0,0,1,1]", "{}", "form"),
-        ("\"a\"", "null", "[0,0,1,1]", "{}", "form"),
-        ("\"a\"", "\"root\"", "[0,0,1]", "{}", "form"),
-        ("\"a\"", "\"root\"", "[0,0,-1,1]", "{}", "form"),
-        ("\"a\"", "\"root\"", "[1000001,0,1,1]", "{}", "form"),
+        (
+            r#"{"do":"shift","id":"a","dx":2000000,"dy":null}"#,
+            Why::Kind,
+        ),
     ] {
-        let text = two_boxes(alloc, id, parent, rect, style)?;
-        assert_eq!(rt; outcome(alloc, text.as_str()), want, "{text}");
+        let mut both = String::from_str(alloc, r#"{"do":"paint"},"#)?;
+        both.push_str(command)?;
+        let text = script(alloc, ROOT, both.as_str())?;
+        assert_eq!(rt;
+            given(alloc, text.as_bytes()),
+            Outcome::Form(Place::Command(1), why),
+            "{text}"
+        );
     }
     Ok(())
 }
 
-#[test]
-fn scripts_of_the_form(rt: HostRuntime) -> Result<(), Fail> {
-    let alloc = rt.alloc();
-    for (canvas, boxes, commands, want) in [
-        (CANVAS, ROOT, "", "script"),
-        ("{\"w\":4096,\"h\":1}", ROOT, "{\"do\":\"dump\"}", "script"),
-        ("{\"w\":4097,\"h\":1}", ROOT, "", "form"),
-        ("{\"w\":1}", ROOT, "", "form"),
-        ("{\"w\":1,\"h\":1,\"d\":1}", ROOT, "", "form"),
-        (CANVAS, "", "", "form"),
-        (CANVAS, ROOT, "{\"do\":\"shot\"}", "form"),
-        (CANVAS, ROOT, "{\"do\":\"paint\",\"x\":1}", "form"),
-    ] {
-        let text = script(alloc, canvas, boxes, commands)?;
-        assert_eq!(rt; outcome(alloc, text.as_str()), want, "{text}");
+/// The name of a command.
+fn name(command: &Command) -> &'static str {
+    match command {
+        Command::Change(Edit::Insert { before: None, .. }) => "insert last",
+        Command::Change(Edit::Insert { .. }) => "insert before",
+        Command::Change(Edit::Remove { .. }) => "remove",
+        Command::Change(Edit::Move { before: None, .. }) => "move last",
+        Command::Change(Edit::Move { .. }) => "move before",
+        Command::Change(Edit::SetStyle { .. }) => "style",
+        Command::Change(Edit::SetRect { .. }) => "rect",
+        Command::Change(Edit::Shift { dx: 3, dy: -2, .. }) => "shift",
+        Command::Change(_) => "another shift",
+        Command::Paint => "paint",
+        Command::Hit { x: 1, y: -1 } => "hit",
+        Command::Pixel { x: 1, y: -1 } => "pixel",
+        Command::Hit { .. } | Command::Pixel { .. } => "another place",
+        Command::Dump => "dump",
+        Command::Shot => "shot",
     }
-    Ok(())
 }
 
 #[test]
-fn edits_of_the_form(rt: HostRuntime) -> Result<(), Fail> {
+fn every_command(rt: HostRuntime) -> Result<(), Fail> {
     let alloc = rt.alloc();
     for (command, want) in [
         (
-            "{\"do\":\"insert\",\"id\":\"a\",\"parent\":\"Z\",\"rect\":[0,0,1,1]}",
-            "script",
+            r#"{"do":"insert","id":"a","parent":"Z","rect":[0,0,1,1]}"#,
+            "insert last",
         ),
         (
-            "{\"do\":\"insert\",\"id\":\"a\",\"parent\":\"root\",\"before\":null,\"rect\":[0,0,1,1],\"style\":{}}",
-            "script",
+            r#"{"do":"insert","id":"a","parent":"Z","before":"b","rect":[0,0,1,1],"style":{}}"#,
+            "insert before",
+        ),
+        (r#"{"do":"remove","id":"a"}"#, "remove"),
+        (
+            r#"{"do":"move","id":"a","parent":"Z","before":null}"#,
+            "move last",
         ),
         (
-            "{\"do\":\"insert\",\"id\":\"a\",\"parent\":\"root\",\"before\":\"b\",\"rect\":[0,0,1,1],\"style\":{\"z-index\":\"auto\"}}",
-            "script",
+            r#"{"do":"move","id":"a","parent":"a","before":"a"}"#,
+            "move before",
         ),
         (
-            "{\"do\":\"insert\",\"id\":\"a\",\"parent\":null,\"rect\":[0,0,1,1]}",
-            "form",
+            r#"{"do":"style","id":"a","style":{"z-index":"auto"}}"#,
+            "style",
         ),
-        (
-            "{\"do\":\"insert\",\"id\":\"a\",\"parent\":\"root\"}",
-            "form",
-        ),
-        ("{\"do\":\"remove\",\"id\":\"a\"}", "script"),
-        ("{\"do\":\"remove\",\"id\":null}", "form"),
-        (
-            "{\"do\":\"remove\",\"id\":\"a\",\"parent\":\"root\"}",
-            "form",
-        ),
-        ("{\"do\":\"move\",\"id\":\"a\",\"parent\":\"Z\"}", "script"),
-        (
-            "{\"do\":\"move\",\"id\":\"a\",\"parent\":\"Z\",\"before\":null}",
-            "script",
-        ),
-        (
-            "{\"do\":\"move\",\"id\":\"a\",\"parent\":\"a\",\"before\":\"a\"}",
-            "script",
-        ),
-        ("{\"do\":\"move\",\"id\":\"a\"}", "form"),
-        ("{\"do\":\"move\",\"id\":\"a\",\"parent\":null}", "form"),
-        (
-            "{\"do\":\"move\",\"id\":\"a\",\"parent\":\"Z\",\"before\":1}",
-            "form",
-        ),
-        (
-            "{\"do\":\"move\",\"id\":\"a\",\"parent\":\"Z\",\"rect\":[0,0,1,1]}",
-            "form",
-        ),
-        ("{\"do\":\"style\",\"id\":\"a\",\"style\":{}}", "script"),
-        (
-            "{\"do\":\"style\",\"id\":\"a\",\"style\":{\"position\":\"fixed\",\"background\":\"transparent\"}}",
-            "script",
-        ),
-        ("{\"do\":\"style\",\"id\":\"a\"}", "form"),
-        (
-            "{\"do\":\"style\",\"id\":\"a\",\"style\":{\"position\":1}}",
-            "form",
-        ),
-        (
-            "{\"do\":\"rect\",\"id\":\"a\",\"rect\":[0,0,1000000,0]}",
-            "script",
-        ),
-        (
-            "{\"do\":\"rect\",\"id\":\"a\",\"rect\":[0,0,1000001,0]}",
-            "form",
-        ),
-        (
-            "{\"do\":\"rect\",\"id\":\"a\",\"rect\":[0,0,1,1],\"x\":1}",
-            "form",
-        ),
-        (
-            "{\"do\":\"shift\",\"id\":\"a\",\"dx\":-2000000,\"dy\":2000000}",
-            "script",
-        ),
-        (
-            "{\"do\":\"shift\",\"id\":\"a\",\"dx\":-2000001,\"dy\":0}",
-            "form",
-        ),
-        (
-            "{\"do\":\"shift\",\"id\":\"a b\",\"dx\":0,\"dy\":0}",
-            "form",
-        ),
+        (r#"{"do":"rect","id":"a","rect":[0,0,1000000,0]}"#, "rect"),
+        (r#"{"do":"shift","id":"a","dx":3,"dy":-2}"#, "shift"),
+        (r#"{"do":"paint"}"#, "paint"),
+        (r#"{"do":"hit","x":1,"y":-1}"#, "hit"),
+        (r#"{"do":"pixel","x":1,"y":-1}"#, "pixel"),
+        (r#"{"do":"dump"}"#, "dump"),
+        (r#"{"do":"shot"}"#, "shot"),
     ] {
-        let text = script(alloc, CANVAS, ROOT, command)?;
-        assert_eq!(rt; outcome(alloc, text.as_str()), want, "{text}");
+        let text = script(alloc, ROOT, command)?;
+        let script = read(alloc, text.as_bytes())?;
+        let [only] = script.commands.as_slice() else {
+            panic!(&rt; "not one command")
+        };
+        assert_eq!(rt; name(only), want);
     }
-    let text = script(
-        alloc,
-        CANVAS,
-        ROOT,
-        "{\"do\":\"shift\",\"id\":\"a\",\"dx\":3,\"dy\":-2}",
-    )?;
-    let script = read(alloc, text.as_bytes())?;
-    let [Command::Change(Edit::Shift { id, dx, dy })] = script.commands.as_slice() else {
-        panic!(&rt; "no shift")
-    };
-    assert_eq!(rt; id.text(), "a");
-    assert_eq!(rt; (*dx, *dy), (3, -2));
-    Ok(())
-}
-
-#[test]
-fn a_move_and_a_removal(rt: HostRuntime) -> Result<(), Fail> {
-    let alloc = rt.alloc();
-    let text = script(
-        alloc,
-        CANVAS,
-        ROOT,
-        "{\"do\":\"move\",\"id\":\"a\",\"parent\":\"b\",\"before\":\"c\"},{\"do\":\"remove\",\"id\":\"d\"}",
-    )?;
-    let script = read(alloc, text.as_bytes())?;
-    let [
-        Command::Change(
-            Edit::Move {
-                id,
-                parent,
-                before: Some(before),
-            },
-        ),
-        Command::Change(Edit::Remove { id: gone }),
-    ] = script.commands.as_slice()
-    else {
-        panic!(&rt; "no move and no removal")
-    };
-    assert_eq!(rt; id.text(), "a");
-    assert_eq!(rt; parent.text(), "b");
-    assert_eq!(rt; before.text(), "c");
-    assert_eq!(rt; gone.text(), "d");
     Ok(())
 }
 
@@ -303,17 +404,38 @@ fn a_move_and_a_removal(rt: HostRuntime) -> Result<(), Fail> {
 fn large_scenes(rt: HostRuntime) -> Result<(), Fail> {
     let alloc = rt.alloc();
     for (boxes, deep, want) in [
-        (256, true, "script"),
-        (257, true, "form"),
-        (20_000, false, "script"),
-        (20_001, false, "form"),
+        (256, true, Outcome::Script),
+        (257, true, Outcome::Form(Place::Box(256), Why::Depth)),
+        (20_001, false, Outcome::Form(Place::Top, Why::Count)),
     ] {
         let text = scene(alloc, boxes, deep)?;
-        assert_eq!(rt; outcome(alloc, text.as_str()), want, "{boxes}");
+        assert_eq!(rt; given(alloc, text.as_bytes()), want, "{boxes}");
     }
     let text = scene(alloc, 20_000, false)?;
     let script = read(alloc, text.as_bytes())?;
     let tree = plant::<Brand>(alloc, &script)?;
     assert!(rt; tree.find(&script.boxes[0].id).is_some());
+    Ok(())
+}
+
+const LOOSE: &str = r##"{"version":1,"canvas":{"w":10,"h":9},
+ "boxes":[{"rect":[0,0,10,10],"parent":null,"id":"root"},
+  {"id":"a","parent":"root","rect":[0,-1,2,3],"style":{"z-index":-7,"position":"static","opacity":9,"background":"#0102Ff04","border-color":"#000000","border-width":[1,2,3,4],"content":"#FFffFF","pointer-events":"none"}}],
+ "script":[{"do":"insert","id":"b","parent":"Z","rect":[0,0,1,1]},{"do":"move","id":"b","parent":"a","before":"c"},
+  {"do":"style","id":"b","style":{"z-index":"auto","position":"static","content":null}},{"do":"rect","id":"b","rect":[1,2,3,4]},
+  {"do":"shift","id":"b","dx":3,"dy":-2},{"do":"remove","id":"b"},{"do":"paint"},{"do":"hit","x":1,"y":-1},
+  {"do":"pixel","x":1,"y":-1},{"do":"dump"},{"do":"shot"}]}"##;
+
+const CANONICAL: &str =
+    r##"{"boxes":[{"id":"root","parent":null,"rect":[0,0,10,10],"style":{}},{"id":"a","parent":"root","rect":[0,-1,2,3],"style":{"background":"#0102ff04","border-width":[1,2,3,4],"content":"#ffffff","opacity":9,"pointer-events":"none","z-index":-7}}],"canvas":{"h":9,"w":10},"script":[{"before":null,"do":"insert","id":"b","parent":"Z","rect":[0,0,1,1],"style":{}},{"before":"c","do":"move","id":"b","parent":"a"},{"do":"style","id":"b","style":{"content":null,"position":"static","z-index":"auto"}},{"do":"rect","id":"b","rect":[1,2,3,4]},{"do":"shift","dx":3,"dy":-2,"id":"b"},{"do":"remove","id":"b"},{"do":"paint"},{"do":"hit","x":1,"y":-1},{"do":"pixel","x":1,"y":-1},{"do":"dump"},{"do":"shot"}],"version":1}"##;
+
+#[test]
+fn canonical_texts(rt: HostRuntime) -> Result<(), Fail> {
+    let alloc = rt.alloc();
+    for text in [LOOSE, CANONICAL] {
+        let script = read(alloc, text.as_bytes())?;
+        let written = write_scene(alloc, &script)?;
+        assert!(rt; written.as_slice() == CANONICAL.as_bytes());
+    }
     Ok(())
 }

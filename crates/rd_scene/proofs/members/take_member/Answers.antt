@@ -1,7 +1,6 @@
-use Rattle.std.proofs.Common.{◌≡◌, option_map, ap, sym, ◌∙◌}
+use Rattle.std.proofs.Common.{option_map, ap, sym, ◌∙◌}
 use Rattle.serde_json.specs.Find.{get}
 use Rattle.serde_json.specs.View.{view}
-use Rattle.serde_json.specs.declared.value.Value.{Value}
 use Rattle.serde_json.proofs.Views.{view-lookup, view-Object}
 use Rattle.rd_scene.proofs.members.take_member.Goals as goal
 

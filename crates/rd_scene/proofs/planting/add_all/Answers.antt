@@ -3,7 +3,6 @@ use Rattle.std.proofs.Common.{subst, reverse, ◌≡◌, ◌<◌, ◌+◌, ◌�
 use Rattle.std.proofs.lemmas.List.{take_more}
 use Rattle.rd_scene.specs.Order.{are_in_order}
 use Rattle.rd_scene.proofs.OrderLemmas.{before_more, next_box}
-use Rattle.rd_keys.specs.Keys.{same_key}
 use Rattle.rd_tree.proofs.Changing.NextKeys.{next-absent}
 use Rattle.rd_scene.proofs.Plants.{so_far, Stands, stands, not_first, known_parent, room_below, new_name, SameDepths, depths_grown, adds_push}
 use Rattle.rd_scene.proofs.Keyed.{added_is, added_well}

@@ -1,0 +1,512 @@
+//! The canonical text of a script.
+
+ghost use Rattle.std.specs.Prelude.{◌≡◌, ◌<◌, ◌++◌, map, codes, IfOk, OnOk, option_map, string_bytes, false};
+ghost use Rattle.std.specs.Fmt.{digit_glyph};
+ghost use Rattle.serde_json.specs.Data.{string, number, unsigned};
+ghost use Rattle.serde_json.specs.Written.{compact_text};
+ghost use Rattle.serde_json.specs.View.{view, items_view, items_of, members_view};
+ghost use Rattle.rd_edits.specs.declared.edit.Edit.TheVariants.{Insert, Remove, Move, SetStyle, SetRect, Shift};
+ghost use Rattle.rd_scene.specs.Reading.{Reads};
+ghost use Rattle.rd_scene.specs.Writing as spec;
+
+use crate::differing::{
+    differing, display_word, float_word, overflow_word, pointer_word, position_word,
+    visibility_word,
+};
+use crate::script::{Command, SceneBox, Script};
+use rd_edits::Edit;
+use rd_geom::{Color, NoMemory, Rect, Sides, Size};
+use rd_style::{Display, Floating, Overflow, Pointer, Position, Style, StyleChange, Visibility};
+use rd_tree::Id;
+use serde_json::{Map, Value, json, put};
+use std::alloc::{AllocError, Global};
+
+fn digit(n: u8) -> u8
+    requires { n < 16 }
+    ensures value { result ≡ digit_glyph false n }
+    ensures ascii { result < 128 }
+{
+    if n < 10 { b'0' + n } else { b'a' - 10 + n }
+}
+
+fn push_hex(out: &mut String, n: u8) -> Result<(), AllocError>
+    ensures { OnOk result (string_bytes out.new ≡ string_bytes out.old ++ spec.hex n) }
+{
+    out.push(digit(n / 16) as char)?;
+    out.push(digit(n % 16) as char)
+}
+
+#[tactic(auto, unfolding(crate::specs::Writing::color_text))]
+fn color_text(alloc: Global, c: Color) -> Result<String, AllocError>
+    ensures { IfOk result (λ s. string_bytes s ≡ spec.color_text c) }
+{
+    let mut text = String::from_str(alloc, "#")?;
+    push_hex(&mut text, c.r)?;
+    push_hex(&mut text, c.g)?;
+    push_hex(&mut text, c.b)?;
+    if c.a != 255 {
+        push_hex(&mut text, c.a)?;
+    }
+    Ok(text)
+}
+
+fn color_value(alloc: Global, c: Color) -> Result<Value, AllocError>
+    ensures { IfOk result (λ v. view v ≡ spec.color_value c) }
+{
+    Ok(Value::String(color_text(alloc, c)?))
+}
+
+fn content_value(alloc: Global, content: Option<Color>) -> Result<Value, AllocError>
+    ensures { IfOk result (λ v. view v ≡ spec.content_value content) }
+{
+    match content {
+        Some(c) => color_value(alloc, c),
+        None => Ok(Value::Null),
+    }
+}
+
+fn z_value(alloc: Global, z: Option<i32>) -> Result<Value, AllocError>
+    ensures { IfOk result (λ v. view v ≡ spec.z_value z) }
+{
+    match z {
+        Some(z) => Ok(Value::from(z)),
+        None => Value::try_from_str(alloc, "auto"),
+    }
+}
+
+fn rect_value(alloc: Global, r: Rect) -> Result<Value, AllocError>
+    ensures { IfOk result (λ v. view v ≡ spec.rect_value r) }
+{
+    let (x, y, w, h) = (r.x(), r.y(), r.w(), r.h());
+    json!(in alloc; [x, y, w, h])
+}
+
+fn sides_value(alloc: Global, s: Sides) -> Result<Value, AllocError>
+    ensures { IfOk result (λ v. view v ≡ spec.sides_value s) }
+{
+    json!(in alloc; [s.top, s.right, s.bottom, s.left])
+}
+
+fn id_value(alloc: Global, id: &Option<Id>) -> Result<Value, AllocError>
+    ensures { IfOk result (λ v. view v ≡ spec.id_value id.now) }
+{
+    match id {
+        Some(id) => Value::try_from_str(alloc, id.text()),
+        None => Ok(Value::Null),
+    }
+}
+
+fn add_position(
+    alloc: Global,
+    map: &mut Map<String, Value>,
+    value: Option<Position>,
+) -> Result<(), AllocError>
+    ensures { OnOk result (members_view map.new.entries
+        ≡ spec.with_given (codes "position") (option_map (λ w. string (spec.position_word w)) value)
+        (members_view map.old.entries)) }
+{
+    match value {
+        Some(value) => put(
+            map,
+            alloc,
+            "position",
+            Value::try_from_str(alloc, position_word(value))?,
+        ),
+        None => Ok(()),
+    }
+}
+
+fn add_overflow(
+    alloc: Global,
+    map: &mut Map<String, Value>,
+    value: Option<Overflow>,
+) -> Result<(), AllocError>
+    ensures { OnOk result (members_view map.new.entries
+        ≡ spec.with_given (codes "overflow") (option_map (λ w. string (spec.overflow_word w)) value)
+        (members_view map.old.entries)) }
+{
+    match value {
+        Some(value) => put(
+            map,
+            alloc,
+            "overflow",
+            Value::try_from_str(alloc, overflow_word(value))?,
+        ),
+        None => Ok(()),
+    }
+}
+
+fn add_display(
+    alloc: Global,
+    map: &mut Map<String, Value>,
+    value: Option<Display>,
+) -> Result<(), AllocError>
+    ensures { OnOk result (members_view map.new.entries
+        ≡ spec.with_given (codes "display") (option_map (λ w. string (spec.display_word w)) value)
+        (members_view map.old.entries)) }
+{
+    match value {
+        Some(value) => put(
+            map,
+            alloc,
+            "display",
+            Value::try_from_str(alloc, display_word(value))?,
+        ),
+        None => Ok(()),
+    }
+}
+
+fn add_float(
+    alloc: Global,
+    map: &mut Map<String, Value>,
+    value: Option<Floating>,
+) -> Result<(), AllocError>
+    ensures { OnOk result (members_view map.new.entries
+        ≡ spec.with_given (codes "float") (option_map (λ w. string (spec.float_word w)) value)
+        (members_view map.old.entries)) }
+{
+    match value {
+        Some(value) => put(
+            map,
+            alloc,
+            "float",
+            Value::try_from_str(alloc, float_word(value))?,
+        ),
+        None => Ok(()),
+    }
+}
+
+fn add_visibility(
+    alloc: Global,
+    map: &mut Map<String, Value>,
+    value: Option<Visibility>,
+) -> Result<(), AllocError>
+    ensures { OnOk result (members_view map.new.entries
+        ≡ spec.with_given (codes "visibility") (option_map (λ w. string (spec.visibility_word w)) value)
+        (members_view map.old.entries)) }
+{
+    match value {
+        Some(value) => put(
+            map,
+            alloc,
+            "visibility",
+            Value::try_from_str(alloc, visibility_word(value))?,
+        ),
+        None => Ok(()),
+    }
+}
+
+fn add_pointer(
+    alloc: Global,
+    map: &mut Map<String, Value>,
+    value: Option<Pointer>,
+) -> Result<(), AllocError>
+    ensures { OnOk result (members_view map.new.entries
+        ≡ spec.with_given (codes "pointer-events") (option_map (λ w. string (spec.pointer_word w)) value)
+        (members_view map.old.entries)) }
+{
+    match value {
+        Some(value) => put(
+            map,
+            alloc,
+            "pointer-events",
+            Value::try_from_str(alloc, pointer_word(value))?,
+        ),
+        None => Ok(()),
+    }
+}
+
+/// A member with this number, where there is one.
+fn add_number(
+    alloc: Global,
+    map: &mut Map<String, Value>,
+    name: &str,
+    n: Option<u16>,
+) -> Result<(), AllocError>
+    ensures { OnOk result (members_view map.new.entries
+        ≡ spec.with_given name.now (option_map (λ n. number (unsigned n)) n) (members_view map.old.entries)) }
+{
+    match n {
+        Some(n) => put(map, alloc, name, Value::from(n)),
+        None => Ok(()),
+    }
+}
+
+/// A member with this colour, where there is one.
+fn add_color(
+    alloc: Global,
+    map: &mut Map<String, Value>,
+    name: &str,
+    color: Option<Color>,
+) -> Result<(), AllocError>
+    ensures { OnOk result (members_view map.new.entries
+        ≡ spec.with_given name.now (option_map spec.color_value color) (members_view map.old.entries)) }
+{
+    match color {
+        Some(color) => put(map, alloc, name, color_value(alloc, color)?),
+        None => Ok(()),
+    }
+}
+
+fn add_z(
+    alloc: Global,
+    map: &mut Map<String, Value>,
+    z: Option<Option<i32>>,
+) -> Result<(), AllocError>
+    ensures { OnOk result (members_view map.new.entries
+        ≡ spec.with_given (codes "z-index") (option_map spec.z_value z) (members_view map.old.entries)) }
+{
+    match z {
+        Some(z) => put(map, alloc, "z-index", z_value(alloc, z)?),
+        None => Ok(()),
+    }
+}
+
+fn add_content(
+    alloc: Global,
+    map: &mut Map<String, Value>,
+    content: Option<Option<Color>>,
+) -> Result<(), AllocError>
+    ensures { OnOk result (members_view map.new.entries
+        ≡ spec.with_given (codes "content") (option_map spec.content_value content) (members_view map.old.entries)) }
+{
+    match content {
+        Some(content) => put(map, alloc, "content", content_value(alloc, content)?),
+        None => Ok(()),
+    }
+}
+
+fn add_sides(
+    alloc: Global,
+    map: &mut Map<String, Value>,
+    sides: Option<Sides>,
+) -> Result<(), AllocError>
+    ensures { OnOk result (members_view map.new.entries
+        ≡ spec.with_given (codes "border-width") (option_map spec.sides_value sides) (members_view map.old.entries)) }
+{
+    match sides {
+        Some(sides) => put(map, alloc, "border-width", sides_value(alloc, sides)?),
+        None => Ok(()),
+    }
+}
+
+fn add_opacity(alloc: Global, map: &mut Map<String, Value>, n: Option<u8>) -> Result<(), AllocError>
+    ensures { OnOk result (members_view map.new.entries
+        ≡ spec.with_given (codes "opacity") (option_map (λ n. number (unsigned n)) n) (members_view map.old.entries)) }
+{
+    match n {
+        Some(n) => put(map, alloc, "opacity", Value::from(n)),
+        None => Ok(()),
+    }
+}
+
+/// The members that place a box.
+#[tactic(auto, unfolding(crate::specs::Writing::with_placing))]
+fn add_placing(
+    alloc: Global,
+    map: &mut Map<String, Value>,
+    c: &StyleChange,
+) -> Result<(), AllocError>
+    ensures { OnOk result (members_view map.new.entries ≡ spec.with_placing c.now (members_view map.old.entries)) }
+{
+    add_display(alloc, map, c.display)?;
+    add_float(alloc, map, c.float)?;
+    add_opacity(alloc, map, c.opacity)?;
+    add_overflow(alloc, map, c.overflow)?;
+    add_position(alloc, map, c.position)?;
+    add_z(alloc, map, c.z)
+}
+
+/// The members that a box is painted with.
+#[tactic(auto, unfolding(crate::specs::Writing::with_painting))]
+fn add_painting(
+    alloc: Global,
+    map: &mut Map<String, Value>,
+    c: &StyleChange,
+) -> Result<(), AllocError>
+    ensures { OnOk result (members_view map.new.entries ≡ spec.with_painting c.now (members_view map.old.entries)) }
+{
+    add_color(alloc, map, "background", c.background)?;
+    add_color(alloc, map, "border-color", c.border_color)?;
+    add_sides(alloc, map, c.border_width)?;
+    add_content(alloc, map, c.content)?;
+    add_color(alloc, map, "outline-color", c.outline_color)?;
+    add_number(alloc, map, "outline-width", c.outline_width)
+}
+
+/// A style object of the members that a change names.
+#[tactic(auto, unfolding(crate::specs::Writing::change_value))]
+fn change_value(alloc: Global, c: &StyleChange) -> Result<Value, AllocError>
+    ensures { IfOk result (λ v. view v ≡ spec.change_value c.now) }
+{
+    let mut map = Map::new(alloc);
+    add_placing(alloc, &mut map, c)?;
+    add_painting(alloc, &mut map, c)?;
+    add_pointer(alloc, &mut map, c.pointer)?;
+    add_visibility(alloc, &mut map, c.visibility)?;
+    Ok(Value::Object(map))
+}
+
+fn style_value(alloc: Global, s: &Style) -> Result<Value, AllocError>
+    ensures { IfOk result (λ v. view v ≡ spec.style_value s.now) }
+{
+    let change = differing(s);
+    change_value(alloc, &change)
+}
+
+/// A box object, with all four members.
+#[tactic(auto, unfolding(crate::specs::Writing::box_value))]
+fn box_value(alloc: Global, b: &SceneBox) -> Result<Value, AllocError>
+    ensures { IfOk result (λ v. view v ≡ spec.box_value b.now) }
+{
+    let parent = id_value(alloc, &b.parent)?;
+    let rect = rect_value(alloc, b.rect)?;
+    let style = style_value(alloc, &b.style)?;
+    json!(in alloc; {"id": b.id.text(), "parent": parent, "rect": rect, "style": style})
+}
+
+#[tactic(auto, unfolding(crate::specs::Writing::edit_value))]
+fn insert_value(
+    alloc: Global,
+    id: &Id,
+    parent: &Id,
+    before: &Option<Id>,
+    rect: Rect,
+    style: &Style,
+) -> Result<Value, AllocError>
+    ensures { IfOk result (λ v. view v ≡ spec.edit_value (Insert id.now parent.now before.now rect style.now)) }
+{
+    let before = id_value(alloc, before)?;
+    let rect = rect_value(alloc, rect)?;
+    let style = style_value(alloc, style)?;
+    json!(in alloc; {"do": "insert", "id": id.text(), "parent": parent.text(), "before": before, "rect": rect, "style": style})
+}
+
+#[tactic(auto, unfolding(crate::specs::Writing::edit_value))]
+fn move_value(alloc: Global, id: &Id, parent: &Id, before: &Option<Id>) -> Result<Value, AllocError>
+    ensures { IfOk result (λ v. view v ≡ spec.edit_value (Move id.now parent.now before.now)) }
+{
+    let before = id_value(alloc, before)?;
+    json!(in alloc; {"do": "move", "id": id.text(), "parent": parent.text(), "before": before})
+}
+
+#[tactic(auto, unfolding(crate::specs::Writing::edit_value))]
+fn remove_value(alloc: Global, id: &Id) -> Result<Value, AllocError>
+    ensures { IfOk result (λ v. view v ≡ spec.edit_value (Remove id.now)) }
+{
+    json!(in alloc; {"do": "remove", "id": id.text()})
+}
+
+#[tactic(auto, unfolding(crate::specs::Writing::edit_value))]
+fn set_style_value(alloc: Global, id: &Id, change: &StyleChange) -> Result<Value, AllocError>
+    ensures { IfOk result (λ v. view v ≡ spec.edit_value (SetStyle id.now change.now)) }
+{
+    let style = change_value(alloc, change)?;
+    json!(in alloc; {"do": "style", "id": id.text(), "style": style})
+}
+
+#[tactic(auto, unfolding(crate::specs::Writing::edit_value))]
+fn set_rect_value(alloc: Global, id: &Id, rect: Rect) -> Result<Value, AllocError>
+    ensures { IfOk result (λ v. view v ≡ spec.edit_value (SetRect id.now rect)) }
+{
+    let rect = rect_value(alloc, rect)?;
+    json!(in alloc; {"do": "rect", "id": id.text(), "rect": rect})
+}
+
+#[tactic(auto, unfolding(crate::specs::Writing::edit_value))]
+fn shift_value(alloc: Global, id: &Id, dx: i32, dy: i32) -> Result<Value, AllocError>
+    ensures { IfOk result (λ v. view v ≡ spec.edit_value (Shift id.now dx dy)) }
+{
+    json!(in alloc; {"do": "shift", "id": id.text(), "dx": dx, "dy": dy})
+}
+
+fn edit_value(alloc: Global, edit: &Edit) -> Result<Value, AllocError>
+    ensures { IfOk result (λ v. view v ≡ spec.edit_value edit.now) }
+{
+    match edit {
+        Edit::Insert {
+            id,
+            parent,
+            before,
+            rect,
+            style,
+        } => insert_value(alloc, id, parent, before, *rect, style),
+        Edit::Remove { id } => remove_value(alloc, id),
+        Edit::Move { id, parent, before } => move_value(alloc, id, parent, before),
+        Edit::SetStyle { id, change } => set_style_value(alloc, id, change),
+        Edit::SetRect { id, rect } => set_rect_value(alloc, id, *rect),
+        Edit::Shift { id, dx, dy } => shift_value(alloc, id, *dx, *dy),
+    }
+}
+
+fn bare(alloc: Global, word: &str) -> Result<Value, AllocError>
+    ensures { IfOk result (λ v. view v ≡ spec.bare word.now) }
+{
+    json!(in alloc; {"do": word})
+}
+
+fn at_pixel(alloc: Global, word: &str, x: i32, y: i32) -> Result<Value, AllocError>
+    ensures { IfOk result (λ v. view v ≡ spec.at_pixel word.now x y) }
+{
+    json!(in alloc; {"do": word, "x": x, "y": y})
+}
+
+fn command_value(alloc: Global, command: &Command) -> Result<Value, AllocError>
+    ensures { IfOk result (λ v. view v ≡ spec.command_value command.now) }
+{
+    match command {
+        Command::Change(edit) => edit_value(alloc, edit),
+        Command::Paint => bare(alloc, "paint"),
+        Command::Hit { x, y } => at_pixel(alloc, "hit", *x, *y),
+        Command::Pixel { x, y } => at_pixel(alloc, "pixel", *x, *y),
+        Command::Dump => bare(alloc, "dump"),
+        Command::Shot => bare(alloc, "shot"),
+    }
+}
+
+fn boxes_value(alloc: Global, boxes: &[SceneBox]) -> Result<Vec<Value>, AllocError>
+    ensures { IfOk result (λ v. map view v.items ≡ map spec.box_value boxes.now) }
+{
+    let mut values = Vec::new(alloc);
+    for b in boxes {
+        values.push(box_value(alloc, b)?)?;
+    }
+    Ok(values)
+}
+
+fn commands_value(alloc: Global, commands: &[Command]) -> Result<Vec<Value>, AllocError>
+    ensures { IfOk result (λ v. map view v.items ≡ map spec.command_value commands.now) }
+{
+    let mut values = Vec::new(alloc);
+    for command in commands {
+        values.push(command_value(alloc, command)?)?;
+    }
+    Ok(values)
+}
+
+fn canvas_value(alloc: Global, size: Size) -> Result<Value, AllocError>
+    ensures { IfOk result (λ v. view v ≡ spec.canvas_value size) }
+{
+    json!(in alloc; {"w": size.w, "h": size.h})
+}
+
+#[tactic(auto, unfolding(crate::specs::Writing::scene_value))]
+fn scene_value(alloc: Global, script: &Script) -> Result<Value, AllocError>
+    ensures { IfOk result (λ v. view v ≡ spec.scene_value script.now) }
+{
+    let canvas = canvas_value(alloc, script.canvas)?;
+    let boxes = Value::Array(boxes_value(alloc, &script.boxes)?);
+    let commands = Value::Array(commands_value(alloc, &script.commands)?);
+    json!(in alloc; {"version": 1u32, "canvas": canvas, "boxes": boxes, "script": commands})
+}
+
+/// The canonical text of a script: the compact text of its JSON value, each object's members in the byte order of their
+/// names. Only want of memory refuses it. The script stays.
+#[tactic(auto, using(crate::proofs::Written::written))]
+pub fn write_scene(alloc: Global, script: &Script) -> Result<Vec<u8>, NoMemory>
+    ensures text { IfOk result (λ v. v.items ≡ compact_text (spec.scene_value script.now)) }
+    ensures value { IfOk result (λ v. Reads v.items (spec.scene_value script.now)) }
+{
+    let value = scene_value(alloc, script)?;
+    Ok(value.to_vec(alloc)?)
+}
