@@ -1,0 +1,5 @@
+pub mod Words
+pub mod Answers
+pub mod Dumps
+pub mod Summaries
+pub mod Pictures

@@ -1,0 +1,20 @@
+//! What the program writes of what it did: the lines of answers, dumps of kept lists, pictures, digests and summaries.
+//! Lines are put at the end of one text, so that no line takes memory of its own.
+//! Each function says the very bytes; `docs/FORMATS.md` has them in words.
+#![tactic(auto)]
+
+mod answer;
+mod digests;
+mod dump;
+mod picture;
+mod summary;
+mod words;
+
+pub use answer::{Answer, push_line};
+pub use digests::digest;
+pub use dump::push_dump;
+pub use picture::p6;
+pub use summary::{Totals, push_summary};
+
+#[cfg(test)]
+mod tests;
