@@ -1,13 +1,13 @@
 //! Keeps a display list between paints, and answers a script.
 #![tactic(auto)]
 
-ghost use Rattle.std.specs.Prelude.{◌≡◌, ◌<◌, IfOk, drop, map, string_bytes};
-ghost use Rattle.rd_run.specs.Endings.{number, stream, Ends, Tells};
+ghost use Rattle.std.specs.Prelude.{◌≡◌, ◌<◌, ℕ, IfOk, drop, map, string_bytes};
+ghost use Rattle.rd_run.specs.Endings.{number, counter, stream, Ends, Tells};
 ghost use Rattle.rd_run.specs.Words.{words_form};
 
 use rd_geom::Steps;
-use rd_io::{ReadSource, Sink, Source, WriteSink, write_all};
-use rd_run::{Status, run};
+use rd_io::{ReadSource, Sink, Source, WriteSink};
+use rd_run::{Status, run, tell};
 use std::alloc::{AllocError, Global};
 use std::env;
 use std::env::Args;
@@ -45,10 +45,11 @@ fn run_counted<S: Source, O: Sink, E: Sink, A: Ledger, B: Ledger>(
     requires looks_parts { looks.parts ≡ B.parts }
     requires looks_some { 0 < looks.parts }
 
-    ensures ends { (s : Status) × (result ≡ number s)
-        × Ends (source.new ≡ source.old) (out.new ≡ out.old) (words_form (map string_bytes words.now))
+    ensures ends { (s : Status) × (made looks : ℕ) × (result ≡ number s)
+        × Ends (source.new ≡ source.old) (out.new ≡ out.old)
         (stream (S.left source.old) (S.left source.new) (S.faults source.old) (S.faults source.new))
-        (stream (O.written out.old) (O.written out.new) (O.faults out.old) (O.faults out.new)) s }
+        (stream (O.written out.old) (O.written out.new) (O.faults out.old) (O.faults out.new))
+        (counter 0 made) (counter 0 looks) (words_form (map string_bytes words.now)) s }
     ensures line { (s : Status) × (result ≡ number s)
         × Tells (stream (E.written err.old) (E.written err.new) (E.faults err.old) (E.faults err.new)) s }
 {
@@ -63,7 +64,7 @@ fn without_memory<E: Sink>(err: &mut E) -> u8
     ensures line { Tells (stream (E.written err.old) (E.written err.new) (E.faults err.old) (E.faults err.new)) Status.NoMemory }
 {
     let status = Status::NoMemory;
-    let _told = write_all(err, status.line().as_bytes());
+    tell(err, status);
     status.number()
 }
 

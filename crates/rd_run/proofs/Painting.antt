@@ -1,111 +1,180 @@
--- What a paint does to the state that is shown.
-use Rattle.std.proofs.Common.{◌≡◌, ℕ, suc, ◌+◌, ◌*◌, ◌^◌, ◌<◌, Bool, true, false, not, cond, List, [], ◌∷◌, ◌++◌, length, count_by, refl, sym, ◌∙◌, ap, unsigned_abs, arith}
-use Rattle.std.specs.List.{AllByRecursion, All, fold}
+-- What a paint of the engine is to the machine.
+use Rattle.std.proofs.Common.{◌≡◌, ℕ, ◌+◌, ◌*◌, ◌≤◌, Bool, true, false, cond, List, [], ◌∷◌, ◌++◌, length, refl, sym, ◌∙◌, ap, ap₂, subst, arith, Option, Some, None}
+use Rattle.std.specs.Prelude.{Contains, AllPairs, if◌then◌else◌, ◌-◌}
+use Rattle.std.specs.List.{AllByRecursion}
+use Rattle.rd_geom.specs.Areas.{Region, meets_area, count_of}
 use Rattle.rd_item.specs.declared.leaf.Leaf.{Leaf}
+use Rattle.rd_item.specs.Items.{Made}
 use Rattle.rd_list.specs.Wrappers.{Wrapper}
 use Rattle.rd_list.specs.Entries.{Entries, nil, leaf, group, flat}
-use Rattle.rd_list.specs.Lists.{groups}
-use Rattle.rd_geom.specs.Areas.{meets_area, whole_area}
-use Rattle.rd_geom.specs.Canvas.{canvas_of, IsCanvas}
-use Rattle.rd_geom.specs.declared.rect.Size.{Size}
-use Rattle.rd_keys.specs.Keys.{same_key}
-use Rattle.rd_tree.specs.Forest.{size, IsApart}
+use Rattle.rd_list.specs.EntryNames.{kept_leaves, new_leaves}
+use Rattle.rd_list.specs.Lists.{StandsFor, meeting, same_leaf}
+use Rattle.rd_list.specs.Unordered.{unordered}
 use Rattle.rd_tree.specs.Document.{Document}
+use Rattle.rd_tree.specs.Touching.{settled}
 use Rattle.rd_stack.specs.Fresh.{fresh_list}
-use Rattle.rd_stack.specs.Laws.{IsOnCanvas}
-use Rattle.rd_stack.proofs.Promises.{stands_for_itself, shows_on_canvas, few_entries}
-use Rattle.rd_run.specs.Lines.{paint_line}
-use Rattle.rd_run.specs.Machine.{State, settled_tree, painted_state, Paints, leaves, is_built, IsNumbered}
-use Rattle.rd_run.specs.Internal.Display.{Shows, Answers, IsWellFormed, stamped}
-use Rattle.rd_run.specs.declared.display.Display.{Display}
-use Rattle.rd_geom.proofs.Areas.{whole_area-meets, whole_area-count}
-use Rattle.rd_run.proofs.Sound.{settled_sound}
+use Rattle.rd_stack.proofs.Promises.{stands_for_itself}
+use Rattle.rd_partial.specs.Looks.{looks_bound, is_visited}
+use Rattle.rd_engine.specs.State.{EngineState, IsEngine}
+use Rattle.rd_engine.specs.Invalid as invalid
+use Rattle.rd_engine.specs.Painted as engine
+use Rattle.rd_engine.specs.Painted.{untouched, IsSettled, IsNoted, AreNumbered}
+use Rattle.rd_engine.specs.declared.note.PaintNote.{PaintNote}
+use Rattle.rd_engine.proofs.Fewer.{only_length}
+use Rattle.rd_report.specs.Answers.{paint_line}
+use Rattle.rd_report.proofs.Dumping.{flat-unordered}
+use Rattle.rd_scene.proofs.Changing.{each_well}
+use Rattle.rd_run.specs.Endings.{Counter}
+use Rattle.rd_run.specs.Machine.{State, Paints, IsNumbered, invalid_area, remade, most_looks, number_in, painted_state}
+use Rattle.rd_run.specs.Internal.Lasts.{IsWellFormed, IsLast}
+use Rattle.rd_run.specs.Internal.Session.{SessionState, Shows, Advances, MayGoOn}
+use Rattle.rd_run.proofs.Dues.{area_same}
+use Rattle.rd_run.proofs.Kept.{unordered_leaves, kept_number, all_items}
 
-on_canvas : (s : Size) (ls : List Leaf) → IsCanvas s → All (IsOnCanvas (canvas_of s)) ls → AllByRecursion (λ l. meets_area (whole_area s) l.visible ≡ true) ls
-on_canvas s [] c h = tt
-on_canvas s (l ∷ ls) c h = (seen (h 0 l (omega arith)), on_canvas s ls c (λ k d m. h (suc k) d (omega arith)))
-  where
-    seen : IsOnCanvas (canvas_of s) l → meets_area (whole_area s) l.visible ≡ true
-    seen o = whole_area-meets s c l.visible ∙ o.meets
+pub settled_sound : (t : Document) → IsWellFormed t → IsWellFormed (untouched t)
+settled_sound t h = record { boxes = each_well (λ k. true) settled t h.boxes; canvas = h.canvas }
 
--- every leaf is on the canvas
-pub all_built : (s : State) → IsWellFormed s.tree → AllByRecursion (λ l. is_built s l ≡ true) (flat (fresh_list s.tree))
-all_built s h = on_canvas s.tree.canvas (flat (fresh_list s.tree)) h.canvas (shows_on_canvas s.tree h.boxes.apart)
+-- ---- a paint is always possible: the fresh list itself may be kept
 
-pub leaves-stamped : (n : ℕ) (xs : Entries Wrapper Leaf) → leaves (stamped n xs) ≡ xs
-leaves-stamped n nil = refl
-leaves-stamped n (leaf l rest) = ap (leaf l) (leaves-stamped n rest)
-leaves-stamped n (group g inner rest) = ap (λ i. group g i (leaves (stamped n rest))) (leaves-stamped n inner) ∙ ap (group g inner) (leaves-stamped n rest)
+-- a list with the numbers that the machine gives its leaves
+abbrev number_for : State → Leaf → ℕ
+number_for s l = if meets_area (invalid_area s) l.visible then s.paints + 1 else number_in s.kept l
+
+abbrev numbering : State → Entries Wrapper Leaf → Entries Wrapper Made
+numbering s nil = nil
+numbering s (leaf l rest) = leaf (record { leaf = l; made_at = number_for s l }) (numbering s rest)
+numbering s (group g inner rest) = group g (numbering s inner) (numbering s rest)
+
+numbering_leaves : (s : State) (xs : Entries Wrapper Leaf) → new_leaves (numbering s xs) ≡ xs
+numbering_leaves s nil = refl
+numbering_leaves s (leaf l xs) = ap (leaf l) (numbering_leaves s xs)
+numbering_leaves s (group g inner xs) = rw (numbering_leaves s inner, numbering_leaves s xs) refl
 
 all_append : {A : Type 0} (P : A → Type 0) (xs ys : List A) → AllByRecursion P xs → AllByRecursion P ys → AllByRecursion P (xs ++ ys)
 all_append P [] ys a b = b
 all_append P (x ∷ xs) ys a b = (a.0, all_append P xs ys a.1 b)
 
-all_front : {A : Type 0} (P : A → Type 0) (xs ys : List A) → AllByRecursion P (xs ++ ys) → AllByRecursion P xs
-all_front P [] ys a = tt
-all_front P (x ∷ xs) ys a = (a.0, all_front P xs ys a.1)
+numbering_is : (s : State) (xs : Entries Wrapper Leaf) → AllByRecursion (IsNumbered s) (flat (numbering s xs))
+numbering_is s nil = tt
+numbering_is s (leaf l xs) = (refl, numbering_is s xs)
+numbering_is s (group g inner xs) = all_append (IsNumbered s) (flat (numbering s inner)) (flat (numbering s xs)) (numbering_is s inner) (numbering_is s xs)
 
-all_back : {A : Type 0} (P : A → Type 0) (xs ys : List A) → AllByRecursion P (xs ++ ys) → AllByRecursion P ys
-all_back P [] ys a = a
-all_back P (x ∷ xs) ys a = all_back P xs ys a.1
+fewer : (a b : ℕ) → a ≤ b → (c : ℕ) × (a + c ≡ b)
+fewer a b h = (b - a, omega (arith, h))
 
--- where every leaf meets the area, every item was made in this paint
-pub made_now : (s : State) (n : ℕ) (xs : Entries Wrapper Leaf) → n ≡ s.paints + 1 → AllByRecursion (λ l. is_built s l ≡ true) (flat xs)
-    → AllByRecursion (IsNumbered s) (flat (stamped n xs))
-made_now s n nil e h = tt
-made_now s n (leaf l rest) e h =
-    (record { made = λ m. e; kept = λ m. absurd (let no : true ≡ false = sym (h.0) ∙ m in cc) }, made_now s n rest e h.1)
-made_now s n (group g inner rest) e h =
-    all_append (IsNumbered s) (flat (stamped n inner)) (flat (stamped n rest))
-    (made_now s n inner e (all_front (λ l. is_built s l ≡ true) (flat inner) (flat rest) h))
-    (made_now s n rest e (all_back (λ l. is_built s l ≡ true) (flat inner) (flat rest) h))
-
-from_all : (p : Leaf → Bool) (n : ℕ) (ls : List Leaf) → AllByRecursion (λ l. p l ≡ true) ls → fold (λ (a : ℕ) (x : Leaf). a + cond (p x) 1 0) n ls ≡ n + length ls
-from_all p n [] h = omega arith
-from_all p n (l ∷ ls) h = rw (h.0) (from_all p (n + 1) ls h.1 ∙ omega arith)
-
-from_none : (p : Leaf → Bool) (n : ℕ) (ls : List Leaf) → AllByRecursion (λ l. p l ≡ true) ls → fold (λ (a : ℕ) (x : Leaf). a + cond (not (p x)) 1 0) n ls ≡ n
-from_none p n [] h = refl
-from_none p n (l ∷ ls) h = rw (h.0) (from_none p (n + 0) ls h.1 ∙ omega arith)
-
-count_all : (p : Leaf → Bool) (ls : List Leaf) → AllByRecursion (λ l. p l ≡ true) ls → count_by p ls ≡ length ls
-count_all p ls h = from_all p 0 ls h ∙ omega arith
-
-count_none : (p : Leaf → Bool) (ls : List Leaf) → AllByRecursion (λ l. p l ≡ true) ls → count_by (λ l. not (p l)) ls ≡ 0
-count_none p ls h = from_none p 0 ls h
-
-pub painted : (s : State) (t now_t : Document) (old now : Display) (before after : List ℕ) → Shows t old s → now_t ≡ settled_tree t → now.list ≡ fresh_list t
-    → now.leaves ≡ length (flat (fresh_list t)) → now.pending ≡ false → now.paints ≡ old.paints + 1
-    → after ≡ before ++ paint_line (old.paints + 1) (length (flat (fresh_list t))) 0 (unsigned_abs t.canvas.w * unsigned_abs t.canvas.h)
-    → Answers Paints s before after now_t now
-painted s t now_t old now before after h m k c p n w =
-    let next : State = painted_state s (stamped now.paints now.list) in
-    let same : fresh_list s.tree ≡ now.list = ap fresh_list h.tree ∙ sym k in
-    let meets = all_built s h.well_formed in (
-      next,
-      paint_line (old.paints + 1) (length (flat (fresh_list t))) 0 (unsigned_abs t.canvas.w * unsigned_abs t.canvas.h),
+pub paint_goes : (s : State) → IsWellFormed s.tree
+    → (text : List ℕ) × (kept : Entries Wrapper Made) × Paints s text (painted_state s kept)
+paint_goes s h =
+    let others = fewer (length (flat (remade s))) (length (flat (fresh_list s.tree))) (only_length (λ l. meets_area (invalid_area s) l.visible) (fresh_list s.tree)) in (
+      paint_line (s.paints + 1) (length (flat (remade s))) others.0 (count_of (invalid_area s)),
+      numbering s (fresh_list s.tree),
       record {
-        stands = rw (leaves-stamped, ← same) (stands_for_itself s.tree h.well_formed.boxes.apart);
-        numbers = made_now s now.paints now.list (n ∙ ap (λ m. m + 1) (sym h.paints)) (rw (← same) meets);
+        stands = rw (numbering_leaves s (fresh_list s.tree)) (stands_for_itself s.tree h.boxes.apart);
+        numbers = numbering_is s (fresh_list s.tree);
         settled = refl;
-        told = rw (count_all _ _ meets, count_none _ _ meets, whole_area-count s.tree.canvas h.well_formed.canvas, h.tree, h.paints) refl;
+        others = others.0;
+        all = others.1;
+        told = refl;
       },
-      record {
-        tree = ap settled_tree h.tree ∙ sym m;
-        pending = sym p;
-        paints = ap (λ m. m + 1) h.paints ∙ sym n;
-        kept = refl;
-        counted = c ∙ ap (λ x. length (flat x)) (sym k);
-        well_formed = settled_sound s.tree h.well_formed;
-      },
-      w,
     )
 
--- A fresh list of few boxes has few entries.
-pub few_leaves : (t : Document) (list : Entries Wrapper Leaf) → IsApart same_key t.boxes → size t.boxes < 2 ^ 32 → list ≡ fresh_list t
-    → length (flat list) < 2 ^ 34
-few_leaves t list apart h e = rw e (omega (arith, (few_entries t apart).leaves))
+-- ---- the engine's words and the machine's
 
-pub few_groups : (t : Document) (list : Entries Wrapper Leaf) → IsApart same_key t.boxes → size t.boxes < 2 ^ 32 → list ≡ fresh_list t
-    → length (groups list) < 2 ^ 32
-few_groups t list apart h e = rw e (omega (arith, (few_entries t apart).groups))
+module _ (s : State) (x : SessionState) (sh : Shows x s) where
+  same_remade : remade s ≡ engine.remade x.engine
+  same_remade = ap₂ meeting (area_same s x.engine sh.tree sh.last) (ap fresh_list sh.tree)
+
+  same_count : count_of (invalid_area s) ≡ count_of (invalid.invalid_area x.engine)
+  same_count = ap count_of (area_same s x.engine sh.tree sh.last)
+
+  same_looks : most_looks s ≡ engine.most_looks x.engine
+  same_looks = ap₂ (λ (a : Region) (t : Document). 2 * looks_bound (is_visited a) t.boxes) (area_same s x.engine sh.tree sh.last) sh.tree
+
+  same_built : length (flat (remade s)) ≡ length (flat (engine.remade x.engine))
+  same_built = ap (λ z. length (flat z)) same_remade
+
+  -- where a paint gives up, the machine can go on
+  pub paint_may : (made looks : Counter) → made.now ≤ made.was + length (flat (engine.remade x.engine)) → looks.now ≤ looks.was + engine.most_looks x.engine
+      → MayGoOn Paints made looks s
+  paint_may made looks m l =
+      let p = paint_goes s sh.well_formed in
+      let b = same_built in
+      let k = same_looks in (
+        p.0,
+        painted_state s p.1,
+        p.2,
+        settled_sound s.tree sh.well_formed,
+        record { items = omega (arith, m, b); taken = omega (arith, l, k) },
+      )
+
+  -- each leaf of the list before is there once
+  once_before : (last : Option Document) → IsLast last x.engine → IsEngine x.engine → AllPairs (λ a b. same_leaf a b ≡ false) (flat (kept_leaves x.engine.kept.entries))
+  once_before (Some t) l e = l.1.once
+  once_before None l e = rw ((e.first l).1) (λ i j d k m. absurd (omega (arith, m)))
+
+  module _ (is : IsEngine x.engine) (now : EngineState) (note : PaintNote) (stands : StandsFor (kept_leaves now.kept.entries) (fresh_list x.engine.tree)) (settled : IsSettled x.engine now) (noted : IsNoted x.engine note)
+      (numbers : AreNumbered x.engine now) where
+    numbered_by : (i : Made) → Contains (flat now.kept.entries) i → (b : Bool) → meets_area (invalid_area s) i.leaf.visible ≡ b → i.made_at ≡ cond b (s.paints + 1) (number_in s.kept i.leaf)
+    numbered_by i c true h =
+        numbers.made i c (ap (λ a. meets_area a i.leaf.visible) (sym (area_same s x.engine sh.tree sh.last)) ∙ h) ∙ ap (λ n. n + 1) (sym sh.paints)
+    numbered_by i c false h =
+        let before = numbers.kept i c (ap (λ a. meets_area a i.leaf.visible) (sym (area_same s x.engine sh.tree sh.last)) ∙ h) in
+        sym (ap (λ k. number_in k i.leaf) sh.kept ∙ kept_number x.engine.kept.entries i (once_before s.last sh.last is) before)
+
+    numbered_all : AllByRecursion (IsNumbered s) (flat (unordered now.kept.entries))
+    numbered_all =
+        subst (λ (ms : List Made). AllByRecursion (IsNumbered s) ms) (sym (flat-unordered now.kept.entries))
+        (all_items (IsNumbered s) (flat now.kept.entries) (λ i c. numbered_by i c (meets_area (invalid_area s) i.leaf.visible) refl))
+
+    built_is : note.built ≡ length (flat (remade s))
+    built_is = noted.built ∙ sym same_built
+
+    area_is : note.area ≡ count_of (invalid_area s)
+    area_is = noted.area ∙ sym same_count
+
+    number_is : note.number ≡ s.paints + 1
+    number_is = noted.number ∙ ap (λ n. n + 1) (sym sh.paints)
+
+    paints : Paints s (paint_line note.number note.built note.kept note.area) (painted_state s (unordered now.kept.entries))
+    paints = record {
+      stands = rw (unordered_leaves now.kept.entries) (subst (λ (t : Document). StandsFor (kept_leaves now.kept.entries) (fresh_list t)) (sym sh.tree) stands);
+      numbers = numbered_all;
+      settled = refl;
+      others = note.kept;
+      all = ap (λ n. n + note.kept) (sym built_is) ∙ noted.kept ∙ ap (λ t. length (flat (fresh_list t))) (sym sh.tree);
+      told = ap (λ n. paint_line n note.built note.kept note.area) number_is
+          ∙ ap (λ n. paint_line (s.paints + 1) n note.kept note.area) built_is
+          ∙ ap (λ n. paint_line (s.paints + 1) (length (flat (remade s))) note.kept n) area_is;
+    }
+
+    abbrev after : SessionState
+    after = record { engine = now; accepted = x.accepted; refused = x.refused; built = x.built + note.built; area = x.area + note.area }
+
+    shows : Shows after (painted_state s (unordered now.kept.entries))
+    shows = record {
+      tree = ap untouched sh.tree ∙ sym settled.tree;
+      pending = sym settled.pending;
+      paints = ap (λ n. n + 1) sh.paints ∙ sym settled.paints;
+      kept = refl;
+      last = (
+        (let p = settled.paints in omega (arith, p)),
+        subst (λ (t : Document). StandsFor (kept_leaves now.kept.entries) (fresh_list t)) (sym sh.tree) stands,
+      );
+      accepted = sh.accepted;
+      refused = sh.refused;
+      built = ap₂ (λ a b. a + b) sh.built (sym built_is);
+      area = ap₂ (λ a b. a + b) sh.area (sym area_is);
+      well_formed = settled_sound s.tree sh.well_formed;
+    }
+
+    -- a paint of the engine is one of the machine
+    pub paint_advances : (made looks : Counter) → made.now ≡ made.was + note.built → looks.now ≤ looks.was + engine.most_looks x.engine
+        → Advances Paints made looks s (paint_line note.number note.built note.kept note.area) after
+    paint_advances made looks m l =
+        let b = built_is in
+        let k = same_looks in (
+          painted_state s (unordered now.kept.entries),
+          paints,
+          shows,
+          record { items = omega (arith, m, b); taken = omega (arith, l, k) },
+        )

@@ -1,25 +1,30 @@
--- What a script's tree is: well formed, on the script's canvas.
-use Rattle.std.proofs.Common.{◌≡◌, ℕ, refl, ap, ◌∙◌, sym, subst, None, List, [], ◌∷◌, length, inl, inr}
+-- What a script's tree is: well formed, on the script's canvas, with each box touched; and what answers its commands.
+use Rattle.std.proofs.Common.{◌≡◌, ◌⊎◌, ℕ, ◌+◌, ◌≤◌, Bool, false, refl, ap, ◌∙◌, sym, subst, Option, None, List, [], ◌∷◌, inl, inr, arith}
+use Rattle.std.specs.Prelude.{Result, Err, IsErrOf}
+use Rattle.rd_geom.specs.Canvas.{IsCanvas}
 use Rattle.rd_tree.specs.Document.{Document}
 use Rattle.rd_tree.specs.Changes.{insertion}
-use Rattle.rd_scene.specs.declared.script.SceneBox.{SceneBox}
-use Rattle.std.specs.Io.KnownBytes.{Appends}
-use Rattle.rd_io.specs.Causes.{GainsPart}
-use Rattle.rd_geom.specs.Canvas.{IsCanvas}
-use Rattle.rd_list.specs.Entries.{flat}
+use Rattle.rd_engine.specs.Painted.{IsAllTouched}
+use Rattle.rd_engine.proofs.Nothing.{every_touched}
+use Rattle.rd_gen.specs.Generated.{generated_script}
+use Rattle.rd_report.specs.Summaries.{summary_lines}
 use Rattle.rd_scene.specs.declared.script.Command.{Command}
+use Rattle.rd_scene.specs.declared.script.SceneBox.{SceneBox}
 use Rattle.rd_scene.specs.Scripts.{Script}
 use Rattle.rd_scene.specs.Planting.{Plants, Grows, Adds, AddsAll, item_of}
 use Rattle.rd_scene.proofs.Keyed.{planted_well}
 use Rattle.rd_scene.proofs.Changing.{edited_canvas}
-use Rattle.rd_run.specs.Machine.{start, Run, IsAllowedText}
-use Rattle.rd_run.specs.Internal.Display.{Shows, IsFirst, stamped}
-use Rattle.std.specs.Prelude.{Result, Err, IsErrOf, ◌⊎◌}
-use Rattle.rd_run.specs.Endings.{Stream, HasFailed, IsFaultless}
-use Rattle.rd_run.specs.Internal.Answered.{AnswersAll, AnswersPart, AnswersAs}
+use Rattle.rd_scene.proofs.Touched.{planted_touched}
+use Rattle.rd_run.specs.Endings.{Stream, Counter, stream, counter, HasFailed, IsFaultless, IsScriptAnswer, IsScriptPicture, IsStormSummary, totals_of}
+use Rattle.rd_run.specs.Machine.{State, Counts, start, Run, PaintsIf, Finishes}
+use Rattle.rd_run.specs.Pictures.{picture}
+use Rattle.rd_run.specs.Internal.Answered.{AnswersAll, AnswersPart, AnswersAs, AnsweredAll, AnsweredPart, Performs, MayPerform, Finished, MayFinish, Writes}
+use Rattle.rd_run.specs.Internal.Lasts.{IsWellFormed}
+use Rattle.rd_run.specs.Internal.Session.{SessionState, Shows, Does, MayGoOn}
 use Rattle.rd_run.specs.declared.status.Status.{Status}
-use Rattle.rd_run.specs.declared.status.Status.TheVariants.{WriteFault, NoMemory}
-use Rattle.rd_run.specs.declared.display.Display.{Display}
+use Rattle.rd_run.specs.declared.status.Status.TheVariants.{Done, Usage, NotJson, Form, ReadFault, WriteFault, NoMemory, TooLarge}
+use Rattle.rd_run.proofs.Going.{paints_if_goes}
+use Rattle.rd_run.proofs.Runs.{gains_none, stays, counted_on, within_on, within_more}
 
 added_canvas : (b : SceneBox) (old new : Document) → Adds b old new → new.canvas ≡ old.canvas
 added_canvas b old new a = ap (λ (t : Document). t.canvas) a.new_is ∙ edited_canvas (insertion a.parent None a.key (item_of b)) old
@@ -36,33 +41,173 @@ grown-canvas (b ∷ bs) root t h = all_added-canvas bs root t h.1
 pub planted-canvas : (s : Script) (t : Document) → Plants s t → t.canvas ≡ s.canvas
 planted-canvas s t h = grown-canvas s.boxes (h.0) t h.2 ∙ h.1
 
--- what is displayed at first is the machine's first state
-pub shows_start : (s : Script) (t : Document) (d : Display) → Plants s t → IsCanvas s.canvas → IsFirst d → Shows t d (start t)
-shows_start s t d p h e = record {
-  tree = refl;
-  pending = sym e.pending;
-  paints = sym e.paints;
-  kept = ap (stamped d.paints) (sym e.list);
-  counted = e.leaves ∙ ap (λ x. length (flat x)) (sym e.list);
-  well_formed = record { boxes = planted_well s t p; canvas = rw (planted-canvas s t p) h };
-}
+pub planted_well_formed : (s : Script) (t : Document) → Plants s t → IsCanvas s.canvas → IsWellFormed t
+planted_well_formed s t p h = record { boxes = planted_well s t p; canvas = subst IsCanvas (sym (planted-canvas s t p)) h }
 
--- an answer to all commands of a script is an allowed text
-pub allowed : (s : Script) (t : Document) (cs : List Command) (out : Stream) → Plants s t → cs ≡ s.commands → AnswersAll (start t) cs out
-    → (text : List ℕ) × IsAllowedText s text × Appends out.bytes out.bytes_now text
-allowed s t cs out p e a = (a.1, (t, a.0, p, subst (λ (c : List Command). Run (start t) c (a.1) (a.0)) e a.2), a.3)
+pub planted_all : (s : Script) (t : Document) → Plants s t → IsAllTouched t
+planted_all s t p = every_touched t.boxes (planted_touched s t p)
 
-pub allowed_part : (s : Script) (t : Document) (cs : List Command) (out : Stream) → Plants s t → cs ≡ s.commands → AnswersPart (start t) cs out
-    → (text : List ℕ) × IsAllowedText s text × GainsPart out.bytes out.bytes_now text
-allowed_part s t cs out p e a = (a.1, (t, a.0, p, subst (λ (c : List Command). Run (start t) c (a.1) (a.0)) e a.2), a.3)
+-- ---- answers
 
--- how a script that was not answered whole ends
-pub ends_early : (untouched : Type 0) (script : Script) (out : Stream) (r : Result (Unit {0}) Status) (s : Status) → r ≡ Err s
-    → (IsErrOf r WriteFault ⊎ IsErrOf r NoMemory) → ((text : List ℕ) × IsAllowedText script text × GainsPart out.bytes out.bytes_now text)
-    → (IsErrOf r WriteFault → HasFailed out) → (IsErrOf r NoMemory → IsFaultless out) → AnswersAs untouched script out s
-ends_early untouched script out r s e (inl w) a fault still =
-    let is : WriteFault ≡ s = (let p : Err WriteFault ≡ Err s = sym w ∙ e in cc) in
-    subst (AnswersAs untouched script out) is (fault w, a)
-ends_early untouched script out r s e (inr w) a fault still =
-    let is : NoMemory ≡ s = (let p : Err NoMemory ≡ Err s = sym w ∙ e in cc) in
-    subst (AnswersAs untouched script out) is (inr (still w, a))
+module _ (untouched : Type 0) (s : Script) (t : Document) (cs : List Command) (out : Stream) (m n l k : ℕ) where
+  -- an answer to all commands of a script is an answer to the script
+  pub answered_all : Plants s t → cs ≡ s.commands → AnswersAll (counter m n) (counter l k) (start t) cs out
+      → AnsweredAll untouched (IsScriptAnswer s) out (counter m n) (counter l k)
+  answered_all p e a =
+      let c = a.3 in let x = c.items in let y = c.taken in (
+        a.1,
+        (a.0).counts,
+        (a.0, (t, p, subst (λ (c : List Command). Run (start t) c (a.1) (a.0)) e a.2), refl),
+        a.4,
+        omega (arith, x),
+        omega (arith, y),
+      )
+
+  pub answered_part : Plants s t → cs ≡ s.commands → AnswersPart (counter m n) (counter l k) (start t) cs out
+      → AnsweredPart untouched (IsScriptAnswer s) out (counter m n) (counter l k)
+  answered_part p e a =
+      let c = a.3 in let x = c.items in let y = c.taken in (
+        a.1,
+        (a.0).counts,
+        (a.0, (t, p, subst (λ (c : List Command). Run (start t) c (a.1) (a.0)) e a.2), refl),
+        a.4,
+        omega (arith, x),
+        omega (arith, y),
+      )
+
+module _ (untouched : Type 0) (is_answer : List ℕ → Counts → Type 0) (out : Stream) (made looks : Counter) where
+  -- how a script that was not answered whole ends
+  pub ends_early : (r : Result (Unit {0}) Status) (s : Status) → r ≡ Err s
+      → (IsErrOf r WriteFault ⊎ IsErrOf r NoMemory) → AnsweredPart untouched is_answer out made looks
+      → (IsErrOf r WriteFault → HasFailed out) → (IsErrOf r NoMemory → IsFaultless out) → AnswersAs untouched is_answer out made looks s
+  ends_early r s e (inl w) a fault still =
+      let is : WriteFault ≡ s = (let p : Err WriteFault ≡ Err s = sym w ∙ e in cc) in
+      subst (AnswersAs untouched is_answer out made looks) is (fault w, a)
+  ends_early r s e (inr w) a fault still =
+      let is : NoMemory ≡ s = (let p : Err NoMemory ≡ Err s = sym w ∙ e in cc) in
+      subst (AnswersAs untouched is_answer out made looks) is (inr (still w, a))
+
+-- ---- scripts whose commands are done
+
+module _ (script : Script) (t : Document) (cs : List Command) (m n o l k j : ℕ) where
+  commands_of : (a : State) (text : List ℕ) → cs ≡ script.commands → Run (start t) cs text a → Run (start t) script.commands text a
+  commands_of a text e r = subst (λ (c : List Command). Run (start t) c text a) e r
+
+  -- after the last paint
+  pub finished_on : (was now : SessionState) → Plants script t → cs ≡ script.commands → Performs (counter m n) (counter l k) (start t) cs was
+      → ((s : State) → Shows was s → Does (PaintsIf was.engine.pending) (counter n o) (counter k j) s now)
+      → now.engine.pending ≡ false → Finished (counter m o) (counter l j) script now
+  finished_on was now p e a f done =
+      let d = f (a.0) a.4 in
+      let c = counted_on (start t) (a.0) (d.1.0) m n o l k j a.3 d.1.3 in
+      let x = c.items in let y = c.taken in (
+        d.1.0,
+        (
+          a.1,
+          d.0,
+          a.0,
+          (t, p, commands_of (a.0) (a.1) e a.2),
+          subst (λ (b : Bool). PaintsIf b (a.0) (d.0) (d.1.0)) (sym a.4.pending) d.1.1,
+        ),
+        record { items = x; taken = y },
+        d.1.2,
+        done,
+      )
+
+  -- where the last paint gave up
+  pub may_finish_on : (was : SessionState) → Plants script t → cs ≡ script.commands → Performs (counter m n) (counter l k) (start t) cs was
+      → ((s : State) → Shows was s → MayGoOn (PaintsIf was.engine.pending) (counter n o) (counter k j) s)
+      → MayFinish (counter m o) (counter l j) script
+  may_finish_on was p e a f =
+      let d = f (a.0) a.4 in
+      let c = within_on (start t) (a.0) (d.1) m n o l k j a.3 d.4 in
+      let x = c.items in let y = c.taken in (
+        d.1,
+        (
+          a.1,
+          d.0,
+          a.0,
+          (t, p, commands_of (a.0) (a.1) e a.2),
+          subst (λ (b : Bool). PaintsIf b (a.0) (d.0) (d.1)) (sym a.4.pending) d.2,
+        ),
+        record { items = x; taken = y },
+        d.3,
+      )
+
+  -- where a command gave up
+  pub may_finish : Plants script t → cs ≡ script.commands → MayPerform (counter m n) (counter l k) (start t) cs
+      → MayFinish (counter m n) (counter l k) script
+  may_finish p e a =
+      let d = paints_if_goes (a.0).pending (a.0) a.4 in
+      let c = within_more (start t) (a.0) m n l k (d.0) a.3 d.4 in
+      let x = c.items in let y = c.taken in (
+        d.0,
+        (a.1, d.1, a.0, (t, p, commands_of (a.0) (a.1) e a.2), d.2),
+        record { items = x; taken = y },
+        d.3,
+      )
+
+-- ---- what is written at the end
+
+module _ (untouched : Type 0) (is_answer : List ℕ → Counts → Type 0) (m n l k : ℕ) where
+  pub ends_written : (o q : Option (List ℕ)) (f f' : ℕ) (text : List ℕ) (counts : Counts) (s : Status) → is_answer text counts
+      → n ≡ m + counts.built → k ≤ l + counts.looks → Writes (stream o q f f') text s
+      → AnswersAs untouched is_answer (stream o q f f') (counter m n) (counter l k) s
+  ends_written o q f f' text counts Done a x y w = (w.0, (text, counts, a, w.1, x, y))
+  ends_written o q f f' text counts WriteFault a x y w = (w.0, (text, counts, a, w.1, omega (arith, x), y))
+  ends_written o q f f' text counts NoMemory a x y w = absurd w
+  ends_written o q f f' text counts Usage a x y w = absurd w
+  ends_written o q f f' text counts NotJson a x y w = absurd w
+  ends_written o q f f' text counts (Form p v) a x y w = absurd w
+  ends_written o q f f' text counts ReadFault a x y w = absurd w
+  ends_written o q f f' text counts TooLarge a x y w = absurd w
+
+module _ (untouched : Type 0) (m n l k : ℕ) where
+  -- without memory, where the commands could be done
+  pub picture_unwritten : (script : Script) (o : Option (List ℕ)) (f : ℕ) → MayFinish (counter m n) (counter l k) script
+      → AnswersAs untouched (IsScriptPicture script) (stream o o f f) (counter m n) (counter l k) NoMemory
+  picture_unwritten script o f a =
+      let c = a.2 in let x = c.items in let y = c.taken in
+      inr (refl, (picture (a.0).tree, (a.0).counts, (a.0, a.1, refl, refl), gains_none o o [] (picture (a.0).tree) (stays o), omega (arith, x), omega (arith, y)))
+
+  pub storm_unwritten : (seed boxes edits : ℕ) (script : Script) (o : Option (List ℕ)) (f : ℕ) → script ≡ generated_script seed boxes edits
+      → MayFinish (counter m n) (counter l k) script
+      → AnswersAs untouched (IsStormSummary seed boxes edits) (stream o o f f) (counter m n) (counter l k) NoMemory
+  storm_unwritten seed boxes edits script o f e a =
+      let c = a.2 in let x = c.items in let y = c.taken in
+      let text : List ℕ = summary_lines (totals_of seed boxes edits (a.0)) in
+      inr (
+        refl,
+        (
+          text,
+          (a.0).counts,
+          (a.0, subst (λ (s : Script). Finishes s (a.0)) e a.1, refl, refl),
+          gains_none o o [] text (stays o),
+          omega (arith, x),
+          omega (arith, y),
+        ),
+      )
+
+-- what was done could be done
+pub finished_may : (script : Script) (now : SessionState) (m n l k : ℕ) → Finished (counter m n) (counter l k) script now → MayFinish (counter m n) (counter l k) script
+finished_may script now m n l k a =
+    let c = a.2 in let x = c.items in let y = c.taken in
+    (a.0, a.1, record { items = omega (arith, x); taken = y }, a.3.well_formed)
+
+module _ (untouched : Type 0) (m n l k : ℕ) (o q : Option (List ℕ)) (f f' : ℕ) where
+  pub picture_written : (script : Script) (now : SessionState) (bytes : List ℕ) (s : Status) → Finished (counter m n) (counter l k) script now
+      → bytes ≡ picture now.engine.tree → Writes (stream o q f f') bytes s
+      → AnswersAs untouched (IsScriptPicture script) (stream o q f f') (counter m n) (counter l k) s
+  picture_written script now bytes s a e w =
+      let c = a.2 in let x = c.items in let y = c.taken in
+      ends_written untouched (IsScriptPicture script) m n l k o q f f' bytes (a.0).counts s
+      (a.0, a.1, e ∙ ap picture (sym a.3.tree), refl) (omega (arith, x)) (omega (arith, y)) w
+
+  pub storm_written : (seed boxes edits : ℕ) (script : Script) (now : SessionState) (text : List ℕ) (s : Status) → script ≡ generated_script seed boxes edits
+      → Finished (counter m n) (counter l k) script now
+      → ((t : State) → Shows now t → text ≡ summary_lines (totals_of seed boxes edits t)) → Writes (stream o q f f') text s
+      → AnswersAs untouched (IsStormSummary seed boxes edits) (stream o q f f') (counter m n) (counter l k) s
+  storm_written seed boxes edits script now text s e a told w =
+      let c = a.2 in let x = c.items in let y = c.taken in
+      ends_written untouched (IsStormSummary seed boxes edits) m n l k o q f f' text (a.0).counts s
+      (a.0, subst (λ (s : Script). Finishes s (a.0)) e a.1, told (a.0) a.3, refl) (omega (arith, x)) (omega (arith, y)) w

@@ -14,13 +14,14 @@ use Rattle.rd_edits.specs.declared.fault.EditFault.{EditFault}
 use Rattle.rd_edits.specs.Refusals.{refusal_of}
 use Rattle.rd_scene.specs.declared.script.SceneBox.{SceneBox}
 use Rattle.rd_scene.specs.declared.script.Command.{Command}
-use Rattle.rd_scene.specs.declared.script.Command.TheVariants.{Change, Paint, Dump}
+use Rattle.rd_scene.specs.declared.script.Command.TheVariants.{Change, Paint, Hit, Pixel, Dump, Shot}
 use Rattle.rd_scene.specs.Scripts.{Script}
 use Rattle.rd_scene.specs.Planting.{IsAlone, Adds, AddsAll, Grows, Plants, item_of}
 use Rattle.rd_scene.proofs.Changing.{each_well}
 use Rattle.rd_scene.proofs.Keyed.{alone_well, added_well}
 use Rattle.rd_scene.proofs.Plants.{parent_there}
-use Rattle.rd_run.specs.Machine.{State, start, settled_tree, Paints, PaintsIf, Edits, Step, Run}
+use Rattle.rd_engine.specs.Painted.{untouched}
+use Rattle.rd_run.specs.Machine.{State, start, Paints, PaintsIf, Asks, Edits, Step, Run, hit_answer, pixel_answer, dump_answer, shot_answer}
 use Rattle.rd_run.specs.Slots.{HasNoRetiredSlot, SlotsLaw}
 use Rattle.rd_run.proofs.Counted.{IsCounted, IsYoung, young_taken, counted_later, change_counted, edit_counted}
 
@@ -57,7 +58,7 @@ planted_counted s t m l most h = by s.boxes l h.2
 -- ---- run
 
 -- to take the marks away changes neither
-settled_counted : (n : ℕ) (t : Document) → IsCounted n t → IsCounted n (settled_tree t)
+settled_counted : (n : ℕ) (t : Document) → IsCounted n t → IsCounted n (untouched t)
 settled_counted n t s = record {
   well = each_well (λ k. true) settled t s.well;
   same = s.same ∙ sym (size-each (λ k. true) settled t.boxes);
@@ -68,6 +69,14 @@ paint_counted : (n : ℕ) (old : State) (text : List ℕ) (new : State) → Pain
 paint_counted n old text new h s =
     subst (λ (x : State). IsCounted n x.tree) (sym h.settled) (settled_counted n old.tree s)
 
+asked_counted : (n : ℕ) (answer : State → List ℕ) (old : State) (text : List ℕ) (new : State) → Asks answer old text new
+    → IsCounted n old.tree → IsCounted (n + 1) new.tree
+asked_counted n answer old text new h s = counted_later n (n + 1) new.tree (omega arith) (by old.pending h.1)
+  where
+    by : (b : Bool) → PaintsIf b old (h.0) new → IsCounted n new.tree
+    by true g = paint_counted n old (h.0) new g s
+    by false g = subst (λ (x : State). IsCounted n x.tree) (sym g.1) s
+
 step_counted : (n : ℕ) (c : Command) (old : State) (text : List ℕ) (new : State) → n < 4294967295 → Step c old text new
     → IsCounted n old.tree → IsCounted (n + 1) new.tree
 step_counted n (Change e) old text new l h s = by (refusal_of old.tree e) refl h
@@ -76,11 +85,10 @@ step_counted n (Change e) old text new l h s = by (refusal_of old.tree e) refl h
     by (Some f) r g = subst (λ (x : State). IsCounted (n + 1) x.tree) (sym g.1) (counted_later n (n + 1) old.tree (omega arith) s)
     by None r g = subst (λ (x : State). IsCounted (n + 1) x.tree) (sym g.1.2) (edit_counted n e old.tree (g.1.0) l r g.1.1 s)
 step_counted n Paint old text new l h s = counted_later n (n + 1) new.tree (omega arith) (paint_counted n old text new h s)
-step_counted n Dump old text new l h s = counted_later n (n + 1) new.tree (omega arith) (by old.pending h.1)
-  where
-    by : (b : Bool) → PaintsIf b old (h.0) new → IsCounted n new.tree
-    by true g = paint_counted n old (h.0) new g s
-    by false g = subst (λ (x : State). IsCounted n x.tree) (sym g.1) s
+step_counted n (Hit x y) old text new l h s = asked_counted n (hit_answer x y) old text new h s
+step_counted n (Pixel x y) old text new l h s = asked_counted n (pixel_answer x y) old text new h s
+step_counted n Dump old text new l h s = asked_counted n dump_answer old text new h s
+step_counted n Shot old text new l h s = asked_counted n shot_answer old text new h s
 
 run_counted : (cs : List Command) (n m : ℕ) (old : State) (text : List ℕ) (new : State) → n + length cs ≤ m → m ≤ 4294967295 → Run old cs text new
     → IsCounted n old.tree → IsCounted m new.tree

@@ -1,32 +1,62 @@
 -- How a run may end, why, and what it has then written. All of it is this project's own choice.
-use Rattle.std.specs.Prelude.{◌≡◌, ℕ, ◌+◌, ◌≤◌, List, [], codes, length, Option, Some, None, ◌⊎◌}
+use Rattle.std.specs.Prelude.{◌≡◌, ℕ, ◌+◌, ◌≤◌, List, [], ◌++◌, codes, decimal, length, Option, Some, None, ◌⊎◌}
 use Rattle.std.specs.Io.KnownBytes.{Appends, Consumes, IsAtEnd}
+use Rattle.sha2.specs.Sha256.{sha256}
 use Rattle.rd_io.specs.Causes.{GainsPart, Takes, one_more}
 use Rattle.rd_scene.specs.Scripts.{Script}
 use Rattle.rd_scene.specs.Reading.{IsScriptText, IsOffForm, HasNoReading}
-use Rattle.rd_run.specs.Machine.{IsAllowedText}
-use Rattle.rd_run.specs.Words.{WordsForm, replay}
+use Rattle.rd_scene.specs.declared.fault.Place.{Place}
+use Rattle.rd_scene.specs.declared.fault.Place.TheVariants as place
+use Rattle.rd_scene.specs.declared.fault.Why.{Why}
+use Rattle.rd_scene.specs.declared.fault.Why.TheVariants as why
+use Rattle.rd_gen.specs.Generated.{generated_script}
+use Rattle.rd_report.specs.Summaries.{summary_lines}
+use Rattle.rd_report.specs.declared.summary.Totals.{Totals}
+use Rattle.rd_run.specs.Machine.{State, Counts, Answers, Finishes}
+use Rattle.rd_run.specs.Pictures.{picture}
 use Rattle.rd_run.specs.declared.input.TheConstants.{MOST_BYTES}
 use Rattle.rd_run.specs.declared.status.Status.{Status}
 use Rattle.rd_run.specs.declared.status.Status.TheVariants.{Done, Usage, NotJson, Form, ReadFault, WriteFault, NoMemory, TooLarge}
+use Rattle.rd_run.specs.declared.words.WordsForm.{WordsForm}
+use Rattle.rd_run.specs.declared.words.WordsForm.TheVariants.{Replay, Render, Storm}
 
 -- the exit status
 abbrev pub number : Status → ℕ
 number Done = 0
 number Usage = 1
 number NotJson = 2
-number Form = 3
+number (Form p w) = 3
 number ReadFault = 4
 number WriteFault = 5
 number NoMemory = 6
 number TooLarge = 7
+
+-- where a rule of the format is broken
+abbrev pub place_text : Place → List ℕ
+place_text place.Top = codes "top"
+place_text place.Canvas = codes "canvas"
+place_text (place.Box n) = codes "box " ++ decimal n
+place_text (place.Command n) = codes "command " ++ decimal n
+
+-- which rule is broken
+abbrev pub why_text : Why → List ℕ
+why_text why.Missing = codes "Missing"
+why_text why.Unknown = codes "Unknown"
+why_text why.Kind = codes "Kind"
+why_text why.Range = codes "Range"
+why_text why.Color = codes "Color"
+why_text why.Duplicate = codes "Duplicate"
+why_text why.Parent = codes "Parent"
+why_text why.Depth = codes "Depth"
+why_text why.Count = codes "Count"
+why_text why.Command = codes "Command"
 
 -- the line on standard error
 abbrev pub line_of : Status → List ℕ
 line_of Done = []
 line_of Usage = codes "usage: rd_cli replay | rd_cli render | rd_cli storm --seed N --boxes N --edits N\n"
 line_of NotJson = codes "not json\n"
-line_of Form = codes "form\n"
+line_of (Form p w) = codes "form: " ++ (place_text p ++ (codes ": " ++ (why_text w ++ codes "\n")))
 line_of ReadFault = codes "read fault\n"
 line_of WriteFault = codes "write fault\n"
 line_of NoMemory = codes "out of memory\n"
@@ -44,6 +74,14 @@ abbrev pub stream : Option (List ℕ) → Option (List ℕ) → ℕ → ℕ → 
 stream bytes bytes_now faults faults_now =
     record { bytes = bytes; bytes_now = bytes_now; faults = faults; faults_now = faults_now }
 
+-- A counter before and after a run.
+pub record Counter : Type 0 where
+  pub was : ℕ
+  pub now : ℕ
+
+abbrev pub counter : ℕ → ℕ → Counter
+counter was now = record { was = was; now = now }
+
 -- one fault of the stream was counted
 abbrev pub HasFailed : Stream → Type 0
 HasFailed s = s.faults_now ≡ one_more s.faults
@@ -59,26 +97,64 @@ pub record HasRead (source : Stream) (bytes : List ℕ) : Type 0 where
   pub within : length bytes ≤ MOST_BYTES
   pub faultless : IsFaultless source
 
--- these bytes are the input that a form of words takes
-abbrev pub IsInput : WordsForm → Stream → List ℕ → Type 0
-IsInput replay source bytes = HasRead source bytes
+-- What words of a form read: a script, or nothing.
+abbrev pub ReadsInput : WordsForm → Type 0
+ReadsInput Replay = Unit {0}
+ReadsInput Render = Unit {0}
+ReadsInput (Storm seed boxes edits) = ⊥
 
--- the input is one that a form of words can answer
-abbrev pub HasValidInput : WordsForm → List ℕ → Type 0
-HasValidInput replay bytes = (s : Script) × IsScriptText bytes s
+-- these bytes are the input that a form of words takes; 'unread' says that the source is the one of before
+abbrev pub IsInput : Type 0 → WordsForm → Stream → List ℕ → Type 0
+IsInput unread Replay source bytes = HasRead source bytes
+IsInput unread Render source bytes = HasRead source bytes
+IsInput unread (Storm seed boxes edits) source bytes = unread × (bytes ≡ [])
 
--- a text that may answer the input
-abbrev pub IsAllowed : WordsForm → List ℕ → List ℕ → Type 0
-IsAllowed replay bytes text = (s : Script) × IsScriptText bytes s × IsAllowedText s text
+-- what a storm tells of itself at its end
+abbrev pub totals_of : ℕ → ℕ → ℕ → State → Totals
+totals_of seed boxes edits s = record {
+  seed = seed;
+  boxes = boxes;
+  edits = edits;
+  accepted = s.counts.accepted;
+  refused = s.counts.refused;
+  paints = s.paints;
+  built = s.counts.built;
+  area = s.counts.area;
+  digest = sha256 (picture s.tree);
+}
 
--- the sink gained the whole of such a text
-abbrev pub WritesAll : WordsForm → List ℕ → Stream → Type 0
-WritesAll form bytes out = (text : List ℕ) × IsAllowed form bytes text × Appends out.bytes out.bytes_now text
+-- the answers to the commands of a script, and what the machine counts then
+abbrev pub IsScriptAnswer : Script → List ℕ → Counts → Type 0
+IsScriptAnswer s text counts = (end : State) × Answers s text end × (counts ≡ end.counts)
 
--- the sink gained a front of such a text
-abbrev pub WritesPart : WordsForm → List ℕ → Stream → Type 0
-WritesPart form bytes out =
-    (text : List ℕ) × IsAllowed form bytes text × GainsPart out.bytes out.bytes_now text
+-- the picture of what is painted at the end of a script
+abbrev pub IsScriptPicture : Script → List ℕ → Counts → Type 0
+IsScriptPicture s text counts = (end : State) × Finishes s end × (text ≡ picture end.tree) × (counts ≡ end.counts)
+
+-- the summary of a generated script
+abbrev pub IsStormSummary : ℕ → ℕ → ℕ → List ℕ → Counts → Type 0
+IsStormSummary seed boxes edits text counts =
+    (end : State) × Finishes (generated_script seed boxes edits) end
+    × (text ≡ summary_lines (totals_of seed boxes edits end)) × (counts ≡ end.counts)
+
+-- A text that may answer the input of words of a form, and what the machine counts then.
+abbrev pub IsAnswer : WordsForm → List ℕ → List ℕ → Counts → Type 0
+IsAnswer Replay bytes text counts = (s : Script) × IsScriptText bytes s × IsScriptAnswer s text counts
+IsAnswer Render bytes text counts = (s : Script) × IsScriptText bytes s × IsScriptPicture s text counts
+IsAnswer (Storm seed boxes edits) bytes text counts = IsStormSummary seed boxes edits text counts
+
+module _ (out : Stream) (made looks : Counter) where
+  -- The sink gained the whole of such a text; as many items were made as the machine counts, and no more looks taken.
+  abbrev pub WritesAll : WordsForm → List ℕ → Type 0
+  WritesAll form bytes =
+      (text : List ℕ) × (counts : Counts) × IsAnswer form bytes text counts × Appends out.bytes out.bytes_now text
+      × (made.now ≡ made.was + counts.built) × (looks.now ≤ looks.was + counts.looks)
+
+  -- The sink gained a front of such a text; no more items were made, and no more looks taken, than the machine counts.
+  abbrev pub WritesPart : WordsForm → List ℕ → Type 0
+  WritesPart form bytes =
+      (text : List ℕ) × (counts : Counts) × IsAnswer form bytes text counts × GainsPart out.bytes out.bytes_now text
+      × (made.now ≤ made.was + counts.built) × (looks.now ≤ looks.was + counts.looks)
 
 -- Is nothing written with this status?
 abbrev pub WritesNothing : Status → Type 0
@@ -87,35 +163,45 @@ WritesNothing WriteFault = ⊥
 WritesNothing NoMemory = ⊥
 WritesNothing _ = Unit {0}
 
--- How a run of a form of words may end: the status, its cause, and what was written. 'Untouched' says that the sink is
--- the one of before, its count too.
-module _ (untouched : Type 0) (source out : Stream) where
+-- How a run of a form of words may end: the status, its cause, and what was written. 'Unread' says that the source is the
+-- one of before, and 'untouched' that the sink and the two counters are, the sink's count too.
+module _ (unread untouched : Type 0) (source out : Stream) (made looks : Counter) where
   abbrev pub EndsAs : WordsForm → Status → Type 0
   EndsAs form Usage = ⊥
-  EndsAs form ReadFault = untouched × HasFailed source
-  EndsAs form TooLarge = untouched × IsFaultless source × Takes source.bytes source.bytes_now (MOST_BYTES + 1)
-  EndsAs form NotJson = untouched × ((bytes : List ℕ) × IsInput form source bytes × HasNoReading bytes)
-  EndsAs form Form = untouched × ((bytes : List ℕ) × IsInput form source bytes × IsOffForm bytes)
+  EndsAs form ReadFault = ReadsInput form × untouched × HasFailed source
+  EndsAs form TooLarge =
+      ReadsInput form × untouched × IsFaultless source × Takes source.bytes source.bytes_now (MOST_BYTES + 1)
+  EndsAs form NotJson =
+      ReadsInput form × untouched × ((bytes : List ℕ) × IsInput unread form source bytes × HasNoReading bytes)
+  EndsAs form (Form p w) =
+      ReadsInput form × untouched × ((bytes : List ℕ) × IsInput unread form source bytes × IsOffForm bytes p w)
   EndsAs form WriteFault =
-      HasFailed out × ((bytes : List ℕ) × IsInput form source bytes × WritesPart form bytes out)
+      HasFailed out × ((bytes : List ℕ) × IsInput unread form source bytes × WritesPart out made looks form bytes)
   EndsAs form NoMemory =
       IsFaultless source × (untouched ⊎ (IsFaultless out
-      × ((bytes : List ℕ) × IsInput form source bytes × WritesPart form bytes out)))
+      × ((bytes : List ℕ) × IsInput unread form source bytes × WritesPart out made looks form bytes)))
   EndsAs form Done =
-      IsFaultless out × ((bytes : List ℕ) × IsInput form source bytes × WritesAll form bytes out)
+      IsFaultless out × ((bytes : List ℕ) × IsInput unread form source bytes × WritesAll out made looks form bytes)
 
--- How a run may end: words of no form end it before anything is read.
-module _ (unread untouched : Type 0) where
-  abbrev pub Ends : Option WordsForm → Stream → Stream → Status → Type 0
-  Ends None source out Usage = unread × untouched
-  Ends None source out _ = ⊥
-  Ends (Some form) source out s = EndsAs untouched source out form s
+  -- How a run may end: words of no form end it before anything is read.
+  abbrev pub Ends : Option WordsForm → Status → Type 0
+  Ends None Usage = unread × untouched
+  Ends None NoMemory = unread × untouched
+  Ends None _ = ⊥
+  Ends (Some form) s = EndsAs form s
 
--- A valid input within the limit is answered, unless a fault was counted or there was no memory.
+-- The source has an input within the limit, which words of the form can answer.
+abbrev pub HasAnswer : WordsForm → Stream → Type 0
+HasAnswer (Storm seed boxes edits) source = Unit {0}
+HasAnswer form source =
+    (bytes : List ℕ) × (script : Script) × (source.bytes ≡ Some bytes) × (length bytes ≤ MOST_BYTES)
+    × IsScriptText bytes script
+
+-- Such an input is answered, unless a fault was counted or there was no memory.
 abbrev pub Completes : Option WordsForm → Stream → Stream → Status → Type 0
 Completes words source out s =
-    (form : WordsForm) (bytes : List ℕ) → words ≡ Some form → source.bytes ≡ Some bytes → length bytes ≤ MOST_BYTES
-    → HasValidInput form bytes → ¬ HasFailed source → ¬ HasFailed out → (s ≡ Done) ⊎ (s ≡ NoMemory)
+    (form : WordsForm) → words ≡ Some form → HasAnswer form source → ¬ HasFailed source → ¬ HasFailed out
+    → (s ≡ Done) ⊎ (s ≡ NoMemory)
 
 -- The line of the status was written, or a front of it where a fault was counted.
 abbrev pub Tells : Stream → Status → Type 0

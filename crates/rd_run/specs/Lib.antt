@@ -1,7 +1,6 @@
 pub mod Words
-pub mod Names
-pub mod Lines
+pub mod Pictures
 pub mod Machine
-pub mod Slots
 pub mod Endings
+pub mod Slots
 pub mod Internal

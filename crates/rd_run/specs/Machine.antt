@@ -1,86 +1,119 @@
 -- The machine: what the program may answer to the commands of a script. It is this project's own choice.
-use Rattle.std.specs.Prelude.{◌≡◌, ℕ, ◌+◌, Bool, true, false, not, List, [], ◌∷◌, ◌++◌, count_by, Contains, Option, Some, None}
+use Rattle.std.specs.Prelude.{◌≡◌, ℕ, ℤ, ◌+◌, ◌*◌, Bool, true, false, if◌then◌else◌, List, [], ◌∷◌, ◌++◌, length, find, Option, Some, None, option_map}
 use Rattle.std.specs.List.{AllByRecursion}
-use Rattle.rd_geom.specs.Areas.{Region, meets_area, whole_area, count_of}
+use Rattle.std.specs.Option.{option_map_or}
+use Rattle.sha2.specs.Sha256.{sha256}
+use Rattle.rd_geom.specs.Areas.{Region, meets_area, count_of}
+use Rattle.rd_geom.specs.Canvas.{canvas_of}
+use Rattle.rd_geom.specs.Plane.{holds_pixel}
 use Rattle.rd_item.specs.declared.leaf.Leaf.{Leaf}
 use Rattle.rd_item.specs.Items.{Made}
 use Rattle.rd_list.specs.Wrappers.{Wrapper}
-use Rattle.rd_list.specs.Entries.{Entries, nil, leaf, group, flat}
-use Rattle.rd_list.specs.Lists.{StandsFor, same_leaf}
+use Rattle.rd_list.specs.Entries.{Entries, nil, flat}
+use Rattle.rd_list.specs.EntryNames.{new_leaves}
+use Rattle.rd_list.specs.Lists.{StandsFor, same_leaf, meeting, hit}
 use Rattle.rd_tree.specs.Document.{Document}
-use Rattle.rd_tree.specs.Forest.{map_where}
-use Rattle.rd_tree.specs.Touching.{settled}
 use Rattle.rd_edits.specs.declared.edit.Edit.{Edit}
 use Rattle.rd_edits.specs.declared.fault.EditFault.{EditFault}
 use Rattle.rd_edits.specs.Refusals.{refusal_of, number_of}
 use Rattle.rd_edits.specs.Edited.{IsEdited}
 use Rattle.rd_stack.specs.Fresh.{fresh_list}
+use Rattle.rd_partial.specs.Invalid.{is_invalid}
+use Rattle.rd_partial.specs.Looks.{looks_bound, is_visited}
+use Rattle.rd_engine.specs.Invalid.{region_where}
+use Rattle.rd_engine.specs.Painted.{untouched, shown_at}
 use Rattle.rd_scene.specs.Scripts.{Script}
 use Rattle.rd_scene.specs.declared.script.Command.{Command}
-use Rattle.rd_scene.specs.declared.script.Command.TheVariants.{Change, Paint, Dump}
+use Rattle.rd_scene.specs.declared.script.Command.TheVariants.{Change, Paint, Hit, Pixel, Dump, Shot}
 use Rattle.rd_scene.specs.Planting.{Plants}
-use Rattle.rd_run.specs.Lines.{ok_line, refused_line, paint_line, dump_lines}
+use Rattle.rd_report.specs.Answers.{ok_line, refused_line, paint_line, hit_line, pixel_line, shot_line}
+use Rattle.rd_report.specs.Dumps.{dump_lines}
+use Rattle.rd_report.specs.Words.{id_text}
+use Rattle.rd_run.specs.Pictures.{picture}
+
+-- what is counted from the first command on: edits that were done and that were refused, the items that all paints made,
+-- the pixels of their areas, and how often boxes may have been looked at
+pub record Counts : Type 0 where
+  pub accepted : ℕ
+  pub refused : ℕ
+  pub built : ℕ
+  pub area : ℕ
+  pub looks : ℕ
 
 -- what one command hands to the next: the tree, the tree at the last paint, whether the list is pending, how many paints
--- there were, and the kept list
+-- there were, the kept list, and what was counted
 pub record State : Type 0 where
   pub tree : Document
   pub last : Option Document
   pub pending : Bool
   pub paints : ℕ
   pub kept : Entries Wrapper Made
+  pub counts : Counts
+
+abbrev pub no_counts : Counts
+no_counts = record { accepted = 0; refused = 0; built = 0; area = 0; looks = 0 }
 
 -- before the first command
 abbrev pub start : Document → State
-start t = record { tree = t; last = None; pending = true; paints = 0; kept = nil }
+start t = record { tree = t; last = None; pending = true; paints = 0; kept = nil; counts = no_counts }
 
--- a list with a function of each leaf in its place
-abbrev pub mapped : {A B : Type 0} → (A → B) → Entries Wrapper A → Entries Wrapper B
-mapped f nil = nil
-mapped f (leaf l rest) = leaf (f l) (mapped f rest)
-mapped f (group g inner rest) = group g (mapped f inner) (mapped f rest)
+-- Is the pixel to be painted anew? Each one of the canvas is before the first paint; later one is where a touched box has a
+-- leaf, in the list of the last paint or in that of the tree now.
+abbrev pub is_due : Option Document → Document → ℤ → ℤ → Bool
+is_due None t x y = holds_pixel (canvas_of t.canvas) x y
+is_due (Some before) t x y = is_invalid t (fresh_list before) x y
 
--- a kept list without the numbers of the paints
-abbrev pub leaves : Entries Wrapper Made → Entries Wrapper Leaf
-leaves kept = mapped (λ i. i.leaf) kept
-
--- the invalid area: for now every paint paints the whole canvas
+-- the pixels of the canvas that a paint has to paint anew
 abbrev pub invalid_area : State → Region
-invalid_area s = whole_area s.tree.canvas
+invalid_area s = region_where (is_due s.last s.tree) s.tree.canvas
 
--- Does a paint make the item of this leaf anew?
-abbrev pub is_built : State → Leaf → Bool
-is_built s l = meets_area (invalid_area s) l.visible
+-- the leaves of which a paint makes the items anew: those that may be seen in that area
+abbrev pub remade : State → Entries Wrapper Leaf
+remade s = meeting (invalid_area s) (fresh_list s.tree)
 
--- how many items a paint makes
-abbrev pub built : State → ℕ
-built s = count_by (is_built s) (flat (fresh_list s.tree))
+-- the number of the item of a leaf in a kept list
+abbrev pub number_in : Entries Wrapper Made → Leaf → ℕ
+number_in kept l = option_map_or (λ i. i.made_at) (find (λ i. same_leaf i.leaf l) (flat kept)) 0
 
--- and how many it keeps
-abbrev pub kept_on : State → ℕ
-kept_on s = count_by (λ l. not (is_built s l)) (flat (fresh_list s.tree))
+-- An item that is made has the number of the paint, and any other the number that it had.
+abbrev pub IsNumbered : State → Made → Type 0
+IsNumbered old i =
+    i.made_at
+    ≡ (if meets_area (invalid_area old) i.leaf.visible then old.paints + 1 else number_in old.kept i.leaf)
 
--- An item that is made has the number of the paint, and any other the number of the item of the same leaf before.
-pub record IsNumbered (old : State) (i : Made) : Type 0 where
-  pub made : is_built old i.leaf ≡ true → i.made_at ≡ old.paints + 1
-  pub kept : is_built old i.leaf ≡ false
-      → (j : Made) × Contains (flat old.kept) j × (same_leaf j.leaf i.leaf ≡ true) × (i.made_at ≡ j.made_at)
+-- how often a paint may look at boxes: twice for each that is touched, has one below it that is, or is near the area, and
+-- for each of their children
+abbrev pub most_looks : State → ℕ
+most_looks s = 2 * looks_bound (is_visited (invalid_area s)) s.tree.boxes
 
--- the tree with no box touched
-abbrev pub settled_tree : Document → Document
-settled_tree t = record t { boxes = map_where (λ k. true) settled t.boxes }
+-- what is counted after a paint
+abbrev pub painted_counts : State → Counts
+painted_counts s = record s.counts {
+  built = s.counts.built + length (flat (remade s));
+  area = s.counts.area + count_of (invalid_area s);
+  looks = s.counts.looks + most_looks s;
+}
 
 -- the state after a paint that keeps this list
 abbrev pub painted_state : State → Entries Wrapper Made → State
-painted_state old kept =
-    record { tree = settled_tree old.tree; last = Some old.tree; pending = false; paints = old.paints + 1; kept = kept }
+painted_state old kept = record {
+  tree = untouched old.tree;
+  last = Some old.tree;
+  pending = false;
+  paints = old.paints + 1;
+  kept = kept;
+  counts = painted_counts old;
+}
 
 -- A paint leads from old to new with this line. The order within the new list is free where leaves do not meet.
 pub record Paints (old : State) (text : List ℕ) (new : State) : Type 0 where
-  pub stands : StandsFor (leaves new.kept) (fresh_list old.tree)
+  pub stands : StandsFor (new_leaves new.kept) (fresh_list old.tree)
   pub numbers : AllByRecursion (IsNumbered old) (flat new.kept)
   pub settled : new ≡ painted_state old new.kept
-  pub told : text ≡ paint_line (old.paints + 1) (built old) (kept_on old) (count_of (invalid_area old))
+  -- how many items it kept
+  pub others : ℕ
+  pub all : length (flat (remade old)) + others ≡ length (flat (fresh_list old.tree))
+  pub told : text ≡ paint_line (old.paints + 1) (length (flat (remade old))) others (count_of (invalid_area old))
 
 -- a pending list is painted first
 abbrev pub PaintsIf : Bool → State → List ℕ → State → Type 0
@@ -92,21 +125,45 @@ abbrev pub Asks : (State → List ℕ) → State → List ℕ → State → Type
 Asks answer old text new =
     (first : List ℕ) × PaintsIf old.pending old first new × (text ≡ first ++ answer new)
 
+-- the id of the box that is hit in the painting order of the tree
+abbrev pub hit_answer : ℤ → ℤ → State → List ℕ
+hit_answer x y s = hit_line (option_map (λ k. id_text k s.tree.boxes) (hit (fresh_list s.tree) x y))
+
+-- the colour of a pixel of the painting order of the tree, where it is on the canvas
+abbrev pub pixel_answer : ℤ → ℤ → State → List ℕ
+pixel_answer x y s = pixel_line (shown_at s.tree x y)
+
 -- the lines of the kept list
-abbrev pub dumped : State → List ℕ
-dumped s = dump_lines s.tree.boxes s.kept
+abbrev pub dump_answer : State → List ℕ
+dump_answer s = dump_lines s.tree.boxes s.kept
+
+-- the digest of the picture of the painting order of the tree
+abbrev pub shot_answer : State → List ℕ
+shot_answer s = shot_line (sha256 (picture s.tree))
+
+-- one more edit was done, or was refused
+abbrev pub one_done : Counts → Counts
+one_done c = record c { accepted = c.accepted + 1 }
+
+abbrev pub one_refused : Counts → Counts
+one_refused c = record c { refused = c.refused + 1 }
 
 -- An edit that a test refuses changes nothing; any other is done, and the list is pending.
 abbrev pub Edits : Option EditFault → Edit → State → List ℕ → State → Type 0
-Edits (Some f) e old text new = (text ≡ refused_line (number_of f)) × (new ≡ old)
+Edits (Some f) e old text new =
+    (text ≡ refused_line (number_of f)) × (new ≡ record old { counts = one_refused old.counts })
 Edits None e old text new =
-    (text ≡ ok_line) × ((t : Document) × IsEdited e old.tree t × (new ≡ record old { tree = t; pending = true }))
+    (text ≡ ok_line) × ((t : Document) × IsEdited e old.tree t
+    × (new ≡ record old { tree = t; pending = true; counts = one_done old.counts }))
 
 -- From old, the machine may answer a command by this text and go on to new.
 abbrev pub Step : Command → State → List ℕ → State → Type 0
 Step (Change e) old text new = Edits (refusal_of old.tree e) e old text new
 Step Paint old text new = Paints old text new
-Step Dump old text new = Asks dumped old text new
+Step (Hit x y) old text new = Asks (hit_answer x y) old text new
+Step (Pixel x y) old text new = Asks (pixel_answer x y) old text new
+Step Dump old text new = Asks dump_answer old text new
+Step Shot old text new = Asks shot_answer old text new
 
 -- The machine may answer these commands by this text, one after another.
 abbrev pub Run : State → List Command → List ℕ → State → Type 0
@@ -115,6 +172,11 @@ Run old (c ∷ cs) text new =
     (first : List ℕ) × (rest : List ℕ) × (mid : State)
     × Step c old first mid × Run mid cs rest new × (text ≡ first ++ rest)
 
--- A text that may be written for a script: the answers of a run from a tree that the script plants.
-abbrev pub IsAllowedText : Script → List ℕ → Type 0
-IsAllowedText s text = (t : Document) × (new : State) × Plants s t × Run (start t) s.commands text new
+-- The machine may answer the commands of a script by this text, and end in this state, from a tree that the script plants.
+abbrev pub Answers : Script → List ℕ → State → Type 0
+Answers s text new = (t : Document) × Plants s t × Run (start t) s.commands text new
+
+-- The machine may do the commands of a script and end in this state, with a paint if the list is pending then.
+abbrev pub Finishes : Script → State → Type 0
+Finishes s new =
+    (text line : List ℕ) × (mid : State) × Answers s text mid × PaintsIf mid.pending mid line new

@@ -1,15 +1,17 @@
 //! The answers to the commands of a script.
 
-ghost use Rattle.std.specs.Prelude.{◌≡◌, ◌⊎◌, ℕ, ◌+◌, ◌<◌, ◌≤◌, ◌^◌, ◌++◌, List, [], IsErrOf, OnErr, OnOk, string_bytes, length};
+ghost use Rattle.std.specs.Prelude.{◌≡◌, ◌⊎◌, ℕ, ◌+◌, ◌≤◌, ◌^◌, ◌++◌, List, [], length, string_bytes};
+ghost use Rattle.std.specs.Prelude.{IsErrOf, OnErr, OnOk};
 ghost use Rattle.std.specs.Io.KnownBytes.{Appends};
 ghost use Rattle.rd_io.specs.Causes.{GainsPart};
 ghost use Rattle.rd_scene.specs.declared.script.TheConstants.{MAX_COMMANDS};
-ghost use Rattle.rd_run.specs.Endings.{stream, HasFailed};
+ghost use Rattle.rd_run.specs.Endings.{counter, stream, HasFailed, IsScriptAnswer};
 ghost use Rattle.rd_run.specs.Internal.Answered.{AnswersAll, AnswersPart, AnswersAs, Passes};
-ghost use Rattle.rd_run.specs.Internal.Display.{Shows};
+ghost use Rattle.rd_run.specs.Internal.Lasts.{IsWellFormed};
+ghost use Rattle.rd_run.specs.Internal.Session.{Shows, IsFew, AreCounted, AreWithin};
 ghost use Rattle.rd_run.specs.Machine.{State, Step};
 
-use crate::display::Display;
+use crate::session::Session;
 use crate::status::Status;
 use rd_geom::Steps;
 use rd_io::{Sink, write_all};
@@ -41,31 +43,36 @@ fn send<O: Sink>(out: &mut O, gathered: &mut String) -> Result<(), Status>
 }
 
 /// Answers one command, and writes what was gathered once it is much.
-fn answer_one<O: Sink, B: Ledger>(
+fn answer_one<O: Sink, A: Ledger, B: Ledger>(
     alloc: Global,
-    tree: &mut Tree<B>,
-    display: &mut Display,
+    session: &mut Session<A, B>,
     command: &Command,
     gathered: &mut String,
     out: &mut O,
+    made: &mut Steps<A>,
     looks: &mut Steps<B>,
 ) -> Result<(), Status>
-    requires few { display.old.paints < 2 ^ 40 }
-    ensures all { OnOk result ((s : State) → Shows tree.old display.old s → (t : State) × (text : List ℕ)
-        × Step command.now s text t × Shows tree.new display.new t
+    requires few { IsFew session.old (2 ^ 29) }
+    ensures all { OnOk result ((s : State) → Shows session.old s → (t : State) × (text : List ℕ)
+        × Step command.now s text t × Shows session.new t
+        × AreCounted s t (counter made.old made.new) (counter looks.old looks.new)
         × Passes (stream (O.written out.old) (O.written out.new) (O.faults out.old) (O.faults out.new))
         (string_bytes gathered.old) text (string_bytes gathered.new)) }
     ensures faultless { OnOk result (O.faults out.new ≡ O.faults out.old) }
-    ensures part { IsErrOf result Status.WriteFault → (s : State) → Shows tree.old display.old s
-        → (t : State) × (text : List ℕ) × Step command.now s text t × Shows tree.new display.new t
+    ensures part { IsErrOf result Status.WriteFault → (s : State) → Shows session.old s
+        → (t : State) × (text : List ℕ) × Step command.now s text t × IsWellFormed t.tree
+        × AreWithin s t (counter made.old made.new) (counter looks.old looks.new)
         × GainsPart (O.written out.old) (O.written out.new) (string_bytes gathered.old ++ text) }
     ensures fault { IsErrOf result Status.WriteFault → HasFailed
         (stream (O.written out.old) (O.written out.new) (O.faults out.old) (O.faults out.new)) }
     ensures none { IsErrOf result Status.NoMemory → out.new ≡ out.old }
+    ensures on { IsErrOf result Status.NoMemory → (s : State) → Shows session.old s
+        → (t : State) × (text : List ℕ) × Step command.now s text t × IsWellFormed t.tree
+        × AreWithin s t (counter made.old made.new) (counter looks.old looks.new) }
     ensures only { OnErr result (IsErrOf result Status.WriteFault ⊎ IsErrOf result Status.NoMemory) }
-    ensures count { display.new.paints ≤ display.old.paints + 1 }
+    ensures count { (n : ℕ) → IsFew session.old n → IsFew session.new (n + 1) }
 {
-    match display.answer(alloc, tree, command, gathered, looks) {
+    match session.answer(alloc, command, gathered, made, looks) {
         Ok(()) => {}
         Err(_) => return Err(Status::NoMemory),
     }
@@ -77,19 +84,21 @@ fn answer_one<O: Sink, B: Ledger>(
 }
 
 /// Answers the commands in turn.
-fn answer_all<O: Sink, B: Ledger>(
+fn answer_all<O: Sink, A: Ledger, B: Ledger>(
     alloc: Global,
-    tree: &mut Tree<B>,
-    display: &mut Display,
+    session: &mut Session<A, B>,
     commands: &[Command],
     out: &mut O,
+    made: &mut Steps<A>,
     looks: &mut Steps<B>,
 ) -> Result<(), Status>
-    requires none { display.old.paints ≡ 0 }
+    requires none { IsFew session.old 0 }
     requires few { length commands.now ≤ MAX_COMMANDS }
-    ensures all { OnOk result ((s : State) → Shows tree.old display.old s → AnswersAll s commands.now
+    ensures all { OnOk result ((s : State) → Shows session.old s
+        → AnswersAll (counter made.old made.new) (counter looks.old looks.new) s commands.now
         (stream (O.written out.old) (O.written out.new) (O.faults out.old) (O.faults out.new))) }
-    ensures part { OnErr result ((s : State) → Shows tree.old display.old s → AnswersPart s commands.now
+    ensures part { OnErr result ((s : State) → Shows session.old s
+        → AnswersPart (counter made.old made.new) (counter looks.old looks.new) s commands.now
         (stream (O.written out.old) (O.written out.new) (O.faults out.old) (O.faults out.new))) }
     ensures faultless { OnOk result (O.faults out.new ≡ O.faults out.old) }
     ensures still { IsErrOf result Status.NoMemory → O.faults out.new ≡ O.faults out.old }
@@ -99,28 +108,34 @@ fn answer_all<O: Sink, B: Ledger>(
 {
     let mut gathered = String::new(alloc);
     for command in commands {
-        answer_one(alloc, tree, display, command, &mut gathered, out, looks)?;
+        answer_one(alloc, session, command, &mut gathered, out, made, looks)?;
     }
     send(out, &mut gathered)
 }
 
 /// Plants the script's tree and answers its commands.
-pub(crate) fn answer<O: Sink, B: Ledger>(
+pub(crate) fn answer<O: Sink, A: Ledger, B: Ledger>(
     alloc: Global,
     script: &Script,
     out: &mut O,
+    made: &mut Steps<A>,
     looks: &mut Steps<B>,
 ) -> Status
-    ensures { AnswersAs ((out.new ≡ out.old) × (looks.new ≡ looks.old)) script.now
-        (stream (O.written out.old) (O.written out.new) (O.faults out.old) (O.faults out.new)) result }
+    ensures { AnswersAs ((out.new ≡ out.old) × (made.new ≡ made.old) × (looks.new ≡ looks.old))
+        (IsScriptAnswer script.now)
+        (stream (O.written out.old) (O.written out.new) (O.faults out.old) (O.faults out.new))
+        (counter made.old made.new) (counter looks.old looks.new) result }
 {
     let commands = &script.commands;
-    let mut tree: Tree<B> = match plant(alloc, script) {
+    let tree: Tree<B> = match plant(alloc, script) {
         Ok(tree) => tree,
         Err(_) => return Status::NoMemory,
     };
-    let mut display = Display::new(alloc);
-    match answer_all(alloc, &mut tree, &mut display, commands, out, looks) {
+    let mut session = match Session::new(alloc, tree) {
+        Ok(session) => session,
+        Err(_) => return Status::NoMemory,
+    };
+    match answer_all(alloc, &mut session, commands, out, made, looks) {
         Ok(()) => Status::Done,
         Err(status) => status,
     }

@@ -29,7 +29,7 @@ pub(crate) fn input<S: Source>(alloc: Global, source: &mut S) -> Result<Script, 
     match read(alloc, &bytes) {
         Ok(script) => Ok(script),
         Err(SceneFault::NotJson) => Err(Status::NotJson),
-        Err(SceneFault::Form) => Err(Status::Form),
+        Err(SceneFault::Form { place, why }) => Err(Status::Form { place, why }),
         Err(SceneFault::NoMemory) => Err(Status::NoMemory),
     }
 }

@@ -1,23 +1,23 @@
 //! All that the program does, as one call: [`run`] reads what the words ask for, answers it, and says how it ended.
 //! Its contract ties every byte that is written to a run of the machine over the script that the input is.
-//! Below it: words, input, answers, what is displayed between two commands, and the lines that are written.
+//! Below it: words, input, an engine with what it did, answers, pictures and summaries, and the line on standard error.
 #![tactic(auto)]
 
 mod answers;
-mod counts;
-mod display;
-mod dump;
 mod input;
 pub mod laws;
-mod lines;
+mod performing;
 mod program;
+mod session;
 mod status;
-mod texts;
+mod telling;
 mod words;
 
 pub use input::MOST_BYTES;
 pub use program::run;
 pub use status::Status;
+pub use telling::tell;
+pub use words::WordsForm;
 
 #[cfg(test)]
 mod tests;

@@ -1,59 +1,77 @@
 //! The top call.
 
-ghost use Rattle.std.specs.Prelude.{◌≡◌, map, string_bytes};
-ghost use Rattle.rd_run.specs.Endings.{number, stream, Ends, EndsAs, Completes, Tells};
-ghost use Rattle.rd_run.specs.Words.{replay as replay_form, words_form};
+ghost use Rattle.std.specs.Prelude.{◌≡◌, Some, map, string_bytes};
+ghost use Rattle.rd_run.specs.Endings.{number, counter, stream, Ends, EndsAs, Completes, Tells};
+ghost use Rattle.rd_run.specs.Words.{words_form};
+ghost use Rattle.rd_run.specs.Internal.Limits.{IsWithinLimits};
 
 use crate::answers::answer;
 use crate::input::input;
+use crate::performing::{render, storm};
 use crate::status::Status;
-use crate::words::is_replay;
+use crate::telling::tell;
+use crate::words::{WordsForm, read_words};
 use rd_geom::Steps;
-use rd_io::{Sink, Source, write_all};
+use rd_io::{Sink, Source};
 use std::alloc::Global;
 use std::sync::ledger::Ledger;
 
-/// Reads a script to the end of the source and answers it.
-fn replay<S: Source, O: Sink, B: Ledger>(
+/// Does what words of a form ask for.
+fn serve_form<S: Source, O: Sink, A: Ledger, B: Ledger>(
     alloc: Global,
+    form: WordsForm,
     source: &mut S,
     out: &mut O,
+    made: &mut Steps<A>,
     looks: &mut Steps<B>,
 ) -> Status
-    ensures { EndsAs ((out.new ≡ out.old) × (looks.new ≡ looks.old))
+    requires { IsWithinLimits form }
+    ensures { EndsAs (source.new ≡ source.old) ((out.new ≡ out.old) × (made.new ≡ made.old) × (looks.new ≡ looks.old))
         (stream (S.left source.old) (S.left source.new) (S.faults source.old) (S.faults source.new))
-        (stream (O.written out.old) (O.written out.new) (O.faults out.old) (O.faults out.new)) replay_form result }
+        (stream (O.written out.old) (O.written out.new) (O.faults out.old) (O.faults out.new))
+        (counter made.old made.new) (counter looks.old looks.new) form result }
 {
-    match input(alloc, source) {
-        Ok(script) => answer(alloc, &script, out, looks),
-        Err(status) => status,
+    match form {
+        WordsForm::Replay => match input(alloc, source) {
+            Ok(script) => answer(alloc, &script, out, made, looks),
+            Err(status) => status,
+        },
+        WordsForm::Render => match input(alloc, source) {
+            Ok(script) => render(alloc, &script, out, made, looks),
+            Err(status) => status,
+        },
+        WordsForm::Storm { seed, boxes, edits } => {
+            storm(alloc, seed, boxes, edits, out, made, looks)
+        }
     }
 }
 
 /// Does what the words ask for.
-fn serve<S: Source, O: Sink, B: Ledger>(
+fn serve<S: Source, O: Sink, A: Ledger, B: Ledger>(
     alloc: Global,
     words: &[String],
     source: &mut S,
     out: &mut O,
+    made: &mut Steps<A>,
     looks: &mut Steps<B>,
 ) -> Status
-    ensures { Ends (source.new ≡ source.old) ((out.new ≡ out.old) × (looks.new ≡ looks.old))
-        (words_form (map string_bytes words.now))
+    ensures { Ends (source.new ≡ source.old) ((out.new ≡ out.old) × (made.new ≡ made.old) × (looks.new ≡ looks.old))
         (stream (S.left source.old) (S.left source.new) (S.faults source.old) (S.faults source.new))
-        (stream (O.written out.old) (O.written out.new) (O.faults out.old) (O.faults out.new)) result }
+        (stream (O.written out.old) (O.written out.new) (O.faults out.old) (O.faults out.new))
+        (counter made.old made.new) (counter looks.old looks.new) (words_form (map string_bytes words.now)) result }
 {
-    if is_replay(words) {
-        replay(alloc, source, out, looks)
-    } else {
-        Status::Usage
+    match read_words(alloc, words) {
+        Ok(Some(form)) => serve_form(alloc, form, source, out, made, looks),
+        Ok(None) => Status::Usage,
+        Err(_) => Status::NoMemory,
     }
 }
 
 /// Does all that the program does, and gives its exit status. The words are those after the program's name. Under the
-/// word `replay` it reads a script from `source` and writes to `out` the lines that answer its commands; the line that
-/// goes with another status than 0 goes to `err`. `made` counts the items that are made, which none is yet, and `looks`
-/// the looks at boxes.
+/// word `replay` it reads a script from `source` and writes to `out` the lines that answer its commands; under `render`
+/// it reads one, does its commands, and writes the picture of what is painted at its end (Netpbm P6); under `storm` it
+/// does the commands of a generated script, and writes a summary of four lines. The line that goes with another status
+/// than 0 goes to `err`. `made` counts the items that paints make, and `looks` the looks at boxes.
 pub fn run<S: Source, O: Sink, E: Sink, A: Ledger, B: Ledger>(
     alloc: Global,
     words: &[String],
@@ -63,12 +81,12 @@ pub fn run<S: Source, O: Sink, E: Sink, A: Ledger, B: Ledger>(
     made: &mut Steps<A>,
     looks: &mut Steps<B>,
 ) -> u8
-    // With which status it ends, why, and what is written then: all of an allowed text, a front of one, or nothing.
+    // With which status it ends, why, and what is written and counted: all of an answer, a front of one, or nothing.
     ensures ends { (s : Status) × (result ≡ number s)
-        × Ends (source.new ≡ source.old) ((out.new ≡ out.old) × (looks.new ≡ looks.old))
-        (words_form (map string_bytes words.now))
+        × Ends (source.new ≡ source.old) ((out.new ≡ out.old) × (made.new ≡ made.old) × (looks.new ≡ looks.old))
         (stream (S.left source.old) (S.left source.new) (S.faults source.old) (S.faults source.new))
-        (stream (O.written out.old) (O.written out.new) (O.faults out.old) (O.faults out.new)) s }
+        (stream (O.written out.old) (O.written out.new) (O.faults out.old) (O.faults out.new))
+        (counter made.old made.new) (counter looks.old looks.new) (words_form (map string_bytes words.now)) s }
 
     // A script is answered, unless memory or a stream fails.
     ensures complete { (s : Status) × (result ≡ number s) × Completes (words_form (map string_bytes words.now))
@@ -78,14 +96,8 @@ pub fn run<S: Source, O: Sink, E: Sink, A: Ledger, B: Ledger>(
     // The line on standard error.
     ensures line { (s : Status) × (result ≡ number s)
         × Tells (stream (E.written err.old) (E.written err.new) (E.faults err.old) (E.faults err.new)) s }
-
-    // No item is counted yet.
-    ensures made { made.new ≡ made.old }
 {
-    let status = serve(alloc, words, source, out, looks);
-    match write_all(err, status.line().as_bytes()) {
-        Ok(()) => {}
-        Err(_) => {}
-    }
+    let status = serve(alloc, words, source, out, made, looks);
+    tell(err, status);
     status.number()
 }

@@ -3,6 +3,8 @@
 ghost use Rattle.std.specs.Prelude.{◌≡◌};
 ghost use Rattle.rd_run.specs.Endings as ends;
 
+use rd_scene::{Place, Why};
+
 /// The end of a run.
 #[derive(Clone, Copy, Debug, PartialEq, Eq)]
 pub enum Status {
@@ -12,8 +14,8 @@ pub enum Status {
     Usage,
     /// The input is no JSON.
     NotJson,
-    /// The input is JSON, and no script.
-    Form,
+    /// The input is JSON, and no script: the first rule of the format that it breaks, and where.
+    Form { place: Place, why: Why },
     /// The source failed.
     ReadFault,
     /// The sink failed.
@@ -33,29 +35,11 @@ impl Status {
             Status::Done => 0,
             Status::Usage => 1,
             Status::NotJson => 2,
-            Status::Form => 3,
+            Status::Form { .. } => 3,
             Status::ReadFault => 4,
             Status::WriteFault => 5,
             Status::NoMemory => 6,
             Status::TooLarge => 7,
-        }
-    }
-
-    /// The line on standard error, with its newline; nothing where all went well.
-    pub fn line(self) -> &'static str
-        ensures { result.now ≡ ends.line_of self }
-    {
-        match self {
-            Status::Done => "",
-            Status::Usage => {
-                "usage: rd_cli replay | rd_cli render | rd_cli storm --seed N --boxes N --edits N\n"
-            }
-            Status::NotJson => "not json\n",
-            Status::Form => "form\n",
-            Status::ReadFault => "read fault\n",
-            Status::WriteFault => "write fault\n",
-            Status::NoMemory => "out of memory\n",
-            Status::TooLarge => "input too large\n",
         }
     }
 }

@@ -1,23 +1,48 @@
--- What was written of the answers to commands.
-use Rattle.std.specs.Prelude.{◌≡◌, ◌⊎◌, ℕ, ◌+◌, List, ◌++◌}
+-- What was done and written of the commands of a script.
+use Rattle.std.specs.Prelude.{◌≡◌, ◌⊎◌, ℕ, ◌+◌, ◌≤◌, false, List, ◌++◌}
 use Rattle.std.specs.Io.KnownBytes.{Appends}
 use Rattle.rd_io.specs.Causes.{GainsPart, Takes}
+use Rattle.rd_scene.specs.Reading.{IsOffForm, HasNoReading}
 use Rattle.rd_scene.specs.Scripts.{Script}
-use Rattle.rd_scene.specs.Reading.{IsScriptText, IsOffForm, HasNoReading}
 use Rattle.rd_scene.specs.declared.script.Command.{Command}
-use Rattle.rd_run.specs.Machine.{State, Run, IsAllowedText}
-use Rattle.rd_run.specs.Endings.{Stream, HasFailed, IsFaultless, HasRead}
+use Rattle.rd_run.specs.Machine.{State, Counts, no_counts, Run, Finishes}
+use Rattle.rd_run.specs.Endings.{Stream, Counter, HasFailed, IsFaultless, HasRead}
+use Rattle.rd_run.specs.Internal.Session.{SessionState, AreCounted, AreWithin, Shows}
+use Rattle.rd_run.specs.Internal.Lasts.{IsWellFormed}
 use Rattle.rd_run.specs.declared.input.TheConstants.{MOST_BYTES}
 use Rattle.rd_run.specs.declared.status.Status.{Status}
 use Rattle.rd_run.specs.declared.status.Status.TheVariants.{Done, NotJson, Form, ReadFault, WriteFault, NoMemory, TooLarge}
 
--- the whole answer to these commands, from a state on
-abbrev pub AnswersAll : State → List Command → Stream → Type 0
-AnswersAll s cs out = (t : State) × (text : List ℕ) × Run s cs text t × Appends out.bytes out.bytes_now text
+-- a state in which nothing was counted
+abbrev start_of : State → State
+start_of s = record s { counts = no_counts }
 
--- a front of an answer to these commands
-abbrev pub AnswersPart : State → List Command → Stream → Type 0
-AnswersPart s cs out = (t : State) × (text : List ℕ) × Run s cs text t × GainsPart out.bytes out.bytes_now text
+module _ (made looks : Counter) where
+  -- the whole answer to these commands, from a state on
+  abbrev pub AnswersAll : State → List Command → Stream → Type 0
+  AnswersAll s cs out =
+      (t : State) × (text : List ℕ) × Run s cs text t × AreCounted s t made looks × Appends out.bytes out.bytes_now text
+
+  -- a front of an answer to these commands
+  abbrev pub AnswersPart : State → List Command → Stream → Type 0
+  AnswersPart s cs out =
+      (t : State) × (text : List ℕ) × Run s cs text t × AreWithin s t made looks × GainsPart out.bytes out.bytes_now text
+
+  -- these commands are done
+  abbrev pub Performs : State → List Command → SessionState → Type 0
+  Performs s cs now = (t : State) × (text : List ℕ) × Run s cs text t × AreCounted s t made looks × Shows now t
+
+  -- these commands could be done, with counts that are not passed
+  abbrev pub MayPerform : State → List Command → Type 0
+  MayPerform s cs = (t : State) × (text : List ℕ) × Run s cs text t × AreWithin s t made looks × IsWellFormed t.tree
+
+  -- the commands of a script are done, and no paint is pending
+  abbrev pub Finished : Script → SessionState → Type 0
+  Finished s now = (t : State) × Finishes s t × AreCounted (start_of t) t made looks × Shows now t × (now.engine.pending ≡ false)
+
+  -- they could be done, with counts that are not passed
+  abbrev pub MayFinish : Script → Type 0
+  MayFinish s = (t : State) × Finishes s t × AreWithin (start_of t) t made looks × IsWellFormed t.tree
 
 -- Of a gathered text and what was put after it, a front went out and the rest is gathered now.
 pub record Passes (out : Stream) (before text now : List ℕ) : Type 0 where
@@ -25,16 +50,22 @@ pub record Passes (out : Stream) (before text now : List ℕ) : Type 0 where
   pub whole : before ++ text ≡ sent ++ now
   pub gained : Appends out.bytes out.bytes_now sent
 
--- how the commands of a script were answered
-module _ (untouched : Type 0) (script : Script) (out : Stream) where
+-- how the input of words of a form was answered: by a text that is an answer to it
+module _ (untouched : Type 0) (is_answer : List ℕ → Counts → Type 0) (out : Stream) (made looks : Counter) where
+  abbrev pub AnsweredAll : Type 0
+  AnsweredAll =
+      (text : List ℕ) × (counts : Counts) × is_answer text counts × Appends out.bytes out.bytes_now text
+      × (made.now ≡ made.was + counts.built) × (looks.now ≤ looks.was + counts.looks)
+
+  abbrev pub AnsweredPart : Type 0
+  AnsweredPart =
+      (text : List ℕ) × (counts : Counts) × is_answer text counts × GainsPart out.bytes out.bytes_now text
+      × (made.now ≤ made.was + counts.built) × (looks.now ≤ looks.was + counts.looks)
+
   abbrev pub AnswersAs : Status → Type 0
-  AnswersAs Done =
-      IsFaultless out × ((text : List ℕ) × IsAllowedText script text × Appends out.bytes out.bytes_now text)
-  AnswersAs WriteFault =
-      HasFailed out × ((text : List ℕ) × IsAllowedText script text × GainsPart out.bytes out.bytes_now text)
-  AnswersAs NoMemory =
-      untouched ⊎ (IsFaultless out
-      × ((text : List ℕ) × IsAllowedText script text × GainsPart out.bytes out.bytes_now text))
+  AnswersAs Done = IsFaultless out × AnsweredAll
+  AnswersAs WriteFault = HasFailed out × AnsweredPart
+  AnswersAs NoMemory = untouched ⊎ (IsFaultless out × AnsweredPart)
   AnswersAs _ = ⊥
 
 -- why no script was read
@@ -42,6 +73,12 @@ abbrev pub RefusesInput : Stream → Status → Type 0
 RefusesInput source ReadFault = HasFailed source
 RefusesInput source TooLarge = IsFaultless source × Takes source.bytes source.bytes_now (MOST_BYTES + 1)
 RefusesInput source NotJson = (bytes : List ℕ) × HasRead source bytes × HasNoReading bytes
-RefusesInput source Form = (bytes : List ℕ) × HasRead source bytes × IsOffForm bytes
+RefusesInput source (Form p w) = (bytes : List ℕ) × HasRead source bytes × IsOffForm bytes p w
 RefusesInput source NoMemory = IsFaultless source
 RefusesInput source _ = ⊥
+
+-- all of a text was written, or a front of it before a fault
+abbrev pub Writes : Stream → List ℕ → Status → Type 0
+Writes out text Done = IsFaultless out × Appends out.bytes out.bytes_now text
+Writes out text WriteFault = HasFailed out × GainsPart out.bytes out.bytes_now text
+Writes out text _ = ⊥

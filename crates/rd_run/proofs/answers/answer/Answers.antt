@@ -1,22 +1,30 @@
-use Rattle.std.proofs.Common.{◌≡◌, refl, ◌∙◌, ap, sym, subst}
+use Rattle.std.proofs.Common.{refl, ◌∙◌, ap, subst}
 use Rattle.rd_geom.specs.Canvas.{IsCanvas}
-use Rattle.rd_run.specs.Endings.{stream}
+use Rattle.rd_run.specs.Endings.{stream, IsScriptAnswer}
 use Rattle.rd_scene.specs.Scripts.{Script}
-use Rattle.rd_run.proofs.Planted.{shows_start, allowed, allowed_part, ends_early}
+use Rattle.rd_run.proofs.Planted.{planted_well_formed, planted_all, answered_all, answered_part, ends_early}
 use Rattle.rd_run.proofs.answers.answer.Goals as goal
 
+pub new-requires-clause-touched : goal.new-requires-clause-touched
+new-requires-clause-touched g c = planted_all c.args.script.now _ c.in-Ok.ensures.planted
+
+pub new-requires-clause-well_formed : goal.new-requires-clause-well_formed
+new-requires-clause-well_formed g c =
+    let limits : IsCanvas c.args.script.now.canvas = subst (λ (s : Script). IsCanvas s.canvas) c.script.view_is c.script.invariant.canvas in
+    planted_well_formed c.args.script.now _ c.in-Ok.ensures.planted limits
+
 pub returns-in-Ok-answer_all : goal.returns-in-Ok-answer_all
-returns-in-Ok-answer_all g c =
-    let limits : IsCanvas c.args.script.now.canvas = subst (λ (s : Script). IsCanvas s.canvas) c.script.view_is c.script.invariant.canvas in (
-      c.in-Ok-answer_all.ensures.faultless,
-      allowed c.args.script.now c.in-Ok.tree _ (stream _ _ 0 0) c.in-Ok.ensures.planted (c.deref.ensures.value ∙ ap (λ (s : Script). s.commands) c.script.view_is)
-          (c.in-Ok-answer_all.ensures.all _ (shows_start c.args.script.now c.in-Ok.tree _ c.in-Ok.ensures.planted limits c.new-display.ensures)),
-    )
+returns-in-Ok-answer_all g c = (
+  c.in-Ok-answer_all.ensures.faultless,
+  answered_all (Unit {0}) c.args.script.now c.in-Ok.tree _ (stream _ _ 0 0) _ _ _ _ c.in-Ok.ensures.planted
+      (c.deref.ensures.value ∙ ap (λ (s : Script). s.commands) c.script.view_is)
+      (c.in-Ok-answer_all.ensures.all _ c.in-Ok-new.ensures.shows),
+)
 
 pub returns : goal.returns
 returns g c =
-    let limits : IsCanvas c.args.script.now.canvas = subst (λ (s : Script). IsCanvas s.canvas) c.script.view_is c.script.invariant.canvas in
-    ends_early _ c.args.script.now _ _ _ refl c.in-Err-answer_all.ensures.only
-    (allowed_part c.args.script.now c.in-Ok.tree _ (stream _ _ 0 0) c.in-Ok.ensures.planted (c.deref.ensures.value ∙ ap (λ (s : Script). s.commands) c.script.view_is)
-    (c.in-Err-answer_all.ensures.part _ (shows_start c.args.script.now c.in-Ok.tree _ c.in-Ok.ensures.planted limits c.new-display.ensures)))
+    ends_early _ (IsScriptAnswer c.args.script.now) _ _ _ _ _ refl c.in-Err-answer_all.ensures.only
+    (answered_part (Unit {0}) c.args.script.now c.in-Ok.tree _ (stream _ _ 0 0) _ _ _ _ c.in-Ok.ensures.planted
+    (c.deref.ensures.value ∙ ap (λ (s : Script). s.commands) c.script.view_is)
+    (c.in-Err-answer_all.ensures.part _ c.in-Ok-new.ensures.shows))
     c.in-Err-answer_all.ensures.fault c.in-Err-answer_all.ensures.still

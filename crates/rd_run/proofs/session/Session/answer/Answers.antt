@@ -1,0 +1,33 @@
+use Rattle.std.proofs.lemmas.Result.{on_ok_weaker, on_err_weaker}
+use Rattle.rd_run.specs.Machine.{Asks, Step}
+use Rattle.rd_run.specs.Internal.Session.{reply}
+use Rattle.rd_run.proofs.Editing.{all_edit_may, edit_tells}
+use Rattle.rd_run.proofs.Steps.{on_err, may_as, all_paint_may, all_paint_went, tells_as, step_of}
+use Rattle.rd_run.proofs.session.Session.answer.Goals as goal
+
+pub returns-in_err-refused-in-Change-clause-err : goal.returns-in_err-refused-in-Change-clause-err
+returns-in_err-refused-in-Change-clause-err g c =
+    on_err _ (all_edit_may c.args.self.now c.in-Change.edit c.args.command.now c.args.made.now c.args.looks.now c.in-Change.is)
+
+pub returns-in_err-note-in-Paint-clause-err : goal.returns-in_err-note-in-Paint-clause-err
+returns-in_err-note-in-Paint-clause-err g c = on_err _ (all_paint_may c.args.self.now _ _ c.args.command.now c.in-Paint.is c.in_err-note-in-Paint.ensures.err)
+
+pub returns-in_ok-refused-in-Change-clause-ok : goal.returns-in_ok-refused-in-Change-clause-ok
+returns-in_ok-refused-in-Change-clause-ok g c =
+    on_ok_weaker c.push_edit.result (λ w s sh. rw c.in-Change.is (edit_tells c.in-Change.edit s _ _ (c.in_ok-refused-in-Change.ensures.ok s sh) c.args.made.now c.args.looks.now _ _ w))
+    c.push_edit.ensures
+
+pub returns-in_ok-refused-in-Change-clause-err : goal.returns-in_ok-refused-in-Change-clause-err
+returns-in_ok-refused-in-Change-clause-err g c =
+    on_err _ (all_edit_may c.args.self.now c.in-Change.edit c.args.command.now c.args.made.now c.args.looks.now c.in-Change.is)
+
+pub returns-in_ok-note-in-Paint-clause-err : goal.returns-in_ok-note-in-Paint-clause-err
+returns-in_ok-note-in-Paint-clause-err g c = on_err _ (all_paint_went c.args.self.now _ _ c.args.command.now _ _ c.in-Paint.is c.in_ok-note-in-Paint.ensures.ok)
+
+pub returns-in_default : goal.returns-in_default
+returns-in_default g c =
+    record {
+      ok = on_ok_weaker c.ask.result (λ w s sh. tells_as (Asks (reply c.args.command.now)) (Step c.args.command.now) _ _ s _ _ _ (step_of c.args.command.now c.in_default.not-Change c.in_default.not-Paint s) (w s sh)) c.ask.ensures.ok;
+      err = on_err_weaker c.ask.result (λ w s sh. may_as (Asks (reply c.args.command.now)) (Step c.args.command.now) _ _ s (step_of c.args.command.now c.in_default.not-Change c.in_default.not-Paint s) (w s sh)) c.ask.ensures.err;
+      count = c.ask.ensures.count;
+    }

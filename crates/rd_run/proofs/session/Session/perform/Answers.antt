@@ -1,0 +1,38 @@
+use Rattle.std.proofs.lemmas.Result.{err_from_is_err_and}
+use Rattle.rd_run.specs.Machine.{Asks, Step}
+use Rattle.rd_run.specs.Internal.Session.{reply}
+use Rattle.rd_run.proofs.Editing.{all_edit_may, edit_does}
+use Rattle.rd_run.proofs.Steps.{on_err, may_as, advances_as, step_of, asks_may, asks_does}
+use Rattle.rd_run.proofs.session.Session.perform.Goals as goal
+
+pub returns-in_err-_refused-in-Change-clause-err :
+    goal.returns-in_err-_refused-in-Change-clause-err
+returns-in_err-_refused-in-Change-clause-err g c =
+    on_err _ (all_edit_may c.args.self.now c.in-Change.edit c.args.command.now c.args.made.now c.args.looks.now c.in-Change.is)
+
+pub returns-in_err-_note-in_default : goal.returns-in_err-_note-in_default
+returns-in_err-_note-in_default g c =
+    let r = err_from_is_err_and c.from_residual-in_err-_note-in_default.result c.from_residual-in_err-_note-in_default.ensures.1 in
+    record {
+      ok = rw (r.1) tt;
+      err = rw (r.1) (λ s sh. may_as (Asks (reply c.args.command.now)) (Step c.args.command.now) _ _ s (step_of c.args.command.now c.in_default.not-Change c.in_default.not-Paint s)
+          (asks_may s c.args.self.now sh (reply c.args.command.now) _ _ (c.in_err-_note-in_default.ensures.err s sh)));
+      count = c.in_err-_note-in_default.ensures.count;
+    }
+
+pub returns-in_ok-_refused-in-Change-clause-ok : goal.returns-in_ok-_refused-in-Change-clause-ok
+returns-in_ok-_refused-in-Change-clause-ok g c = λ s sh.
+    rw c.in-Change.is (edit_does c.in-Change.edit s _ _ (c.in_ok-_refused-in-Change.ensures.ok s sh) c.args.made.now c.args.looks.now)
+
+pub returns-in_ok-_note-in-Paint-clause-ok : goal.returns-in_ok-_note-in-Paint-clause-ok
+returns-in_ok-_note-in-Paint-clause-ok g c = λ s sh. rw c.in-Paint.is (_, c.in_ok-_note-in-Paint.ensures.ok s sh)
+
+pub returns-in_ok-_note-in_default : goal.returns-in_ok-_note-in_default
+returns-in_ok-_note-in_default g c =
+    record {
+      ok = λ s sh.
+          let d = asks_does s c.args.self.now sh (reply c.args.command.now) _ _ _ _ (c.in_ok-_note-in_default.ensures.ok s sh) in
+          (d.0, advances_as (Asks (reply c.args.command.now)) (Step c.args.command.now) _ _ s (step_of c.args.command.now c.in_default.not-Change c.in_default.not-Paint s) d.0 _ d.1);
+      err = tt;
+      count = c.in_ok-_note-in_default.ensures.count;
+    }

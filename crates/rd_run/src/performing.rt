@@ -1,0 +1,156 @@
+//! The commands of a script without their answers, and what is written at their end.
+
+ghost use Rattle.std.specs.Prelude.{◌≡◌, ◌⊎◌, ◌≤◌, false, length, OnErr, OnOk, IfOk, string_bytes};
+ghost use Rattle.rd_gen.specs.declared.generated.TheConstants.{MAX_EDITS};
+ghost use Rattle.rd_tree.specs.declared.limits.TheConstants.{MAX_BOXES};
+ghost use Rattle.rd_report.specs.Summaries.{summary_lines};
+ghost use Rattle.rd_scene.specs.declared.script.TheConstants.{MAX_COMMANDS};
+ghost use Rattle.rd_run.specs.Endings.{counter, stream, totals_of, IsScriptPicture, IsStormSummary};
+ghost use Rattle.rd_run.specs.Internal.Answered.{AnswersAs, Performs, MayPerform, Finished, MayFinish, Writes};
+ghost use Rattle.rd_run.specs.Internal.Session.{Shows, IsFew};
+ghost use Rattle.rd_run.specs.Machine.{State};
+
+use crate::session::Session;
+use crate::status::Status;
+use rd_geom::{NoMemory, Steps};
+use rd_io::{Sink, write_all};
+use rd_report::{Totals, digest, push_summary};
+use rd_scene::{Command, Script, plant};
+use rd_tree::Tree;
+use std::alloc::Global;
+use std::sync::ledger::Ledger;
+
+/// Does the commands in turn.
+fn perform_all<A: Ledger, B: Ledger>(
+    session: &mut Session<A, B>,
+    commands: &[Command],
+    made: &mut Steps<A>,
+    looks: &mut Steps<B>,
+) -> Result<(), NoMemory>
+    requires none { IsFew session.old 0 }
+    requires few { length commands.now ≤ MAX_COMMANDS }
+    ensures all { OnOk result ((s : State) → Shows session.old s
+        → Performs (counter made.old made.new) (counter looks.old looks.new) s commands.now session.new) }
+    ensures part { OnErr result ((s : State) → Shows session.old s
+        → MayPerform (counter made.old made.new) (counter looks.old looks.new) s commands.now) }
+    ensures count { IsFew session.new MAX_COMMANDS }
+{
+    for command in commands {
+        session.perform(command, made, looks)?;
+    }
+    Ok(())
+}
+
+/// What is left of a script whose commands were done: a session in which no paint is pending.
+/// Without memory nothing may be counted yet.
+fn performed<A: Ledger, B: Ledger>(
+    alloc: Global,
+    script: &Script,
+    made: &mut Steps<A>,
+    looks: &mut Steps<B>,
+) -> Result<Session<A, B>, NoMemory>
+    ensures finished { IfOk result (Finished (counter made.old made.new) (counter looks.old looks.new) script.now) }
+    ensures part { OnErr result (((made.new ≡ made.old) × (looks.new ≡ looks.old))
+        ⊎ MayFinish (counter made.old made.new) (counter looks.old looks.new) script.now) }
+{
+    let commands = &script.commands;
+    let tree: Tree<B> = plant(alloc, script)?;
+    let mut session = Session::new(alloc, tree)?;
+    perform_all(&mut session, commands, made, looks)?;
+    session.finish(made, looks)?;
+    Ok(session)
+}
+
+/// Writes bytes.
+fn write<O: Sink>(out: &mut O, bytes: &[u8]) -> Status
+    ensures { Writes (stream (O.written out.old) (O.written out.new) (O.faults out.old) (O.faults out.new))
+        bytes.now result }
+{
+    match write_all(out, bytes) {
+        Ok(()) => Status::Done,
+        Err(_) => Status::WriteFault,
+    }
+}
+
+/// Does the commands of a script, and writes the picture of what is painted at its end.
+pub(crate) fn render<O: Sink, A: Ledger, B: Ledger>(
+    alloc: Global,
+    script: &Script,
+    out: &mut O,
+    made: &mut Steps<A>,
+    looks: &mut Steps<B>,
+) -> Status
+    ensures { AnswersAs ((out.new ≡ out.old) × (made.new ≡ made.old) × (looks.new ≡ looks.old))
+        (IsScriptPicture script.now)
+        (stream (O.written out.old) (O.written out.new) (O.faults out.old) (O.faults out.new))
+        (counter made.old made.new) (counter looks.old looks.new) result }
+{
+    let session = match performed(alloc, script, made, looks) {
+        Ok(session) => session,
+        Err(_) => return Status::NoMemory,
+    };
+    match session.picture(alloc) {
+        Ok(picture) => write(out, &picture),
+        Err(_) => Status::NoMemory,
+    }
+}
+
+/// The summary of a storm of these numbers.
+fn summary<A: Ledger, B: Ledger>(
+    alloc: Global,
+    session: &Session<A, B>,
+    seed: u64,
+    boxes: u32,
+    edits: u32,
+) -> Result<String, NoMemory>
+    requires { session.now.engine.pending ≡ false }
+    ensures { IfOk result (λ text. (s : State) → Shows session.now s
+        → string_bytes text ≡ summary_lines (totals_of seed boxes edits s)) }
+{
+    let picture = session.picture(alloc)?;
+    let totals = Totals {
+        seed,
+        boxes,
+        edits,
+        accepted: session.accepted,
+        refused: session.refused,
+        paints: session.engine.paints(),
+        built: session.built,
+        area: session.area,
+        digest: digest(&picture),
+    };
+    let mut text = String::new(alloc);
+    push_summary(alloc, &mut text, &totals)?;
+    Ok(text)
+}
+
+/// Does the commands of the generated script of these numbers, and writes a summary.
+pub(crate) fn storm<O: Sink, A: Ledger, B: Ledger>(
+    alloc: Global,
+    seed: u64,
+    boxes: u32,
+    edits: u32,
+    out: &mut O,
+    made: &mut Steps<A>,
+    looks: &mut Steps<B>,
+) -> Status
+    requires some { 1 ≤ boxes }
+    requires most { boxes ≤ MAX_BOXES }
+    requires edits { edits ≤ MAX_EDITS }
+    ensures { AnswersAs ((out.new ≡ out.old) × (made.new ≡ made.old) × (looks.new ≡ looks.old))
+        (IsStormSummary seed boxes edits)
+        (stream (O.written out.old) (O.written out.new) (O.faults out.old) (O.faults out.new))
+        (counter made.old made.new) (counter looks.old looks.new) result }
+{
+    let Ok(script) = rd_gen::script(alloc, seed, boxes, edits) else {
+        return Status::NoMemory;
+    };
+    let session = match performed(alloc, &script, made, looks) {
+        Ok(session) => session,
+        Err(_) => return Status::NoMemory,
+    };
+    match summary(alloc, &session, seed, boxes, edits) {
+        Ok(text) => write(out, text.as_bytes()),
+        Err(_) => Status::NoMemory,
+    }
+}
