@@ -77,7 +77,7 @@ class Module:
 
 def clauses(path):
     """The texts of the clauses of public calls, each with its call and whether it is a law, and the `ghost use` lines of a source file."""
-    source = text_of(path).split('#[cfg(test)]')[0]
+    source = re.sub(r'#\[cfg\(test\)\]\s*mod \w+;', '', text_of(path)).split('#[cfg(test)]')[0]
     uses = [re.sub(r'\s+', ' ', it) for it in re.findall(r'ghost use (Rattle\.[^;]+);', source)]
     found = [(it, '', False) for it in re.findall(r'ghost Value = \{([^}]*)\}', source)]
     outer, name, now, public = '', '', None, False

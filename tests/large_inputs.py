@@ -31,7 +31,7 @@ CASES = {
         "",
         0,
     ),
-    "one_sibling_more": (script(siblings(20_001), []), "", "form\n", 3),
+    "one_sibling_more": (script(siblings(20_001), []), "", "form: top: Count\n", 3),
 }
 
 
