@@ -1,4 +1,4 @@
-use Rattle.std.proofs.Common.{◌≡◌, ℕ, zero, suc, ℤ, pos, negsuc, ◌-ℤ◌, ◌≤ℤ◌, ◌<◌, ◌≤◌, ◌⊎◌, inl, inr, Bool, true, false, ◌&&◌, ◌||◌, IsTrue, IsFalse, List, [], get_or, length, arith, refl, sym, ◌∙◌, ap, subst, ⊎_elim}
+use Rattle.std.proofs.Common.{◌≡◌, ℕ, zero, suc, ℤ, pos, negsuc, ◌-ℤ◌, ◌≤ℤ◌, ◌<◌, ◌≤◌, ◌⊎◌, inl, inr, Bool, true, false, cond, ◌&&◌, ◌||◌, IsTrue, IsFalse, List, [], get_or, length, arith, refl, sym, ◌∙◌, ap, subst, ⊎_elim}
 use Rattle.std.specs.Prelude.{int_lt, if◌then◌else◌}
 use Rattle.std.specs.Int.{int_max, int_min}
 use Rattle.std.proofs.lemmas.Int.{ints, clamps}
@@ -193,6 +193,19 @@ pub apart_shares : (size : Size) (used r : Rectangle) (rows : List (List Span)) 
 apart_shares size used r rows i e s =
     let c : IsTrue (holds_pixel (meet used r) s.x s.y) = shares_in size used r rows i s.x s.y s.first s.second in
     no_pixel_in (meet used r) s.x s.y e c
+
+-- no pixel is in both of two rectangles of which one ends before the other begins
+pub apart_across : (a b : Rectangle) → (right a ≤ℤ b.x) ⊎ (right b ≤ℤ a.x) → has_none (meet a b) ≡ true
+apart_across a b h =
+    let e : int_lt (int_max a.x b.x) (int_min (right a) (right b)) ≡ false = grind (arith, ints) in
+    rw e refl
+
+no_rows_in : (l t r b : ℤ) → int_lt t b ≡ false → has_none (spanning l t r b) ≡ true
+no_rows_in l t r b e = elim (int_lt l r) as (λ c. has_none (cond (c && int_lt t b) (record { x = l; y = t; w = r -ℤ l; h = b -ℤ t }) no_pixels) ≡ true) [ true ↦ rw e refl | false ↦ refl ]
+
+pub apart_down : (a b : Rectangle) → (bottom a ≤ℤ b.y) ⊎ (bottom b ≤ℤ a.y) → has_none (meet a b) ≡ true
+apart_down a b h =
+    no_rows_in (int_max a.x b.x) (int_max a.y b.y) (int_min (right a) (right b)) (int_min (bottom a) (bottom b)) (let e : int_lt (int_max a.y b.y) (int_min (bottom a) (bottom b)) ≡ false = grind (arith, ints) in e)
 
 -- an empty rectangle adds no pixel
 pub none_added : (s : Rectangle) (x y : ℤ) (b : Bool) → has_none s ≡ true → b ≡ (holds_pixel s x y || b)

@@ -1,6 +1,6 @@
 //! A set of pixels of a canvas.
 
-ghost use Rattle.std.specs.Prelude.{◌≡◌, ℕ, ℤ, pos, ◌+ℤ◌, ◌≤ℤ◌, ◌||◌, ◌↔◌, IfOk, OnOk, OnErr, IsTrue, IsFalse, Bool, false};
+ghost use Rattle.std.specs.Prelude.{◌≡◌, ℕ, ℤ, pos, ◌+ℤ◌, ◌≤ℤ◌, ◌||◌, ◌↔◌, IfOk, OnOk, OnErr, IsTrue, IsFalse, Bool, true, false};
 ghost use Rattle.rd_geom.specs.Plane.{meet, right, bottom, holds_pixel, has_none};
 ghost use Rattle.rd_geom.specs.Canvas.{IsCanvas, canvas_of};
 ghost use Rattle.rd_geom.specs.Areas.{in_area, spans_at, count_of, meets_area};
@@ -51,6 +51,23 @@ fn rows_of(r: Rect) -> (usize, usize)
     (r.y() as usize, r.bottom() as usize)
 }
 
+/// Do they lie apart, so that no pixel is in both?
+#[inline(always)]
+fn lie_apart(a: Rect, b: Rect) -> bool
+    ensures { IsTrue result → has_none (meet a b) ≡ true }
+{
+    if a.right() <= b.x() {
+        return true;
+    }
+    if a.bottom() <= b.y() {
+        return true;
+    }
+    if b.right() <= a.x() {
+        return true;
+    }
+    b.bottom() <= a.y()
+}
+
 impl Area {
     /// No pixel of a canvas of this size, which is from 1 to `MAX_CANVAS_SIDE` pixels wide and high.
     pub fn none(alloc: Global, size: Size) -> Result<Area, NoMemory>
@@ -97,7 +114,18 @@ impl Area {
     }
 
     /// Is a pixel of the rectangle in the area?
+    #[inline(always)]
     pub fn meets(&self, r: Rect) -> bool
+        ensures { result ≡ meets_area self.now r }
+    {
+        if lie_apart(self.used, r) {
+            return false;
+        }
+        self.has_pixel_of(r)
+    }
+
+    /// Is a pixel of the rectangle in one of the rows?
+    fn has_pixel_of(&self, r: Rect) -> bool
         ensures { result ≡ meets_area self.now r }
     {
         let seen = meet(self.used, r);

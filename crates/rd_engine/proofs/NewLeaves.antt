@@ -34,6 +34,9 @@ module _ {A : Type 0} (es : List (NewEntry A)) (i : ℕ) (x : NewEntry A) (h : i
       let g = size-join (new_entries (x ∷ [])) (new_entries (drop (suc i) es)) in
       omega (arith, e, f, g)
 
+  pub size_more : list_size (new_entries (take (i + 1) es)) ≡ list_size (new_entries (take i es)) + list_size (new_entries (x ∷ []))
+  size_more = ap list_size front ∙ size-join (new_entries (take i es)) (new_entries (x ∷ []))
+
   abbrev count : Entries Wrapper Made → ℕ
   count xs = length (flat xs)
 

@@ -1,6 +1,6 @@
-//! How many leaves a new list has.
-ghost use Rattle.std.specs.Prelude.{◌≡◌, ◌<◌, ◌∷◌, [], length};
-ghost use Rattle.rd_list.specs.Entries.{flat};
+//! How many leaves and entries a new list has.
+ghost use Rattle.std.specs.Prelude.{◌≡◌, ◌<◌, ◌-◌, ◌^◌, ◌∷◌, [], length, min};
+ghost use Rattle.rd_list.specs.Entries.{flat, list_size};
 ghost use Rattle.rd_list.specs.NewView.{new_entries};
 
 use rd_list::{NewEntry, NewList};
@@ -35,5 +35,34 @@ fn leaves_at<A: Ledger>(entry: &NewEntry<A>) -> u64
     match entry {
         NewEntry::Leaf(_) => 1,
         NewEntry::Group { inner, .. } => leaves_of(inner),
+    }
+}
+
+/// How many entries there are, in groups and outside, or else the greatest number.
+#[cycle(sizing)]
+pub(crate) fn entries_of<A: Ledger>(list: &NewList<A>) -> usize
+    ensures { result ≡ min (list_size list.now) (2 ^ 64 - 1) }
+{
+    entries_among(&list.entries)
+}
+
+#[cycle(sizing)]
+fn entries_among<A: Ledger>(entries: &[NewEntry<A>]) -> usize
+    ensures { result ≡ min (list_size (new_entries entries.now)) (2 ^ 64 - 1) }
+{
+    let mut count: usize = 0;
+    for entry in entries {
+        count = count.saturating_add(entries_at(entry));
+    }
+    count
+}
+
+#[cycle(sizing)]
+fn entries_at<A: Ledger>(entry: &NewEntry<A>) -> usize
+    ensures { result ≡ min (list_size (new_entries (entry.now ∷ []))) (2 ^ 64 - 1) }
+{
+    match entry {
+        NewEntry::Leaf(_) => 1,
+        NewEntry::Group { inner, .. } => entries_of(inner).saturating_add(1),
     }
 }

@@ -11,7 +11,7 @@ ghost use Rattle.rd_engine.specs.Painted.{IsAllTouched, IsBegun, IsSettled, IsJo
 ghost use Rattle.rd_engine.specs.Painted.{remade, half_looks, most_looks, shown_at};
 ghost use Rattle.rd_engine.specs.Internal.Parts.{IsInvalidArea, IsRemade, IsPlanned, IsPrepared};
 
-use crate::counting::leaves_of;
+use crate::counting::{entries_of, leaves_of};
 use crate::note::PaintNote;
 use crate::prepared::Prepared;
 use rd_area::Area;
@@ -255,15 +255,13 @@ impl<A: Ledger, B: Ledger> Engine<A, B> {
         Ok(plan)
     }
 
-    /// Rows for the groups of the list, and room to look in each row at the entries alone that may show in it. The list will
-    /// have at most so many leaves more than it has.
-    fn rows(&self, more: u64) -> Result<Buffers, NoMemory>
-        requires { more < 4294967296 }
+    /// Rows for the groups of the list, and room to look in each row at the entries alone that may show in it: in the area
+    /// these are entries of the new list.
+    fn rows(&self, new: &NewList<A>) -> Result<Buffers, NoMemory>
         ensures { IfOk result (λ b. b ≡ record { size = self.now.tree.canvas; rows = 256 }) }
     {
         let mut buffers = Buffers::new(self.alloc, self.tree.canvas(), MOST_GROUPS)?;
-        let leaves = self.list.view().leaves() + more;
-        buffers.make_room(leaves as usize)?;
+        buffers.make_room(entries_of(new))?;
         Ok(buffers)
     }
 
@@ -279,7 +277,7 @@ impl<A: Ledger, B: Ledger> Engine<A, B> {
         let new = self.renewed(&area, made, looks)?;
         let plan = self.planned(&new)?;
         let built = leaves_of(&new);
-        let buffers = self.rows(built)?;
+        let buffers = self.rows(&new)?;
         Ok(Prepared {
             area,
             new,

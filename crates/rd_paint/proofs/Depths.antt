@@ -109,8 +109,12 @@ module _ {A : Type 0} where
   levels-from (suc n) (Group g ∷ es) = let d = levels-from n es in let l = (not_less (deeper (levels g.inner.entries)) (levels (kept_entries es))).0 in omega (arith, d, l)
 
 -- as many rows as a canvas is wide are enough for a run of its pixels
-pub rows_for : (n w d r m : ℕ) → n ≤ w → d ≤ r → m ≡ r * w → n * d ≤ m
+pub rows_for : (n w d r m : ℕ) → n ≤ w → d ≤ r → r * w ≤ m → n * d ≤ m
 rows_for n w d r m a b e = let p = mul-le-mul_right d a in let q = mul-le-mul_left w b in omega (arith, p, q, e)
+
+-- rows for a run are enough for a part of it
+pub rows_within : (n w d r : ℕ) → n ≤ w → w * d ≤ r → n * d ≤ r
+rows_within n w d r a b = let p = mul-le-mul_right d a in omega (arith, p, b)
 
 one_more : (l : ℕ) → deeper (suc l) - 1 ≡ suc l
 one_more l = omega arith

@@ -9,3 +9,4 @@ pub mod Choosing
 pub mod Showing
 pub mod Hiding
 pub mod Banding
+pub mod Seen

@@ -14,7 +14,7 @@ use Rattle.rd_item.specs.Leaves.{covers}
 use Rattle.rd_list.specs.Entries.{nil, leaf}
 use Rattle.rd_list.specs.Lists.{composed}
 use Rattle.rd_paint.specs.Internal.Runs.{each_from, tinted, piece_laid, laid_along}
-use Rattle.rd_paint.proofs.Places.{each_from-same, each_from-each_from, get_or-each_at, length-each_from}
+use Rattle.rd_paint.proofs.Places.{each_from-none, each_from-same, each_from-each_from, get_or-each_at, length-each_from}
 
 -- what a leaf covers of a row that it does not meet
 pub misses : (o i v oy iy vy : Bool) → oy ≡ false → ((o && oy) && not (i && iy) && (v && vy)) ≡ false
@@ -187,6 +187,17 @@ part_laid s q x ps mid a b h l t m = rw m (same_lists _ _ size at)
         let n = length-each_from 0 (λ k p. cond (in_span s (x +ℤ pos k)) (laid_over q p) p) ps in
         let l : k < length ps = omega (arith, n, size) in
         by_place k d l (cases_lt k a) (cases_lt k b) ∙ sym (whole k d l)
+
+-- a span without a column
+pub none_laid : (s : Span) (q : Premultiplied) (x : ℤ) (ps : List Premultiplied) → int_lt s.x0 s.x1 ≡ false → ps ≡ piece_laid s q x ps
+none_laid s q x ps h = sym (each_from-none 0 (λ k p. cond (in_span s (x +ℤ pos k)) (laid_over q p) p) ps (λ k p. ap (λ b. cond b (laid_over q p) p) (nowhere s.x0 s.x1 (x +ℤ pos k) h)))
+  where
+    nowhere : (a b x : ℤ) → int_lt a b ≡ false → (int_le a x && int_lt x b) ≡ false
+    nowhere a b x h = grind (arith, ints)
+
+-- a leaf in a row where it may not be seen
+pub row_missed : (l : Leaf) (y x : ℤ) (ps : List Premultiplied) → is_among l.visible.y l.visible.h y ≡ false → ps ≡ laid_along y x (leaf l nil) ps
+row_missed l y x ps h = sym (each_from-none 0 (λ k p. composed (x +ℤ pos k) y p (leaf l nil)) ps (λ k p. rw (unshown l y h (x +ℤ pos k)) refl))
 
 -- two pieces without a common column
 pub pieces_laid : (l : Leaf) (s t : Span) (q : Premultiplied) (y x : ℤ) (ps : List Premultiplied) → q ≡ premultiplied l.color

@@ -1,17 +1,19 @@
 -- Entries that show nothing at some pixels, and picks that show the same.
-use Rattle.std.proofs.Common.{◌≡◌, refl, ◌∙◌, sym, ap, ℤ, ℕ, ◌+◌, ◌+ℤ◌, ◌≤◌, ◌≤ℤ◌, ◌<ℤ◌, Bool, true, false, not, ◌&&◌, IsTrue, ◌↔◌, List, [], ◌∷◌, ◌++◌, length, take, drop, arith, subst}
+use Rattle.std.proofs.Common.{◌≡◌, refl, ◌∙◌, sym, ap, ℤ, ℕ, ◌+◌, ◌+ℤ◌, ◌≤◌, ◌≤ℤ◌, ◌<ℤ◌, Bool, true, false, not, ◌&&◌, List, [], ◌∷◌, ◌++◌, length, take, drop, arith, subst}
 use Rattle.std.specs.Prelude.{int_lt, Option, Some, None, IfSome}
 use Rattle.std.proofs.lemmas.Int.{ints}
 use Rattle.std.proofs.lemmas.List.{drop_all}
 use Rattle.rd_geom.specs.Colors.{laid_over, scaled, clear}
-use Rattle.rd_geom.specs.Plane.{Rectangle, SharesPixel, holds_pixel, is_among}
+use Rattle.rd_geom.specs.Areas.{Region, meets_area}
+use Rattle.rd_geom.specs.Plane.{Rectangle, holds_pixel, is_among}
+use Rattle.rd_geom.proofs.Areas.{shares-meets_area}
 use Rattle.rd_item.specs.declared.leaf.Leaf as item
 use Rattle.rd_list.specs.Entries.{Entries, nil, leaf, group, ◌▷◌}
 use Rattle.rd_list.specs.Lists.{composed}
 use Rattle.rd_list.specs.Wrappers.{Wrapper}
 use Rattle.rd_list.proofs.Composing.{composed-join}
 use Rattle.rd_list.proofs.Joins.{join_assoc, join-nil}
-use Rattle.rd_paint.specs.Internal.Picks.{InRect, InRows, IsClosed, SameWhere, ShowsFor, picked}
+use Rattle.rd_paint.specs.Internal.Picks.{InArea, InRows, IsClosed, SameWhere, ShowsFor, picked}
 use Rattle.rd_paint.specs.declared.picks.Pick.{Pick}
 use Rattle.rd_paint.proofs.Depths.{scaled_clear}
 use Rattle.rd_paint.proofs.Picking.{picked-none, picked_one, closed_append, put_taken, entry_at-leaf, entry_at-group}
@@ -95,13 +97,13 @@ last_false true true v h = h
 last_false true false v h = refl
 last_false false b v h = refl
 
--- a leaf that may be seen in no pixel of a rectangle
-pub leaf_outside : (l : item.Leaf) (v r : Rectangle) (b : Bool) → v ≡ l.visible → (IsTrue b ↔ SharesPixel v r) → b ≡ false → SameWhere (InRect r) nil (leaf l nil)
-leaf_outside l v r b e m f x y d h = sym (rw (last_false (holds_pixel l.shape.outer x y) (not (holds_pixel l.shape.inner x y)) (holds_pixel l.visible x y) (ap (λ q. holds_pixel q x y) (sym e) ∙ go (holds_pixel v x y) refl)) refl)
+-- a leaf that may be seen in no pixel of an area
+pub leaf_outside : (l : item.Leaf) (v : Rectangle) (a : Region) → v ≡ l.visible → meets_area a v ≡ false → SameWhere (InArea a) nil (leaf l nil)
+leaf_outside l v a e f x y d h = sym (rw (last_false (holds_pixel l.shape.outer x y) (not (holds_pixel l.shape.inner x y)) (holds_pixel l.visible x y) (ap (λ q. holds_pixel q x y) (sym e) ∙ go (holds_pixel v x y) refl)) refl)
   where
     go : (t : Bool) → holds_pixel v x y ≡ t → holds_pixel v x y ≡ false
     go false k = k
-    go true k = let s : SharesPixel v r = record { x = x; y = y; first = k; second = h } in let q = m.1 s in cc
+    go true k = let m = shares-meets_area a v (record { x = x; y = y; first = h; second = k }) in cc
 
 module _ (p : ℤ → ℤ → Type 0) where
   -- no entry of a list may show

@@ -1,6 +1,6 @@
 //! Painting bands of rows, each with picks of those entries alone that may show in it.
 
-ghost use Rattle.std.specs.Prelude.{◌≡◌, ℕ, ℤ, pos, ◌+◌, ◌-◌, ◌*◌, ◌^◌, ◌≤◌, ◌<◌, ◌+ℤ◌, ◌≤ℤ◌, ◌<ℤ◌, ◌∷◌, [], IfSome, IsTrue, IsFalse, length, get_or, unsigned_abs};
+ghost use Rattle.std.specs.Prelude.{◌≡◌, ℕ, ℤ, pos, ◌+◌, ◌-◌, ◌*◌, ◌^◌, ◌≤◌, ◌<◌, ◌+ℤ◌, ◌≤ℤ◌, ◌<ℤ◌, ◌∷◌, [], IsTrue, IsFalse, length, get_or, unsigned_abs};
 ghost use Rattle.rd_geom.specs.Colors.{white, clear};
 ghost use Rattle.rd_area.specs.Rows.{IsRising};
 ghost use Rattle.rd_list.specs.Displayed.{shown};
@@ -15,13 +15,13 @@ ghost use Rattle.rd_paint.specs.Repainted.{IsRepainted};
 use crate::canvas::Canvas;
 use crate::chosen::lay_picks;
 use crate::covering::cover;
-use crate::frame::{Frame, frame_of, meets_part};
+use crate::frame::{frame_of, meets_part};
 use crate::gathering::gather;
 use crate::narrowing::narrow;
 use crate::picks::Pick;
 use crate::runs::fill;
 use rd_area::Area;
-use rd_geom::{Px, Rect, Span};
+use rd_geom::{Px, Span};
 use rd_list::Entry;
 use std::sync::ledger::Ledger;
 
@@ -117,6 +117,9 @@ fn paint_rows<A: Ledger>(
     }
 }
 
+/// Of so many rows no half gets picks of its own: to look past an entry is cheaper than to write picks.
+const FEW: usize = 4;
+
 /// Paints the rows `y0` up to `y1`: each half of them with its own picks, as long as there is room to write these.
 #[cycle(halving)]
 fn paint_band<A: Ledger>(
@@ -142,7 +145,7 @@ fn paint_band<A: Ledger>(
     if !meets_part(area, 0, width, y0, y1) {
         return;
     }
-    if y1 - y0 < 2 || room.len() < picks.len() {
+    if y1 - y0 <= FEW || room.len() < picks.len() {
         paint_rows(canvas, entries, picks, area, y0, y1, rows);
         return;
     }
@@ -178,27 +181,6 @@ fn paint_half<A: Ledger>(
     paint_band(canvas, entries, own, area, y0, y1, rows, rest);
 }
 
-/// The pixels of the frame.
-fn rect_of(frame: Frame) -> Option<Rect>
-    requires across { frame.left ≤ frame.right }
-    requires wide { frame.right ≤ 4096 }
-    requires down { frame.top ≤ frame.bottom }
-    requires high { frame.bottom ≤ 4096 }
-    ensures { IfSome result (λ r. r ≡ record {
-      x = pos frame.left;
-      y = pos frame.top;
-      w = pos (frame.right - frame.left);
-      h = pos (frame.bottom - frame.top);
-    }) }
-{
-    Rect::new(
-        frame.left as i32,
-        frame.top as i32,
-        (frame.right - frame.left) as i32,
-        (frame.bottom - frame.top) as i32,
-    )
-}
-
 /// Paints all rows. False where the room is too small for picks of all entries that may show: then nothing is painted.
 pub(crate) fn paint_all<A: Ledger>(
     canvas: &mut Canvas,
@@ -217,10 +199,7 @@ pub(crate) fn paint_all<A: Ledger>(
 {
     let size = canvas.size();
     let frame = frame_of(area, size.w as usize, size.h as usize);
-    let Some(seen) = rect_of(frame) else {
-        return false;
-    };
-    let Some(count) = gather(entries, seen, room) else {
+    let Some(count) = gather(entries, area, room) else {
         return false;
     };
     let (own, rest) = room.split_at_mut(count);

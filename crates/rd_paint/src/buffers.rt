@@ -1,6 +1,6 @@
 //! The rows that groups are painted into.
 
-ghost use Rattle.std.specs.Prelude.{◌≡◌, ℕ, ℤ, pos, ◌-◌, ◌≤◌, ◌<◌, ◌^◌, ◌+ℤ◌, ◌≤ℤ◌, ◌<ℤ◌, IfOk, length, get_or, drop};
+ghost use Rattle.std.specs.Prelude.{◌≡◌, ℕ, ℤ, pos, ◌-◌, ◌*◌, ◌≤◌, ◌<◌, ◌^◌, ◌+ℤ◌, ◌≤ℤ◌, ◌<ℤ◌, IfOk, length, get_or, drop, unsigned_abs, vec_capacity};
 ghost use Rattle.rd_geom.specs.Canvas.{IsCanvas};
 ghost use Rattle.rd_geom.specs.Colors.{white, clear};
 ghost use Rattle.rd_list.specs.EntryNames.{kept_leaves};
@@ -11,7 +11,7 @@ ghost use Rattle.rd_paint.specs.Pictures.{size_of};
 ghost use Rattle.rd_paint.specs.Repainted.{IsRepainted};
 
 use crate::bands::paint_all;
-use crate::canvas::{Canvas, filled};
+use crate::canvas::Canvas;
 use crate::picks::{MOST, Pick};
 use crate::plain::repaint_plainly;
 use crate::runs::fill;
@@ -27,7 +27,9 @@ use std::sync::ledger::Ledger;
 #[derive(Drop)]
 pub struct Buffers {
     size: Size,
-    rows: usize,
+    rows: u32,
+
+    /// It has memory for all rows, and as many pixels as a list had use for.
     pixels: Vec<Px>,
 
     /// Room for picks of the entries that may show in a band of rows.
@@ -35,7 +37,7 @@ pub struct Buffers {
 }
 
 impl Model for Buffers {
-    ghost use Rattle.std.specs.Prelude.{◌≡◌, ◌*◌, ◌^◌, ◌<◌, length, unsigned_abs};
+    ghost use Rattle.std.specs.Prelude.{◌*◌, ◌^◌, ◌<◌, ◌≤◌, length, unsigned_abs, vec_capacity};
     ghost use Rattle.rd_geom.specs.Canvas.{IsCanvas};
     ghost use Rattle.rd_paint.specs.Repainted.{Scratch};
 
@@ -43,7 +45,7 @@ impl Model for Buffers {
 
     ghost view = { λ b. record { size = b.size; rows = b.rows } };
 
-    ghost invariant = { λ b. IsCanvas b.size × (length b.pixels.items ≡ b.rows * unsigned_abs b.size.w)
+    ghost invariant = { λ b. IsCanvas b.size × (b.rows * unsigned_abs b.size.w ≤ vec_capacity b.pixels)
         × (length b.room.items < 2 ^ 32) };
 }
 
@@ -53,22 +55,21 @@ impl Buffers {
         requires { IsCanvas size }
         ensures { IfOk result (λ b. b ≡ record { size = size; rows = depth }) }
     {
-        let rows = depth as usize;
-        let pixels = filled(alloc, rows * size.w as usize, Px::CLEAR)?;
+        let pixels = Vec::with_capacity(alloc, pixels_of(depth, size))?;
         Ok(Buffers {
             size,
-            rows,
+            rows: depth,
             pixels,
             room: Vec::new(alloc),
         })
     }
 
-    /// Makes room for a list with so many leaves and groups in all: then `repaint` looks in each row at those alone
+    /// Makes room for so many leaves and groups that may show in an area: then `repaint` looks in each row at those alone
     /// that may show in it. With less room it paints the same. Without memory the buffers serve as before.
     pub fn make_room(&mut self, entries: usize) -> Result<(), NoMemory>
         ensures { self.new ≡ self.old }
     {
-        let most = entries.min(MOST / ROOMS) * ROOMS;
+        let most = entries.min((MOST - SPARE) / ROOMS) * ROOMS + SPARE;
         grow(&mut self.room, most)
     }
 }
@@ -76,16 +77,38 @@ impl Buffers {
 /// How many picks there is room for by each entry: one for the whole list, and others for its bands.
 const ROOMS: usize = 3;
 
+/// How many more: those of groups of which it is not yet known that nothing shows, and one behind all.
+const SPARE: usize = 257;
+
 /// Makes room for so many picks, if there is less.
 fn grow(room: &mut Vec<Pick>, count: usize) -> Result<(), NoMemory>
     requires few { count < 2 ^ 32 }
     requires room { length room.old.items < 2 ^ 32 }
     ensures { length room.new.items < 2 ^ 32 }
 {
-    for _ in room.len()..count {
-        room.push(Pick::FIRST)?;
+    if room.len() < count {
+        room.resize(count, Pick::FIRST)?;
     }
     Ok(())
+}
+
+/// Makes at least so many pixels. There is memory for them.
+fn open(pixels: &mut Vec<Px>, count: usize)
+    requires { count ≤ vec_capacity pixels.old }
+    ensures long { count ≤ length pixels.new.items }
+    ensures memory { vec_capacity pixels.old ≤ vec_capacity pixels.new }
+{
+    if pixels.len() < count && pixels.resize(count, Px::CLEAR).is_err() {
+        return;
+    }
+}
+
+/// How many pixels so many rows have.
+fn pixels_of(rows: u32, size: Size) -> usize
+    requires { IsCanvas size }
+    ensures { result ≡ rows * unsigned_abs size.w }
+{
+    rows as usize * size.w as usize
 }
 
 /// The entries from place `from` on.
@@ -116,6 +139,7 @@ pub fn paint_span<A: Ledger>(
         ≡ composed (x0 +ℤ pos k) y white (entries_from from (kept_leaves list.entry.list.now.entries)) }
     ensures same { buffers.new ≡ buffers.old }
 {
+    open(&mut buffers.pixels, pixels_of(buffers.rows, buffers.size));
     fill(out, Px::WHITE);
     lay_all(upper(list.entries(), from), y, x0, out, &mut buffers.pixels);
 }
@@ -134,6 +158,7 @@ pub fn repaint<A: Ledger>(
     ensures painted { IsRepainted (kept_leaves list.entry.list.now.entries) area.now canvas.old canvas.new }
     ensures same { buffers.new ≡ buffers.old }
 {
+    open(&mut buffers.pixels, pixels_of(list.depth(), buffers.size));
     let entries = list.entries();
     let rows = &mut buffers.pixels;
     let room = &mut buffers.room;

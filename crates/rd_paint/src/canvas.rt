@@ -28,13 +28,11 @@ impl Model for Canvas {
 }
 
 /// So many pixels of one colour.
-pub(crate) fn filled(alloc: Global, count: usize, px: Px) -> Result<Vec<Px>, NoMemory>
+fn filled(alloc: Global, count: usize, px: Px) -> Result<Vec<Px>, NoMemory>
     ensures { IfOk result (λ v. v.items ≡ replicate count px) }
 {
     let mut pixels = Vec::with_capacity(alloc, count)?;
-    for _ in 0..count {
-        pixels.push(px)?;
-    }
+    pixels.resize(count, px)?;
     Ok(pixels)
 }
 

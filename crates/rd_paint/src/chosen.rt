@@ -9,6 +9,7 @@ ghost use Rattle.rd_paint.specs.Internal.Picks.{chosen, picked};
 ghost use Rattle.rd_paint.specs.Internal.Runs.{laid_along, laid_along_group};
 
 use crate::picks::{Pick, pick_at};
+use crate::reaching::places;
 use crate::runs::{fill, lay_row};
 use crate::spans::lay_item;
 use rd_geom::Px;
@@ -80,10 +81,33 @@ fn lay_pick<A: Ledger>(
     }
 }
 
+/// Lays what picks name of a group over those of the pixels where it may show.
+#[cycle(choosing)]
+fn lay_own<A: Ledger>(
+    opacity: u8,
+    inner: &Kept<A>,
+    own: &[Pick],
+    y: i32,
+    x0: i32,
+    out: &mut [Px],
+    rows: &mut [Px],
+)
+    requires rows { length out.old * (deeper (levels inner.now.entries) - 1) ≤ length rows.old }
+    requires from { pos 0 ≤ℤ x0 }
+    requires within { (x0 +ℤ pos (length out.old)) ≤ℤ pos 4096 }
+    ensures { out.new ≡ laid_along_group y x0 opacity (picked own.now (kept_leaves inner.now.entries)) out.old }
+{
+    let (from, to) = places(inner, own, y, x0, out.len());
+    if from < to {
+        let start = x0 + from as i32;
+        lay_seen(opacity, inner, own, y, start, &mut out[from..to], rows);
+    }
+}
+
 /// Paints what picks name of a group into the first of the rows, clear at first, and lays that over the pixels.
 /// Where no row is left there is no leaf in the group.
 #[cycle(choosing)]
-fn lay_own<A: Ledger>(
+fn lay_seen<A: Ledger>(
     opacity: u8,
     inner: &Kept<A>,
     own: &[Pick],

@@ -1,33 +1,33 @@
-//! Picks of all entries of a list that may show in a rectangle.
+//! Picks of all entries of a list that may show in an area.
 
 ghost use Rattle.std.specs.Prelude.{◌≡◌, ◌+◌, ◌^◌, ◌≤◌, ◌<◌, ◌∷◌, [], IfSome, length, take};
 ghost use Rattle.rd_list.specs.Displayed.{shown};
 ghost use Rattle.rd_list.specs.Entries as list;
 ghost use Rattle.rd_list.specs.EntryNames.{kept_leaves};
 ghost use Rattle.rd_list.specs.Wrappers.{Wrapper};
-ghost use Rattle.rd_paint.specs.Internal.Picks.{InRect, IsClosed, SameWhere, ShowsFor, picked};
+ghost use Rattle.rd_paint.specs.Internal.Picks.{InArea, IsClosed, SameWhere, ShowsFor, picked};
 
 use crate::picks::{MOST, Pick, put};
-use rd_geom::{Rect, meets};
+use rd_area::Area;
 use rd_item::Item;
 use rd_list::{Entry, Kept};
 use std::sync::ledger::Ledger;
 
-/// Writes picks of the entries that may show in the rectangle, and says how many; None where there is too little room.
+/// Writes picks of the entries that may show in the area, and says how many; None where there is too little room.
 #[cycle(gathering)]
 pub(crate) fn gather<A: Ledger>(
     entries: &[Entry<A>],
-    seen: Rect,
+    area: &Area,
     room: &mut [Pick],
 ) -> Option<usize>
     requires few { length room.old < 2 ^ 32 }
     ensures within { IfSome result (λ n. n ≤ length room.old) }
-    ensures same { IfSome result (λ n. SameWhere (InRect seen)
+    ensures same { IfSome result (λ n. SameWhere (InArea area.now)
         (picked (take n room.new) (shown entries.now)) (shown entries.now)) }
 {
     let mut count = 0;
     for (i, entry) in entries.iter().enumerate() {
-        let more = gather_one(entry, i, seen, &mut room[count..])?;
+        let more = gather_one(entry, i, area, &mut room[count..])?;
         count += more;
     }
     Some(count)
@@ -35,39 +35,44 @@ pub(crate) fn gather<A: Ledger>(
 
 /// Writes picks of the entry at a place.
 #[cycle(gathering)]
+#[inline(always)]
 fn gather_one<A: Ledger>(
     entry: &Entry<A>,
     place: usize,
-    seen: Rect,
+    area: &Area,
     room: &mut [Pick],
 ) -> Option<usize>
     requires few { length room.old < 2 ^ 32 }
     ensures within { IfSome result (λ n. n ≤ length room.old) }
     ensures closed { IfSome result (λ n. IsClosed (take n room.new)) }
-    ensures same { IfSome result (λ n. ShowsFor (InRect seen) place
+    ensures same { IfSome result (λ n. ShowsFor (InArea area.now) place
         (shown (entry.now ∷ [])) (shown (entry.now ∷ [])) (take n room.new)) }
 {
-    if room.is_empty() || place > MOST {
-        return None;
-    }
     match entry {
-        Entry::Leaf(item) => Some(gather_item(item, place, seen, room)),
-        Entry::Group(group) => gather_group(&group.inner, place, seen, room),
+        Entry::Leaf(item) => gather_item(item, place, area, room),
+        Entry::Group(group) => gather_group(&group.inner, place, area, room),
     }
 }
 
-fn gather_item<A: Ledger>(item: &Item<A>, place: usize, seen: Rect, room: &mut [Pick]) -> usize
-    requires place { place < 2 ^ 32 }
-    requires room { 1 ≤ length room.old }
-    ensures within { result ≤ length room.old }
-    ensures closed { IsClosed (take result room.new) }
-    ensures same { ShowsFor (InRect seen) place (list.leaf item.now.leaf list.nil)
-        (list.leaf item.now.leaf list.nil) (take result room.new) }
+#[inline(always)]
+fn gather_item<A: Ledger>(
+    item: &Item<A>,
+    place: usize,
+    area: &Area,
+    room: &mut [Pick],
+) -> Option<usize>
+    ensures within { IfSome result (λ n. n ≤ length room.old) }
+    ensures closed { IfSome result (λ n. IsClosed (take n room.new)) }
+    ensures same { IfSome result (λ n. ShowsFor (InArea area.now) place (list.leaf item.now.leaf list.nil)
+        (list.leaf item.now.leaf list.nil) (take n room.new)) }
 {
-    if meets(item.visible(), seen) {
-        return put(room, place as u32, 0);
+    if !area.meets(item.visible()) {
+        return Some(0);
     }
-    0
+    if room.is_empty() || place > MOST {
+        return None;
+    }
+    Some(put(room, place as u32, 0))
 }
 
 /// Writes the pick of a group with those of its list; none where none of them may show.
@@ -75,19 +80,20 @@ fn gather_item<A: Ledger>(item: &Item<A>, place: usize, seen: Rect, room: &mut [
 fn gather_group<A: Ledger>(
     inner: &Kept<A>,
     place: usize,
-    seen: Rect,
+    area: &Area,
     room: &mut [Pick],
 ) -> Option<usize>
     requires few { length room.old < 2 ^ 32 }
-    requires place { place < 2 ^ 32 }
-    requires room { 1 ≤ length room.old }
     ensures within { IfSome result (λ n. n ≤ length room.old) }
     ensures closed { IfSome result (λ n. IsClosed (take n room.new)) }
-    ensures same { IfSome result (λ n. (w : Wrapper) → ShowsFor (InRect seen) place
+    ensures same { IfSome result (λ n. (w : Wrapper) → ShowsFor (InArea area.now) place
         (list.group w (kept_leaves inner.now.entries) list.nil)
         (list.group w (kept_leaves inner.now.entries) list.nil) (take n room.new)) }
 {
-    let inside = gather(&inner.entries, seen, &mut room[1..])?;
+    if room.is_empty() || place > MOST {
+        return None;
+    }
+    let inside = gather(&inner.entries, area, &mut room[1..])?;
     if inside == 0 {
         return Some(0);
     }

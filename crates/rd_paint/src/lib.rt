@@ -13,6 +13,7 @@ mod gathering;
 mod narrowing;
 mod picks;
 mod plain;
+mod reaching;
 mod runs;
 mod spans;
 

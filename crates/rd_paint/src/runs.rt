@@ -1,6 +1,6 @@
 //! Runs of pixels of one row.
 
-ghost use Rattle.std.specs.Prelude.{◌≡◌, ℕ, ℤ, pos, ◌+◌, ◌*◌, ◌≤◌, ◌<◌, ◌+ℤ◌, ◌≤ℤ◌, ◌&&◌, ◌||◌, false, nat_le, nat_lt, int_le, int_lt, List, length, replicate};
+ghost use Rattle.std.specs.Prelude.{◌≡◌, ℕ, ℤ, pos, ◌+◌, ◌*◌, ◌≤◌, ◌<◌, ◌+ℤ◌, ◌≤ℤ◌, ◌&&◌, ◌||◌, IsTrue, false, get_or, nat_le, nat_lt, int_le, int_lt, List, length, replicate};
 ghost use Rattle.rd_geom.specs.Colors.{Premultiplied, clear};
 ghost use Rattle.rd_geom.specs.Plane.{is_among, right};
 ghost use Rattle.rd_geom.specs.Areas.{in_span};
@@ -20,22 +20,70 @@ pub(crate) fn fill(out: &mut [Px], px: Px)
     }
 }
 
-/// Lays a row over as many pixels, each channel scaled by the opacity.
-pub(crate) fn lay_row(out: &mut [Px], row: &[Px], opacity: u8)
-    requires { length row.now ≡ length out.old }
-    ensures { out.new ≡ row_laid opacity row.now out.old }
+/// Are the two pixels the same?
+fn same(p: Px, q: Px) -> bool
+    ensures { IsTrue result → p ≡ q }
 {
-    for k in 0..out.len() {
-        out[k] = over(scale(row[k], opacity), out[k]);
+    (p.r() == q.r()) & (p.g() == q.g()) & (p.b() == q.b()) & (p.a() == q.a())
+}
+
+/// Up to where the pixels from `from` on are the same.
+fn same_until(out: &[Px], from: usize) -> usize
+    requires { from < length out.now }
+    ensures more { from < result }
+    ensures within { result ≤ length out.now }
+    ensures same { (k : ℕ) → from ≤ k → k < result → get_or out.now k clear ≡ get_or out.now from clear }
+{
+    let px = out[from];
+    let mut end = from + 1;
+    while end < out.len() && same(out[end], px) {
+        end += 1;
     }
+    end
 }
 
 /// Lays one pixel over each of the pixels.
 fn tint(out: &mut [Px], px: Px)
     ensures { out.new ≡ tinted px out.old }
 {
-    for k in 0..out.len() {
-        out[k] = over(px, out[k]);
+    let mut from = 0;
+    while from < out.len() {
+        let end = same_until(out, from);
+        let laid = over(px, out[from]);
+        fill(&mut out[from..end], laid);
+        from = end;
+    }
+}
+
+/// Up to where the pixels from `from` on are the same, and those of a row too.
+fn both_same_until(out: &[Px], row: &[Px], from: usize) -> usize
+    requires long { length row.now ≡ length out.now }
+    requires from { from < length out.now }
+    ensures more { from < result }
+    ensures within { result ≤ length out.now }
+    ensures same { (k : ℕ) → from ≤ k → k < result → get_or out.now k clear ≡ get_or out.now from clear }
+    ensures same_row { (k : ℕ) → from ≤ k → k < result → get_or row.now k clear ≡ get_or row.now from clear }
+{
+    let px = out[from];
+    let above = row[from];
+    let mut end = from + 1;
+    while end < out.len() && same(out[end], px) && same(row[end], above) {
+        end += 1;
+    }
+    end
+}
+
+/// Lays a row over as many pixels, each channel scaled by the opacity.
+pub(crate) fn lay_row(out: &mut [Px], row: &[Px], opacity: u8)
+    requires { length row.now ≡ length out.old }
+    ensures { out.new ≡ row_laid opacity row.now out.old }
+{
+    let mut from = 0;
+    while from < out.len() {
+        let end = both_same_until(out, row, from);
+        let laid = over(scale(row[from], opacity), out[from]);
+        fill(&mut out[from..end], laid);
+        from = end;
     }
 }
 
@@ -64,7 +112,7 @@ fn place_of(x: i32, x0: i32, count: usize) -> usize
 }
 
 /// Which of so many places, of which the first is in column `x0`, are in the span: from the first up to the second.
-fn clipped(span: Span, x0: i32, count: usize) -> (usize, usize)
+pub(crate) fn clipped(span: Span, x0: i32, count: usize) -> (usize, usize)
     requires { pos 0 ≤ℤ x0 }
     ensures order { result.0 ≤ result.1 }
     ensures within { result.1 ≤ count }
@@ -75,8 +123,19 @@ fn clipped(span: Span, x0: i32, count: usize) -> (usize, usize)
     if to < from { (from, from) } else { (from, to) }
 }
 
-/// Lays one pixel over those of the pixels from column `x0` on that are in the span.
+/// Lays one pixel over those of the pixels from column `x0` on that are in the span, which mostly has no column.
 fn lay_piece(px: Px, span: Span, x0: i32, out: &mut [Px])
+    requires from { pos 0 ≤ℤ x0 }
+    requires within { (x0 +ℤ pos (length out.old)) ≤ℤ pos 4096 }
+    ensures { out.new ≡ piece_laid span px x0 out.old }
+{
+    if span.x0 < span.x1 {
+        lay_columns(px, span, x0, out);
+    }
+}
+
+/// Lays one pixel over those of the pixels from column `x0` on that are in the span.
+fn lay_columns(px: Px, span: Span, x0: i32, out: &mut [Px])
     requires from { pos 0 ≤ℤ x0 }
     requires within { (x0 +ℤ pos (length out.old)) ≤ℤ pos 4096 }
     ensures { out.new ≡ piece_laid span px x0 out.old }
@@ -86,7 +145,7 @@ fn lay_piece(px: Px, span: Span, x0: i32, out: &mut [Px])
 }
 
 /// Is row `y` one of the rectangle's?
-fn has_row(r: Rect, y: i32) -> bool
+pub(crate) fn has_row(r: Rect, y: i32) -> bool
     ensures { result ≡ is_among r.y r.h y }
 {
     let top = r.y();
@@ -95,7 +154,7 @@ fn has_row(r: Rect, y: i32) -> bool
 }
 
 /// The columns of a rectangle.
-fn columns(r: Rect) -> Span
+pub(crate) fn columns(r: Rect) -> Span
     ensures { result ≡ record { x0 = r.x; x1 = right r } }
 {
     Span {
@@ -173,6 +232,6 @@ pub(crate) fn lay_leaf(leaf: &Leaf, y: i32, x0: i32, out: &mut [Px])
 {
     let px = px_of(leaf.color);
     let (before, after) = pieces(leaf, y);
-    lay_piece(px, before, x0, out);
+    lay_columns(px, before, x0, out);
     lay_piece(px, after, x0, out);
 }

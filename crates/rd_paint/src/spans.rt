@@ -8,7 +8,7 @@ ghost use Rattle.rd_list.specs.KeptView.{kept_entries};
 ghost use Rattle.rd_list.specs.Views.{levels, deeper};
 ghost use Rattle.rd_paint.specs.Internal.Runs.{laid_along, laid_along_group};
 
-use crate::runs::{fill, lay_leaf, lay_row};
+use crate::runs::{fill, has_row, lay_leaf, lay_row};
 use rd_geom::Px;
 use rd_item::{Item, Leaf};
 use rd_list::{Entry, Kept};
@@ -92,6 +92,9 @@ pub(crate) fn lay_item<A: Ledger>(item: &Item<A>, y: i32, x0: i32, out: &mut [Px
     requires within { (x0 +ℤ pos (length out.old)) ≤ℤ pos 4096 }
     ensures { out.new ≡ laid_along y x0 (list.leaf item.now.leaf list.nil) out.old }
 {
+    if !has_row(item.visible(), y) {
+        return;
+    }
     let leaf = leaf_of(item);
     lay_leaf(&leaf, y, x0, out);
 }

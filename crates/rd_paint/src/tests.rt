@@ -133,8 +133,22 @@ fn opaque(r: u8, g: u8, b: u8) -> Option<Px> {
     Some(px_of(color(r, g, b, 255)))
 }
 
-// Paints columns 0 to 4 of rows 1 and 2 of a clear canvas, with room for so many entries.
-fn painted<A: Ledger>(alloc: Global, list: &Kept<A>, entries: usize) -> Result<Canvas, NoMemory>
+// Makes room for so many entries, if a number is given.
+fn room_for(buffers: &mut Buffers, entries: Option<usize>) -> Result<(), NoMemory>
+    ensures { buffers.new ≡ buffers.old }
+{
+    match entries {
+        Some(entries) => buffers.make_room(entries),
+        None => Ok(()),
+    }
+}
+
+// Paints columns 0 to 4 of rows 1 and 2 of a clear canvas, with room for so many entries, or with none.
+fn painted<A: Ledger>(
+    alloc: Global,
+    list: &Kept<A>,
+    entries: Option<usize>,
+) -> Result<Canvas, NoMemory>
     requires { levels list.now.entries ≤ 3 }
 {
     let mut canvas = Canvas::new(alloc, SIZE)?;
@@ -146,7 +160,7 @@ fn painted<A: Ledger>(alloc: Global, list: &Kept<A>, entries: usize) -> Result<C
     let mut area = Area::none(alloc, SIZE)?;
     area.add(Rect::new(0, 1, 5, 2).unwrap_or(Rect::EMPTY))?;
     let mut buffers = Buffers::new(alloc, SIZE, 2)?;
-    buffers.make_room(entries)?;
+    room_for(&mut buffers, entries)?;
     repaint(&mut canvas, list.view(), &area, &mut buffers);
     Ok(canvas)
 }
@@ -175,8 +189,8 @@ fn is_right(canvas: &Canvas) -> bool {
 fn are_right<A: Ledger>(alloc: Global, list: &Kept<A>) -> Result<bool, NoMemory>
     requires { levels list.now.entries ≤ 3 }
 {
-    let plain = is_right(&painted(alloc, list, 0)?);
-    let narrowed = is_right(&painted(alloc, list, 7)?);
+    let plain = is_right(&painted(alloc, list, None)?);
+    let narrowed = is_right(&painted(alloc, list, Some(7))?);
     Ok(plain && narrowed)
 }
 

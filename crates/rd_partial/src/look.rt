@@ -23,6 +23,7 @@ pub struct Looked {
 }
 
 /// Looks at a box: none where no box has the key.
+#[inline(always)]
 pub fn look_at<B: Ledger>(tree: &Tree<B>, key: BoxKey, looks: &mut Steps<B>) -> Option<Looked>
     ensures told { MatchOption result (starting_at same_key key tree.now.boxes
         ≡ empty) (λ s. Onward tree.now.boxes key s.here s.first_child s.next_sibling s.hull) }

@@ -44,6 +44,7 @@ fn add_box(area: &mut Area, s: &Standing, b: &BoxData) -> Result<(), NoMemory>
 }
 
 /// Adds what may be seen of a box, if it is touched.
+#[inline(always)]
 fn add_if_touched(area: &mut Area, s: &Standing, looked: &Looked) -> Result<(), NoMemory>
     ensures { OnOk result (Joins (own_shows s.now looked.now) area.old area.new) }
 {
@@ -56,6 +57,7 @@ fn add_if_touched(area: &mut Area, s: &Standing, looked: &Looked) -> Result<(), 
 
 /// Adds what may be seen of the touched boxes below a box; where there is none, no box is looked at.
 #[cycle(touching)]
+#[inline(always)]
 fn add_below<B: Ledger>(
     tree: &Tree<B>,
     area: &mut Area,
@@ -122,6 +124,7 @@ fn add_entries<A: Ledger, B: Ledger>(
 }
 
 #[cycle(listing)]
+#[inline(always)]
 fn add_entry<A: Ledger, B: Ledger>(
     tree: &Tree<B>,
     area: &mut Area,

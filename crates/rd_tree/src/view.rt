@@ -37,6 +37,7 @@ pub struct BoxView<'a> {
 }
 
 /// What a node and its row show of its box.
+#[inline(always)]
 pub(crate) fn view_of(key: BoxKey, is_root: bool, node: &Node, row: Summary) -> BoxView<'_>
     ensures { told result ≡ shown_of key is_root node.now row }
 {

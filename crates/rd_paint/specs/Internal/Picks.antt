@@ -1,7 +1,8 @@
 -- Entries that are picked from a list, in groups too.
-use Rattle.std.specs.Prelude.{◌≡◌, ℕ, zero, suc, ℤ, pos, ◌<◌, ◌+ℤ◌, ◌≤ℤ◌, ◌<ℤ◌, IsTrue, List, [], ◌∷◌, ◌++◌, length, take, drop}
+use Rattle.std.specs.Prelude.{◌≡◌, ℕ, zero, suc, ℤ, pos, false, ◌<◌, ◌+ℤ◌, ◌≤ℤ◌, ◌<ℤ◌, IsTrue, List, [], ◌∷◌, ◌++◌, length, take, drop}
 use Rattle.rd_geom.specs.Colors.{Premultiplied}
-use Rattle.rd_geom.specs.Plane.{Rectangle, holds_pixel}
+use Rattle.rd_geom.specs.Areas.{Region, in_area, in_span}
+use Rattle.rd_geom.specs.declared.span.Span.{Span}
 use Rattle.rd_item.specs.declared.leaf.Leaf.{Leaf}
 use Rattle.rd_list.specs.Wrappers.{Wrapper}
 use Rattle.rd_list.specs.Entries.{Entries, nil, leaf, group, ◌▷◌}
@@ -51,9 +52,13 @@ ShowsFor p place one want ps = (es : Entries Wrapper Leaf) → StandsAt place on
 abbrev pub InRows : ℤ → ℤ → ℤ → ℤ → Type 0
 InRows y0 y1 x y = (y0 ≤ℤ y) × (y <ℤ y1)
 
--- in a rectangle
-abbrev pub InRect : Rectangle → ℤ → ℤ → Type 0
-InRect r x y = IsTrue (holds_pixel r x y)
+-- in an area
+abbrev pub InArea : Region → ℤ → ℤ → Type 0
+InArea a x y = IsTrue (in_area a x y)
+
+-- in row y, outside the columns of a span
+abbrev pub OffSpan : Span → ℤ → ℤ → ℤ → Type 0
+OffSpan s y x row = (row ≡ y) × (in_span s x ≡ false)
 
 -- what is below a list does not show in n pixels of row y from column x on
 abbrev pub Hides : Entries Wrapper Leaf → ℤ → ℤ → ℕ → Type 0

@@ -38,6 +38,7 @@ pub(crate) fn summary_alone(hull: Rect) -> Summary
 }
 
 /// The row of a box.
+#[inline(always)]
 pub(crate) fn row_at(table: &[Summary], key: BoxKey) -> Summary
     requires { key.slot < length table.now }
     ensures { result ≡ summary_at table.now key }

@@ -31,7 +31,7 @@ lay_all-requires-clause-rows g c =
     let es = ap (λ (b : Scratch). b.size.w) c.buffers.view_is in
     let er = ap (λ (b : Scratch). b.rows) c.buffers.view_is in
     let el = ap length c.deref_mut.ensures.value in
-    rows_for _ (unsigned_abs c.buffers.inside.size.w) _ c.buffers.inside.rows _ (omega (arith, ints, es, c.fill.auto.out, c.requires.right, c.requires.left)) (omega (arith, p, e1, e2, er, c.requires.deep)) (el ∙ c.buffers.invariant.1)
+    rows_for _ (unsigned_abs c.buffers.inside.size.w) _ c.buffers.inside.rows _ (omega (arith, ints, es, c.fill.auto.out, c.requires.right, c.requires.left)) (omega (arith, p, e1, e2, er, c.requires.deep)) (omega (arith, el, c.open.ensures.long, c.pixels_of.ensures))
 
 pub returns-clause-painted : goal.returns-clause-painted
 returns-clause-painted g c =

@@ -1,4 +1,4 @@
-use Rattle.std.proofs.Common.{◌≡◌, ◌+◌, length, drop, arith, sym, ap, ◌∙◌, FitsSigned, w32, rules}
+use Rattle.std.proofs.Common.{◌≡◌, ◌≤◌, ◌+◌, ◌-◌, min, length, length-take, length-drop, drop, arith, sym, ap, ◌∙◌, FitsSigned, w32, rules}
 use Rattle.std.proofs.lemmas.Int.{to_z-of_z, ints}
 use Rattle.rd_geom.specs.Colors.{clear}
 use Rattle.rd_item.specs.declared.leaf.Leaf as item
@@ -9,16 +9,20 @@ use Rattle.rd_list.specs.Entries.{Entries, list_size}
 use Rattle.rd_list.specs.EntryNames.{kept_leaves}
 use Rattle.rd_list.specs.Kept.{KeptList, Ordered}
 use Rattle.rd_list.specs.KeptView.{kept_entries}
-use Rattle.rd_list.specs.Views.{levels}
+use Rattle.rd_list.specs.Views.{levels, deeper}
 use Rattle.rd_list.specs.Wrappers.{Wrapper}
 use Rattle.rd_list.proofs.Viewing.{size_at}
 use Rattle.rd_paint.specs.Internal.Picks.{picked, chosen}
 use Rattle.rd_paint.specs.Internal.Runs.{laid_along}
 use Rattle.rd_paint.proofs.Choosing.{laid_on, laid_off}
-use Rattle.rd_paint.proofs.Depths.{rows_at, rows_left, no_rows, nothing_shown, levels-leaves}
+use Rattle.rd_paint.proofs.Depths.{rows_at, rows_left, rows_within, no_rows, nothing_shown, levels-leaves}
 use Rattle.rd_paint.proofs.Laying.{laid_along-nil, laid_none, group_from}
 use Rattle.rd_paint.proofs.Picking.{entry_at-shown, entry_at-past, entry_at-leaf, entry_at-group, picked_leafless}
+use Rattle.rd_paint.proofs.Seen.{seen_laid, unseen_laid}
 use Rattle.rd_paint.proofs.chosen.+choosing.Goals as goal
+
+abbrev entries_of : KeptList EntryKey Wrapper Made → Entries (Ordered EntryKey Wrapper) Made
+entries_of k = k.entries
 
 pub lay_at-lay_pick-requires : goal.lay_at-lay_pick-requires
 lay_at-lay_pick-requires g t c κs within =
@@ -38,17 +42,35 @@ lay_at-returns-else-index-entries g t c =
     sym (laid_along-nil c.args.y c.args.x0 c.args.out.now)
     ∙ ap (λ (es : Entries Wrapper item.Leaf). laid_along c.args.y c.args.x0 es c.args.out.now) (sym (entry_at-past (picked c.args.own.now) c.args.entries.now c.args.place c.if-index-entries.false))
 
-abbrev entries_of : KeptList EntryKey Wrapper Made → Entries (Ordered EntryKey Wrapper) Made
-entries_of k = k.entries
+pub lay_own-lay_seen-requires : goal.lay_own-lay_seen-requires
+lay_own-lay_seen-requires g t c κs within =
+    let short : min (c.places-from.result.1 - c.places-from.result.0) (length c.args.out.now - c.places-from.result.0) ≤ length c.args.out.now = omega arith in
+    (omega (arith, c.decreases), (within, (rows_within _ (length c.args.out.now) (deeper (levels c.args.inner.now.entries) - 1) (length c.args.rows.now) (simp (length-take, length-drop) short) c.requires.rows, (omega (arith, ints), simp (length-take, length-drop) (omega (arith, ints))))))
 
-pub lay_own-returns-then-rows-n : goal.lay_own-returns-then-rows-n
-lay_own-returns-then-rows-n g t c =
+pub lay_own-returns-then-from-to : goal.lay_own-returns-then-from-to
+lay_own-returns-then-from-to g t c =
+    let fx : FitsSigned w32 c.args.x0 = search rules in
+    let fy : FitsSigned w32 c.args.y = search rules in
+    let unseen = simp to_z-of_z at c.places-from.ensures.unseen in
+    let laid = simp to_z-of_z at c.lay_seen.ensures in
+    seen_laid c.args.y c.args.x0 _ c.args.opacity (picked c.args.own.now (kept_leaves c.args.inner.now.entries)) c.args.out.now c.lay_seen.new.out c.places-from.result.0 c.places-from.result.1 c.places-from.ensures.order c.places-from.ensures.within
+    (omega (arith, ints)) unseen laid
+
+pub lay_own-returns-else-from-to : goal.lay_own-returns-else-from-to
+lay_own-returns-else-from-to g t c =
+    let fx : FitsSigned w32 c.args.x0 = search rules in
+    let fy : FitsSigned w32 c.args.y = search rules in
+    let unseen = simp to_z-of_z at c.places-from.ensures.unseen in
+    unseen_laid c.args.y c.args.x0 c.args.opacity (picked c.args.own.now (kept_leaves c.args.inner.now.entries)) c.args.out.now c.places-from.result.0 c.places-from.result.1 c.if-from-to.false unseen
+
+pub lay_seen-returns-then-rows-n : goal.lay_seen-returns-then-rows-n
+lay_seen-returns-then-rows-n g t c =
     let none = no_rows (length c.args.out.now) (length c.args.rows.now) (levels c.args.inner.now.entries) (omega arith) c.requires.rows in
     sym (laid_none c.args.y c.args.x0 c.args.opacity (picked c.args.own.now (kept_leaves c.args.inner.now.entries)) c.args.out.now
     (λ x y. nothing_shown x y clear (picked c.args.own.now (kept_leaves c.args.inner.now.entries)) (picked_leafless c.args.own.now (kept_leaves c.args.inner.now.entries) (levels-leaves c.args.inner.now.entries ∙ none))))
 
-pub lay_own-lay_picks-requires : goal.lay_own-lay_picks-requires
-lay_own-lay_picks-requires g t c κs within =
+pub lay_seen-lay_picks-requires : goal.lay_seen-lay_picks-requires
+lay_seen-lay_picks-requires g t c κs within =
     let e : kept_entries c.deref.result.now ≡ c.args.inner.now.entries = ap kept_entries c.deref.ensures.value ∙ ap entries_of c.inner.view_is in
     let n = ap (λ (es : Entries (Ordered EntryKey Wrapper) Made). list_size es) e in
     let l = ap (λ (es : Entries (Ordered EntryKey Wrapper) Made). levels es) e in (
@@ -62,8 +84,8 @@ lay_own-lay_picks-requires g t c κs within =
       ),
     )
 
-pub lay_own-returns : goal.lay_own-returns
-lay_own-returns g t c =
+pub lay_seen-returns : goal.lay_seen-returns
+lay_seen-returns g t c =
     let fx : FitsSigned w32 c.args.x0 = search rules in
     let fy : FitsSigned w32 c.args.y = search rules in
     let e : kept_entries c.deref.result.now ≡ c.args.inner.now.entries = ap kept_entries c.deref.ensures.value ∙ ap entries_of c.inner.view_is in

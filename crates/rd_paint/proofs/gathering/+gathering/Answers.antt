@@ -1,4 +1,4 @@
-use Rattle.std.proofs.Common.{◌≡◌, ◌≤◌, ◌+◌, ◌-◌, ◌∷◌, [], List, length, take, drop, arith, sym, ap, subst, ◌∙◌, length-take, length-drop}
+use Rattle.std.proofs.Common.{◌≡◌, ◌≤◌, ◌+◌, ◌-◌, ◌∷◌, [], List, length, take, drop, arith, rules, sym, ap, subst, ◌∙◌, length-take, length-drop}
 use Rattle.std.proofs.lemmas.List.{length-take-le, drop_all}
 use Rattle.rd_item.specs.declared.leaf.Leaf as item
 use Rattle.rd_item.specs.Items.{Made}
@@ -14,7 +14,7 @@ use Rattle.rd_list.proofs.Displaying.{shown_from}
 use Rattle.rd_list.specs.declared.kept.Entry.{Entry}
 use Rattle.rd_list.proofs.Joins.{join-nil}
 use Rattle.rd_list.proofs.Viewing.{size_at}
-use Rattle.rd_paint.specs.Internal.Picks.{InRect, SameWhere, picked}
+use Rattle.rd_paint.specs.Internal.Picks.{InArea, SameWhere, picked}
 use Rattle.rd_paint.proofs.Picking.{closed_none, closed_by, put_first, put_fits, picked-none, entry_at-shown}
 use Rattle.rd_paint.proofs.Showing.{written_more, none_named, group_named, group_unseen, nothing_left, some_group}
 use Rattle.rd_paint.proofs.gathering.+gathering.Goals as goal
@@ -37,7 +37,7 @@ pub gather-loop-i-preserved : goal.gather-loop-i-preserved
 gather-loop-i-preserved g t c =
     let fits : c.in_ok-more.more ≤ length c.gather_one.new.room = omega (arith, c.in_ok-more.ensures.within, c.gather_one.auto.room) in
     let at = λ (f : Entries Wrapper item.Leaf → Entries Wrapper item.Leaf). entry_at-shown f c.args.entries.now c.loop-i.i c.index-entries-i.result c.loop-i-test.true c.index-entries-i.is in
-    let written = written_more (InRect c.args.seen) (shown c.args.entries.now) (shown c.args.entries.now) (shown (c.index-entries-i.result ∷ [])) (shown (drop (c.loop-i.i + 1) c.args.entries.now)) (shown (drop c.loop-i.i c.args.entries.now))
+    let written = written_more (InArea c.args.area.now) (shown c.args.entries.now) (shown c.args.entries.now) (shown (c.index-entries-i.result ∷ [])) (shown (drop (c.loop-i.i + 1) c.args.entries.now)) (shown (drop c.loop-i.i c.args.entries.now))
     c.loop-i.room c.gather_one.new.room c.loop-i.count c.in_ok-more.more (length c.loop-i.room - c.loop-i.count) c.loop-i.invariant.within fits (shown_from c.args.entries.now c.loop-i.i c.index-entries-i.result c.loop-i-test.true c.index-entries-i.is)
     c.loop-i.invariant.closed c.in_ok-more.ensures.closed c.loop-i.invariant.same (c.in_ok-more.ensures.same (shown c.args.entries.now) at) in
     record {
@@ -60,24 +60,26 @@ gather_group-returns-then-inside-eq0-clause-closed g t c = closed_none
 pub gather_group-returns-then-inside-eq0-clause-same : goal.gather_group-returns-then-inside-eq0-clause-same
 gather_group-returns-then-inside-eq0-clause-same g t c = λ w.
     let e : shown c.deref.result.now ≡ kept_leaves c.args.inner.now.entries = ap kept_leaves (ap kept_entries c.deref.ensures.value ∙ ap entries_of c.inner.view_is) in
-    none_named (InRect c.args.seen) c.args.place (group w (kept_leaves c.args.inner.now.entries) nil) (group w (kept_leaves c.args.inner.now.entries) nil)
-    (group_unseen (InRect c.args.seen) w (kept_leaves c.args.inner.now.entries) (nothing_left (InRect c.args.seen) c.in_ok-inside.inside c.gather.new.room (shown c.deref.result.now) (shown c.deref.result.now) (kept_leaves c.args.inner.now.entries) c.if-inside-eq0.true e c.in_ok-inside.ensures.same))
+    none_named (InArea c.args.area.now) c.args.place (group w (kept_leaves c.args.inner.now.entries) nil) (group w (kept_leaves c.args.inner.now.entries) nil)
+    (group_unseen (InArea c.args.area.now) w (kept_leaves c.args.inner.now.entries) (nothing_left (InArea c.args.area.now) c.in_ok-inside.inside c.gather.new.room (shown c.deref.result.now) (shown c.deref.result.now) (kept_leaves c.args.inner.now.entries) c.if-inside-eq0.true e c.in_ok-inside.ensures.same))
 
 pub gather_group-returns-clause-closed : goal.gather_group-returns-clause-closed
 gather_group-returns-clause-closed g t c =
     let fits : c.in_ok-inside.inside ≤ length c.gather.new.room = omega (arith, c.in_ok-inside.ensures.within, c.gather.auto.room) in
-    let w = put_first c.args.place c.in_ok-inside.inside _ c.args.room.now c.gather.new.room _ c.requires.room fits c.put.ensures.written in
+    let some : 1 ≤ length c.args.room.now = search rules in
+    let w = put_first c.args.place c.in_ok-inside.inside _ c.args.room.now c.gather.new.room _ some fits c.put.ensures.written in
     closed_by c.args.place c.in_ok-inside.inside c.gather.new.room _ fits w
 
 pub gather_group-returns-clause-same : goal.gather_group-returns-clause-same
 gather_group-returns-clause-same g t c = λ w.
     let e : shown c.deref.result.now ≡ kept_leaves c.args.inner.now.entries = ap kept_leaves (ap kept_entries c.deref.ensures.value ∙ ap entries_of c.inner.view_is) in
     let fits : c.in_ok-inside.inside ≤ length c.gather.new.room = omega (arith, c.in_ok-inside.ensures.within, c.gather.auto.room) in
-    let q = put_first c.args.place c.in_ok-inside.inside _ c.args.room.now c.gather.new.room _ c.requires.room fits c.put.ensures.written in
-    group_named (InRect c.args.seen) c.args.place w (kept_leaves c.args.inner.now.entries) (kept_leaves c.args.inner.now.entries) c.in_ok-inside.inside (take c.in_ok-inside.inside c.gather.new.room) _ (length-take-le c.in_ok-inside.inside c.gather.new.room fits) q
-    (subst (λ (xs : Entries Wrapper item.Leaf). SameWhere (InRect c.args.seen) (picked (take c.in_ok-inside.inside c.gather.new.room) xs) xs) e c.in_ok-inside.ensures.same)
+    let some : 1 ≤ length c.args.room.now = search rules in
+    let q = put_first c.args.place c.in_ok-inside.inside _ c.args.room.now c.gather.new.room _ some fits c.put.ensures.written in
+    group_named (InArea c.args.area.now) c.args.place w (kept_leaves c.args.inner.now.entries) (kept_leaves c.args.inner.now.entries) c.in_ok-inside.inside (take c.in_ok-inside.inside c.gather.new.room) _ (length-take-le c.in_ok-inside.inside c.gather.new.room fits) q
+    (subst (λ (xs : Entries Wrapper item.Leaf). SameWhere (InArea c.args.area.now) (picked (take c.in_ok-inside.inside c.gather.new.room) xs) xs) e c.in_ok-inside.ensures.same)
 
 pub gather_one-returns-in-Group-clause-same : goal.gather_one-returns-in-Group-clause-same
 gather_one-returns-in-Group-clause-same g t c =
     rw c.in-Group.is
-    (some_group (InRect c.args.seen) c.args.place (kept_leaves c.in-Group.group.inner.entries) (λ n. take n c.gather_group.new.room) c.gather_group.result c.gather_group.ensures.same (record { key = c.in-Group.group.key; opacity = c.in-Group.group.opacity }))
+    (some_group (InArea c.args.area.now) c.args.place (kept_leaves c.in-Group.group.inner.entries) (λ n. take n c.gather_group.new.room) c.gather_group.result c.gather_group.ensures.same (record { key = c.in-Group.group.key; opacity = c.in-Group.group.opacity }))

@@ -1,4 +1,4 @@
-use Rattle.std.proofs.Common.{refl, arith}
+use Rattle.std.proofs.Common.{refl}
 use Rattle.rd_engine.proofs.engine.Engine.prepare.Goals as goal
 
 pub planned-requires : goal.planned-requires
@@ -9,12 +9,6 @@ same-new g c = refl
 
 pub leaves_of-built-requires : goal.leaves_of-built-requires
 leaves_of-built-requires g c = c.in_ok-new.ensures.new.few
-
-pub rows-requires : goal.rows-requires
-rows-requires g c =
-    let e = c.leaves_of-built.ensures in
-    let f = c.in_ok-new.ensures.new.few in
-    omega (arith, e, f)
 
 pub same-area : goal.same-area
 same-area g c = refl
