@@ -1,5 +1,11 @@
 -- What private contracts, invariants and views say. No public clause cites it, so a reader need not read it.
 pub mod Chains
+pub mod MadeNodes
+pub mod Patching
+pub mod Relisting
+pub mod Ranks
 pub mod Seen
 pub mod Tables
+pub mod Taking
+pub mod Walks
 pub mod Words

@@ -1,7 +1,6 @@
 -- A merge with its items is put together from its level and its groups.
 use Rattle.std.proofs.Common.{◌≡◌, refl, ap, ◌∙◌, sym, subst, Bool, true, false, cond, List, [], ◌∷◌, inl, inr, ◌⊎◌}
 use Rattle.std.specs.Prelude.{Contains, ◌↔◌}
-use Rattle.std.proofs.lemmas.List.Sorted.{IsPermutation-sym, Contains-permutation}
 use Rattle.rd_graph.specs.Graphs.{Graph, nodes}
 use Rattle.rd_graph.proofs.Listing.{Has, Once, cases, never, has_from, contains_from, has_left, has_right, has_either, has_filter}
 use Rattle.rd_graph.proofs.Calls.{once_of}
@@ -225,7 +224,7 @@ module _ {E G M L : Type 0} (n : Names E G L) (leaf_of : M → L) (stays : L →
 
       -- each name that stays or is new stands in the level
       in_line : (a : E) → Contains (nodes joined.graph) a → Has (keys n J) a
-      in_line a c = subst (λ (ks : List E). Has ks a) (sym same) (has_from line a (Contains-permutation (nodes joined.graph) line a (IsPermutation-sym line (nodes joined.graph) made.ordered.nodes_are) c))
+      in_line a c = subst (λ (ks : List E). Has ks a) (made.standing ∙ sym same) (has_from (nodes joined.graph) a c)
 
       new_in : (a : E) → Has (keys n N) a → Has (keys n J) a
       new_in a h = in_line a ((made.adds.nodes_are a).1 (inr (contains_from (keys n N) a h)))
@@ -233,7 +232,7 @@ module _ {E G M L : Type 0} (n : Names E G L) (leaf_of : M → L) (stays : L →
       stay_in : (a : E) → Has (keys n S) a → Has (keys n J) a
       stay_in a h =
           let k : Contains (keys n K) a = contains_from (keys n K) a (has_only n stays K a h) in
-          let g : Contains (nodes kept.graph) a = Contains-permutation (keys n K) (nodes kept.graph) a (IsPermutation-sym (nodes kept.graph) (keys n K) (fits.nodes_are [])) k in
+          let g : Contains (nodes kept.graph) a = subst (λ (ks : List E). Contains ks a) (sym (fits.nodes_are [])) k in
           in_line a ((made.adds.nodes_are a).1 (inl ((made.drops.nodes_are a).1 (g, (made.told a k).1 (contains_from (keys n S) a h)))))
 
       -- ---- heads

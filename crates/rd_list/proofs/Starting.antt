@@ -1,6 +1,6 @@
 -- The list without entries is ready where each leaf goes.
 use Rattle.std.proofs.Common.{◌≡◌, refl, ap, ◌∙◌, sym, subst, Bool, true, false, List, [], ◌∷◌, ◌++◌, arith, inl, inr}
-use Rattle.std.specs.Prelude.{Contains, AllPairs, IsPermutation, IsTrue}
+use Rattle.std.specs.Prelude.{Contains, AllPairs, IsTrue}
 use Rattle.rd_graph.specs.Graphs.{nodes}
 use Rattle.rd_graph.specs.Orders.{Before, Once}
 use Rattle.rd_graph.proofs.Listing.{Has, has_from, contains_from, has_left, has_right}
@@ -33,7 +33,7 @@ module _ {E G M L : Type 0} (n : Names E G L) (leaf_of : M → L) (meet : L → 
       let none : only stays fresh ≡ nil = only_none fresh h in
       let nowhere : (path : List E) (a : E) → Contains (keys n (level_at {G = G} {L = L} n path nil)) a → ⊥ = λ path a c. has_from [] a (subst (λ (x : Entries G L). Contains (keys n x) a) (level_nil n leaf_of stays path) c) in
       record {
-        nodes_are = λ path. subst (λ (k : KeptList E G M). IsPermutation (nodes k.graph) (keys n (bare n leaf_of k.entries))) (sym (kept_empty n leaf_of stays path)) (record { moves = []; below = tt; is = refl });
+        nodes_are = λ path. subst (λ (k : KeptList E G M). nodes k.graph ≡ keys n (bare n leaf_of k.entries)) (sym (kept_empty n leaf_of stays path)) refl;
         names_once = λ path. subst (λ (x : Entries G L). Once (keys n x)) (sym (level_nil n leaf_of stays path)) tt;
         in_order = λ path a b r. absurd (reach_none n leaf_of stays path a b r);
         ready = record {

@@ -11,7 +11,7 @@ use Rattle.rd_list.specs.Lists.{leaves_meet}
 use Rattle.rd_list.proofs.Naming.{entry_names_are, stands_to, display_merging}
 use Rattle.rd_list.proofs.Fitting.{ready_fits}
 use Rattle.rd_merge.specs.Going.{is_untouched}
-use Rattle.rd_merge.specs.LevelMade.{FitsFor}
+use Rattle.rd_merge.specs.Fitting.{FitsFor}
 use Rattle.rd_merge.specs.Merging.{CanBeMerged, MergedInto, StandsAfter}
 
 module _ (touched : BoxKey → Bool) (kept : KeptList EntryKey Wrapper Made) (new : Entries Wrapper Made) where

@@ -1,22 +1,23 @@
-//! The second half of a merge: entries are moved to their places in the result, and nothing takes memory.
-ghost use Rattle.std.specs.Prelude.{◌≡◌, ◌<◌, ◌≤◌, ◌+◌, ◌∷◌, ◌++◌, [], true, is_some, vec_len, vec_capacity, slice_index_or};
-ghost use Rattle.rd_list.specs.Entries.{option_entry};
+//! The second half of a merge: entries are put at their places in the kept list, and nothing takes memory.
+ghost use Rattle.std.specs.Prelude.{◌≡◌, ◌≤◌, ◌+◌, ◌∷◌, [], vec_len, vec_capacity};
+ghost use Rattle.std.specs.Vec.Iter.{into_iter_items};
+ghost use Rattle.rd_list.specs.Entries.{◌▷◌};
 ghost use Rattle.rd_list.specs.KeptView.{kept_entries};
 ghost use Rattle.rd_list.specs.NewView.{new_entries};
-ghost use Rattle.rd_merge.specs.Gathered.{KeepsOthers};
-ghost use Rattle.rd_merge.specs.Plans.{ArePlaced, PlacesFit, fill, filled, old_list, new_list, old_places, new_places, option_to_list, IsGroupPlace, leaf_at};
+ghost use Rattle.rd_merge.specs.Plans.{IsGroupPlace, IsNamed, PlacesFit, StepsFit, filled, grouped_as, left_for, list_for, made_count, old_list, stepped, wrapper_for};
 ghost use Rattle.rd_merge.specs.PlanView.{steps_seen};
-ghost use Rattle.rd_merge.specs.Internal.Taking.{KeepsOld, KeepsNew};
+ghost use Rattle.rd_merge.specs.Internal.Moving.{IsSameBut, left_after};
 
-use crate::moving::take_at;
+use crate::moving::{in_line, put};
+use crate::opening::{next_leaf, open};
 use crate::plan::{Plan, Step};
-use rd_keys::BoxKey;
 use rd_list::{Entry, Group, Kept, NewEntry, NewList};
 use std::alloc::Global;
-use std::mem;
 use std::sync::ledger::Ledger;
+use std::vec::IntoIter;
 
-/// The plan, filled from the two lists: each entry is moved to its place. It takes no memory.
+/// The plan, filled from the two lists: new entries are put at their places, and the rest stays where it is unless the plan has a line.
+/// It takes no memory.
 #[cycle(finishing)]
 pub fn finish<A: Ledger>(kept: Kept<A>, new: NewList<A>, plan: Plan<A>) -> Kept<A>
     requires { PlacesFit plan kept new }
@@ -24,137 +25,83 @@ pub fn finish<A: Ledger>(kept: Kept<A>, new: NewList<A>, plan: Plan<A>) -> Kept<
 {
     let Plan {
         alloc,
-        graph,
+        patch,
         steps,
-        mut room,
+        mut made,
+        room,
     } = plan;
-    let mut old = kept.entries;
-    let mut fresh = new.entries;
+    let mut entries = kept.entries;
+    let mut fresh = new.entries.into_iter();
     for step in steps {
-        let entry = finish_step(alloc, &mut old, &mut fresh, step);
-        put(&mut room, entry);
+        finish_step(alloc, &mut entries, &mut made, &mut fresh, step);
     }
+    let entries = in_line(alloc, entries, made, patch.line(), room);
     Kept {
-        entries: room,
-        graph,
+        entries,
+        graph: kept.graph.apply(patch),
     }
 }
 
-/// Puts an entry on top, where there is room for it.
-fn put<A: Ledger>(room: &mut Vec<Entry<A>>, entry: Entry<A>)
-    requires { vec_len room.old < vec_capacity room.old }
-    ensures put { room.new.items ≡ room.old.items ++ entry ∷ [] }
-    ensures room { vec_capacity room.old ≤ vec_capacity room.new }
-{
-    if room.push(entry).is_err() {
-        return;
-    }
-}
-
-/// The entry of a step, taken out of its places.
+/// One step: an entry is put at its place, or on top of the ones that are made.
 #[cycle(finishing)]
 fn finish_step<A: Ledger>(
     alloc: Global,
-    old: &mut Vec<Entry<A>>,
-    fresh: &mut Vec<NewEntry<A>>,
+    entries: &mut Vec<Entry<A>>,
+    made: &mut Vec<Entry<A>>,
+    fresh: &mut IntoIter<NewEntry<A>, Global>,
     step: Step<A>,
-) -> Entry<A>
-    requires { ArePlaced (steps_seen (step ∷ [])) (kept_entries old.old.items) (new_entries fresh.old.items) }
-    ensures filled { kept_entries (result ∷ []) ≡ fill (steps_seen (step ∷ [])) (kept_entries old.old.items) (new_entries fresh.old.items) }
-    ensures old { KeepsOld (old_places (steps_seen (step ∷ []))) (kept_entries old.old.items) (kept_entries old.new.items) }
-    ensures fresh { KeepsNew (new_places (steps_seen (step ∷ []))) (new_entries fresh.old.items) (new_entries fresh.new.items) }
+)
+    requires fits { StepsFit (vec_len entries.old) (steps_seen (step ∷ []))
+        (kept_entries entries.old.items ▷ kept_entries made.old.items) (new_entries (into_iter_items fresh.old)) }
+    requires room { vec_len made.old + made_count (steps_seen (step ∷ [])) ≤ vec_capacity made.old }
+    ensures stepped { kept_entries entries.new.items ▷ kept_entries made.new.items
+        ≡ stepped (steps_seen (step ∷ []))
+        (kept_entries entries.old.items ▷ kept_entries made.old.items) (new_entries (into_iter_items fresh.old)) }
+    ensures left { new_entries (into_iter_items fresh.new)
+        ≡ left_after (steps_seen (step ∷ [])) (new_entries (into_iter_items fresh.old)) }
+    ensures entries { vec_len entries.new ≡ vec_len entries.old }
+    ensures made { vec_len made.new ≡ vec_len made.old + made_count (steps_seen (step ∷ [])) }
+    ensures room { vec_capacity made.old ≤ vec_capacity made.new }
 {
     match step {
-        Step::Old(place) => take_at(alloc, old, place),
-        Step::New(place) => take_new(alloc, fresh, place),
-        Step::Group {
-            key,
-            opacity,
-            old: old_place,
-            new: new_place,
-            plan,
-        } => {
-            let kept = take_group(alloc, old, old_place);
-            let new = take_new_group(alloc, fresh, new_place);
-            let inner = finish(kept, new, plan);
-            Entry::Group(Group {
-                key,
-                opacity,
-                inner,
-            })
+        Step::Leaf(place) => {
+            let entry = next_leaf(fresh);
+            put(entries, made, place, entry);
+        }
+        Step::Group { old, is_new, plan } => {
+            let entry = finish_group(alloc, entries, fresh, old, is_new, plan);
+            put(entries, made, old, entry);
         }
     }
 }
 
-/// The list of the group at a place, taken out of it, if a place is given; else the empty list.
-fn take_group<A: Ledger>(
+/// The group of a step, taken out of its place, where it has one, and joined with what is new in it.
+#[cycle(finishing)]
+fn finish_group<A: Ledger>(
     alloc: Global,
     entries: &mut Vec<Entry<A>>,
-    place: Option<usize>,
-) -> Kept<A>
-    requires { IsGroupPlace place (kept_entries entries.old.items) }
-    ensures taken { result ≡ old_list place (kept_entries entries.old.items) }
-    ensures kept { KeepsOld (option_to_list place) (kept_entries entries.old.items) (kept_entries entries.new.items) }
+    fresh: &mut IntoIter<NewEntry<A>, Global>,
+    old: Option<usize>,
+    is_new: bool,
+    plan: Plan<A>,
+) -> Entry<A>
+    requires group { IsGroupPlace old (kept_entries entries.old.items) }
+    requires named { IsNamed is_new old (new_entries (into_iter_items fresh.old)) }
+    requires fits { PlacesFit plan (old_list old (kept_entries entries.old.items))
+        (list_for is_new (new_entries (into_iter_items fresh.old))) }
+    ensures made { kept_entries (result ∷ []) ≡ grouped_as
+        (wrapper_for is_new old (kept_entries entries.old.items) (new_entries (into_iter_items fresh.old)))
+        (filled plan (old_list old (kept_entries entries.old.items)) (list_for is_new (new_entries (into_iter_items fresh.old)))) }
+    ensures left { new_entries (into_iter_items fresh.new)
+        ≡ left_for is_new (new_entries (into_iter_items fresh.old)) }
+    ensures others { IsSameBut old (kept_entries entries.old.items) (kept_entries entries.new.items) }
+    ensures len { vec_len entries.new ≡ vec_len entries.old }
 {
-    let Some(place) = place else {
-        return Kept::empty(alloc);
-    };
-    match take_at(alloc, entries, place) {
-        Entry::Leaf(_) => unreachable!(),
-        Entry::Group(group) => group.inner,
-    }
-}
-
-/// Takes a new entry out of its place, and leaves a group without entries there.
-fn take_fresh<A: Ledger>(alloc: Global, entries: &mut Vec<NewEntry<A>>, i: usize) -> NewEntry<A>
-    requires { i < vec_len entries.old }
-    ensures taken { result ≡ slice_index_or entries.old.items i result }
-    ensures kept { KeepsOthers i entries.old.items entries.new.items }
-{
-    let key = new_owner(&entries[i]);
-    let hole = NewEntry::Group {
-        key,
-        opacity: 0,
-        inner: NewList::empty(alloc),
-    };
-    mem::replace(&mut entries[i], hole)
-}
-
-/// The box of a new entry.
-fn new_owner<A: Ledger>(entry: &NewEntry<A>) -> BoxKey {
-    match entry {
-        NewEntry::Leaf(item) => item.owner(),
-        NewEntry::Group { key, .. } => *key,
-    }
-}
-
-/// The new leaf at a place, taken out of it.
-fn take_new<A: Ledger>(alloc: Global, entries: &mut Vec<NewEntry<A>>, place: usize) -> Entry<A>
-    requires { is_some (leaf_at place (new_entries entries.old.items)) ≡ true }
-    ensures taken { kept_entries (result ∷ []) ≡ option_entry (leaf_at place (new_entries entries.old.items)) }
-    ensures kept { KeepsNew (place ∷ []) (new_entries entries.old.items) (new_entries entries.new.items) }
-{
-    match take_fresh(alloc, entries, place) {
-        NewEntry::Leaf(item) => Entry::Leaf(item),
-        NewEntry::Group { .. } => unreachable!(),
-    }
-}
-
-/// The list of the new group at a place, taken out of it, if a place is given; else the empty list.
-fn take_new_group<A: Ledger>(
-    alloc: Global,
-    entries: &mut Vec<NewEntry<A>>,
-    place: Option<usize>,
-) -> NewList<A>
-    requires { IsGroupPlace place (new_entries entries.old.items) }
-    ensures taken { result ≡ new_list place (new_entries entries.old.items) }
-    ensures kept { KeepsNew (option_to_list place) (new_entries entries.old.items) (new_entries entries.new.items) }
-{
-    let Some(place) = place else {
-        return NewList::empty(alloc);
-    };
-    match take_fresh(alloc, entries, place) {
-        NewEntry::Leaf(_) => unreachable!(),
-        NewEntry::Group { inner, .. } => inner,
-    }
+    let group = open(alloc, entries, fresh, old, is_new);
+    let inner = finish(group.kept, group.new, plan);
+    Entry::Group(Group {
+        key: group.key,
+        opacity: group.opacity,
+        inner,
+    })
 }

@@ -1,6 +1,11 @@
-//! The second half of a merge: entries are moved to their new places, and nothing takes memory.
-ghost use Rattle.std.specs.Prelude.{◌≡◌, ◌<◌, ◌≤◌, ◌+◌, ◌++◌, slice_index_or, vec_len, vec_capacity, length};
-ghost use Rattle.rd_merge.specs.Gathered.{gathered, ArePlaces, KeepsOthers};
+//! Entries of a level are moved to their places, and nothing takes memory.
+ghost use Rattle.std.specs.Prelude.{◌≡◌, ◌<◌, ◌≤◌, ◌+◌, ◌∷◌, ◌++◌, [], slice_index_or, vec_len, vec_capacity, length, option_map};
+ghost use Rattle.rd_graph.specs.Gathered.{gathered, ArePlaces, IsLine};
+ghost use Rattle.rd_list.specs.Entries.{◌▷◌};
+ghost use Rattle.rd_list.specs.KeptView.{kept_entries};
+ghost use Rattle.rd_merge.specs.Plans.{arranged_entries, IsPlace, one_made, put_entry};
+ghost use Rattle.rd_merge.specs.Internal.Moving.{KeepsOthers, NoneMade};
+ghost use Rattle.rd_merge.specs.Internal.PlanRoom.{HasLineRoom};
 
 use rd_list::{Entry, Group, Kept};
 use std::alloc::Global;
@@ -12,7 +17,6 @@ pub(crate) fn take_at<A: Ledger>(alloc: Global, entries: &mut Vec<Entry<A>>, i: 
     requires { i < vec_len entries.old }
     ensures taken { result ≡ slice_index_or entries.old.items i result }
     ensures kept { KeepsOthers i entries.old.items entries.new.items }
-    ensures len { vec_len entries.new ≡ vec_len entries.old }
 {
     let key = match &entries[i] {
         Entry::Leaf(item) => item.owner(),
@@ -26,21 +30,98 @@ pub(crate) fn take_at<A: Ledger>(alloc: Global, entries: &mut Vec<Entry<A>>, i: 
     mem::replace(&mut entries[i], hole)
 }
 
-/// Moves the entries at these places to the end of `room`, which has capacity for them.
-pub fn gather<A: Ledger>(
+/// Puts an entry on top, where there is room for it.
+fn push_made<A: Ledger>(made: &mut Vec<Entry<A>>, entry: Entry<A>)
+    requires { vec_len made.old < vec_capacity made.old }
+    ensures put { made.new.items ≡ made.old.items ++ entry ∷ [] }
+    ensures len { vec_len made.new ≡ vec_len made.old + 1 }
+    ensures room { vec_capacity made.old ≤ vec_capacity made.new }
+{
+    if made.push(entry).is_err() {
+        return;
+    }
+}
+
+/// Puts an entry at its place, or on top of the ones that are made.
+pub(crate) fn put<A: Ledger>(
+    entries: &mut Vec<Entry<A>>,
+    made: &mut Vec<Entry<A>>,
+    place: Option<usize>,
+    entry: Entry<A>,
+)
+    requires place { IsPlace place (vec_len entries.old) }
+    requires room { vec_len made.old + one_made place ≤ vec_capacity made.old }
+    ensures put { kept_entries entries.new.items ▷ kept_entries made.new.items
+        ≡ put_entry place (kept_entries (entry ∷ [])) (kept_entries entries.old.items ▷ kept_entries made.old.items) }
+    ensures entries { vec_len entries.new ≡ vec_len entries.old }
+    ensures made { vec_len made.new ≡ vec_len made.old + one_made place }
+    ensures room { vec_capacity made.old ≤ vec_capacity made.new }
+{
+    match place {
+        None => push_made(made, entry),
+        Some(i) => entries[i] = entry,
+    }
+}
+
+/// Takes an old entry or a made one, the made ones counted on from the old ones.
+fn take_entry<A: Ledger>(
     alloc: Global,
     entries: &mut Vec<Entry<A>>,
-    places: &[usize],
+    made: &mut Vec<Entry<A>>,
+    i: usize,
+) -> Entry<A>
+    requires { i < vec_len entries.old + vec_len made.old }
+    ensures taken { result ≡ slice_index_or (entries.old.items ++ made.old.items) i result }
+    ensures kept { KeepsOthers i (entries.old.items ++ made.old.items) (entries.new.items ++ made.new.items) }
+    ensures entries { vec_len entries.new ≡ vec_len entries.old }
+    ensures made { vec_len made.new ≡ vec_len made.old }
+{
+    if i < entries.len() {
+        return take_at(alloc, entries, i);
+    }
+    let place = i - entries.len();
+    take_at(alloc, made, place)
+}
+
+/// Moves old and made entries to the end of `room`, which has capacity for them.
+fn gather<A: Ledger>(
+    alloc: Global,
+    entries: &mut Vec<Entry<A>>,
+    made: &mut Vec<Entry<A>>,
+    line: &[usize],
     room: &mut Vec<Entry<A>>,
 )
-    requires places { ArePlaces places.now (vec_len entries.old) }
-    requires room { vec_len room.old + length places.now ≤ vec_capacity room.old }
-    ensures gathered { room.new.items ≡ room.old.items ++ gathered places.now entries.old.items }
+    requires places { ArePlaces line.now (vec_len entries.old + vec_len made.old) }
+    requires room { vec_len room.old + length line.now ≤ vec_capacity room.old }
+    ensures { room.new.items ≡ room.old.items ++ gathered line.now (entries.old.items ++ made.old.items) }
 {
-    for p in places {
-        let entry = take_at(alloc, entries, *p);
+    for p in line {
+        let entry = take_entry(alloc, entries, made, *p);
         if room.push(entry).is_err() {
             return;
+        }
+    }
+}
+
+/// The entries as they are, or old and made ones in a line.
+pub(crate) fn in_line<A: Ledger>(
+    alloc: Global,
+    mut entries: Vec<Entry<A>>,
+    mut made: Vec<Entry<A>>,
+    line: Option<&[usize]>,
+    mut room: Vec<Entry<A>>,
+) -> Vec<Entry<A>>
+    requires line { IsLine (option_map (λ l. l.now) line) (vec_len entries + vec_len made) }
+    requires still { NoneMade (option_map (λ l. l.now) line) (vec_len made) }
+    requires room { HasLineRoom (option_map (λ l. l.now) line) room }
+    ensures { kept_entries result.items
+        ≡ arranged_entries (option_map (λ l. l.now) line.entry) (kept_entries entries.items ▷ kept_entries made.items) }
+{
+    match line {
+        None => entries,
+        Some(line) => {
+            gather(alloc, &mut entries, &mut made, line, &mut room);
+            room
         }
     }
 }

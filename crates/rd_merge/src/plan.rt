@@ -1,59 +1,56 @@
-//! Plans: all that a merge needs, made before the first entry is moved.
+//! Plans: all that a merge needs, made before the first change.
 ghost use Rattle.std.specs.Prelude.{◌≡◌};
 
-use rd_graph::OrderGraph;
-use rd_keys::BoxKey;
+use rd_graph::Patch;
 use rd_list::Entry;
 use std::alloc::Global;
 use std::marker::Model;
 use std::sync::ledger::Ledger;
 
-/// A level of the result of a merge: its graph, what stands there in order, and room for the entries.
+/// What a merge does at a level: the patch of its graph, what is put where, and room for the entries that are made and for the line.
 #[derive(Drop)]
 #[cycle(plan)]
 pub struct Plan<A: Ledger> {
     pub(crate) alloc: Global,
-    pub(crate) graph: OrderGraph,
+    pub(crate) patch: Patch,
     pub(crate) steps: Vec<Step<A>>,
+    pub(crate) made: Vec<Entry<A>>,
     pub(crate) room: Vec<Entry<A>>,
 }
 
-/// A leaf by its place in the kept level or in the new one, or a group by its places there and its own plan.
+/// The next new leaf goes to a place of the level, or is made. Or there is something to do in a group: at a place of the level, or it is made; the next
+/// new entry goes into it, or only what is touched goes out of it.
 #[derive(Drop)]
 #[cycle(plan)]
 pub enum Step<A: Ledger> {
-    Old(usize),
-    New(usize),
+    Leaf(Option<usize>),
     Group {
-        key: BoxKey,
-        opacity: u8,
         old: Option<usize>,
-        new: Option<usize>,
+        is_new: bool,
         plan: Plan<A>,
     },
 }
 
 impl<A: Ledger> Model for Plan<A> {
     ghost use Rattle.std.specs.Prelude.{◌≡◌, ◌≤◌, length, vec_len, vec_capacity};
-    ghost use Rattle.rd_merge.specs.Plans.{PlanList};
-    ghost use Rattle.rd_merge.specs.Internal.PlanCode.{place_code, places_code};
-    ghost use Rattle.rd_list.specs.Wrappers.{wrapper_code};
-    ghost use Rattle.rd_list.specs.Internal.KeptCode.{kept_code, kept_size};
-    ghost use Rattle.rd_keys.specs.contracts.key.Key as key;
-    ghost use Rattle.rd_keys.specs.contracts.entry.BoxMark as mark;
-    ghost use Rattle.rd_graph.specs.contracts.graph.OrderGraph as order;
+    ghost use Rattle.rd_merge.specs.Plans.{PlanList, made_count};
+    ghost use Rattle.rd_merge.specs.Internal.PlanCode.{plan_code};
+    ghost use Rattle.rd_merge.specs.Internal.PlanRoom.{HasLineRoom};
+    ghost use Rattle.rd_graph.specs.Patches.{line_of};
+    ghost use Rattle.rd_graph.specs.contracts.patch.Patch as patch_row;
+    ghost use Rattle.rd_list.specs.Entries.{list_size};
 
     ghost Value = { PlanList };
 
-    ghost coded = { kept_code order.the_row.coded (places_code (wrapper_code (key.the_row mark.the_row).coded)) place_code };
+    ghost coded = { plan_code patch_row.the_row.coded };
 
     ghost use Rattle.rd_merge.specs.PlanView.{steps_seen};
 
-    ghost view = { λ p. record { graph = p.graph; entries = steps_seen p.steps.items } };
+    ghost view = { λ p. record { patch = p.patch; steps = steps_seen p.steps.items } };
 
-    ghost invariant = { λ p. (vec_len p.room ≡ 0) × (length p.steps.items ≤ vec_capacity p.room) };
+    ghost invariant = { λ p. (vec_len p.made ≡ 0) × (made_count (steps_seen p.steps.items) ≤ vec_capacity p.made) × HasLineRoom (line_of p.patch) p.room };
 
-    ghost size = { kept_size };
+    ghost size = { λ p. list_size p.steps };
 
     ghost use Rattle.std.proofs.Common.{arith};
     ghost use Rattle.rd_merge.specs.Internal.PlanFalls.{most_le-steps_seen};

@@ -1,26 +1,27 @@
 //! The first half of a merge: all memory is taken, and nothing is changed.
-ghost use Rattle.std.specs.Prelude.{◌≡◌, ◌∷◌, [], Some, None, IfOk, Contains};
-ghost use Rattle.rd_graph.specs.Names.{place_of, same_entry};
+ghost use Rattle.std.specs.Prelude.{◌≡◌, ◌∷◌, [], Some, IfOk, map};
+ghost use Rattle.rd_graph.specs.Patches.{line_of};
+ghost use Rattle.rd_list.specs.Entries as list;
 ghost use Rattle.rd_list.specs.EntryNames.{new_names};
-ghost use Rattle.rd_list.specs.KeptView.{kept_entries};
+ghost use Rattle.rd_list.specs.NewView.{new_entries};
 ghost use Rattle.rd_merge.specs.Going.{is_untouched};
-ghost use Rattle.rd_merge.specs.LevelMade.{FitsFor};
+ghost use Rattle.rd_merge.specs.Fitting.{FitsFor};
 ghost use Rattle.rd_merge.specs.Merging.{CanBeMerged, IsPlan, MergedInto, StandsAfter};
-ghost use Rattle.rd_merge.specs.Plans.{PlacesFit, filled, old_list, IsGroupPlace};
+ghost use Rattle.rd_merge.specs.Plans.{PlacesFit, filled, old_list};
 ghost use Rattle.rd_merge.specs.PlanView.{steps_seen};
-ghost use Rattle.rd_merge.specs.Internal.Steps.{kept_names, Stands, StepsFor};
+ghost use Rattle.rd_merge.specs.Internal.PlanRoom.{HasLineRoom};
+ghost use Rattle.rd_merge.specs.Internal.Planning.{EntriesFit, GroupFits, GroupsFit, NewSteps, InnerSteps, place_in};
 
-use crate::going::{Touches, key_of};
-use crate::level::prepare_level;
+use crate::going::Touches;
+use crate::looking::look;
 use crate::plan::{Plan, Step};
-use rd_graph::Places;
-use rd_keys::EntryKey;
+use rd_graph::Patch;
 use rd_list::{Entry, Kept, NewEntry, NewList, new_keys};
 use std::alloc::{AllocError, Global};
 use std::sync::ledger::Ledger;
 
 /// The plan of a merge: the kept list without the leaves of touched boxes, joined with the new list.
-/// It reads the lists alone, and takes all the memory of the result.
+/// It reads the lists alone, and takes all memory that the change will need.
 pub fn prepare<A: Ledger, T: Touches>(
     alloc: Global,
     kept: &Kept<A>,
@@ -29,11 +30,23 @@ pub fn prepare<A: Ledger, T: Touches>(
 ) -> Result<Plan<A>, AllocError>
     requires { CanBeMerged (T.is_touched tree.now) kept.now new.now }
     ensures fits { IfOk result (λ p. PlacesFit p kept.now new.now) }
-    ensures merged { IfOk result (λ p. MergedInto (T.is_touched tree.now) kept.now new.now (filled p kept.now new.now)) }
-    ensures stands { IfOk result (λ p. StandsAfter (T.is_touched tree.now) kept.now new.now (filled p kept.now new.now)) }
+    ensures merged { IfOk result (λ p.
+        MergedInto (T.is_touched tree.now) kept.now new.now (filled p kept.now new.now)) }
+    ensures stands { IfOk result (λ p.
+        StandsAfter (T.is_touched tree.now) kept.now new.now (filled p kept.now new.now)) }
 {
     let plan = plan_level(alloc, kept, new, tree)?;
     Ok(plan)
+}
+
+/// Room for the entries of a line, if there is one.
+fn line_room<A: Ledger>(alloc: Global, patch: &Patch) -> Result<Vec<Entry<A>>, AllocError>
+    ensures { IfOk result (λ r. HasLineRoom (line_of patch.now) r) }
+{
+    match patch.line() {
+        Some(line) => Vec::with_capacity(alloc, line.len()),
+        None => Ok(Vec::new(alloc)),
+    }
 }
 
 #[cycle(planning)]
@@ -46,143 +59,71 @@ fn plan_level<A: Ledger, T: Touches>(
     requires { FitsFor (is_untouched (T.is_touched tree.now)) kept.now new.now }
     ensures { IfOk result (IsPlan (T.is_touched tree.now) kept.now new.now) }
 {
-    let level = prepare_level(alloc, kept, new, tree)?;
-    let room = Vec::with_capacity(alloc, level.order.len())?;
-    let steps = plan_steps(alloc, kept, new, tree, &level.order)?;
+    let names = new_keys(alloc, &new.entries)?;
+    let looked = look(alloc, &kept.entries, &names, tree)?;
+    let patch = kept
+        .graph
+        .patch(alloc, &looked.gone, &names, &looked.found)?;
+    let mut steps = plan_entries(alloc, kept, &new.entries, &looked.found, tree)?;
+    let mut inner = plan_groups(alloc, kept, &looked.inner, tree)?;
+    steps.append(&mut inner)?;
+    let made = Vec::with_capacity(alloc, names.len())?;
+    let room = line_room(alloc, &patch)?;
     Ok(Plan {
         alloc,
-        graph: level.graph,
+        patch,
         steps,
+        made,
         room,
     })
 }
 
-/// The names of a level of a kept list.
-fn kept_keys<A: Ledger>(alloc: Global, entries: &[Entry<A>]) -> Result<Vec<EntryKey>, AllocError>
-    ensures { IfOk result (λ v. v.items ≡ kept_names (kept_entries entries.now)) }
-{
-    let mut all = Vec::with_capacity(alloc, entries.len())?;
-    for entry in entries {
-        all.push(key_of(entry))?;
-    }
-    Ok(all)
-}
-
+/// The steps of the entries of a new level, which have these places in the kept one. Groups that the new level does not name
+/// and in which nothing is touched have no step: they stand as they were.
 #[cycle(planning)]
-fn plan_steps<A: Ledger, T: Touches>(
+fn plan_entries<A: Ledger, T: Touches>(
     alloc: Global,
     kept: &Kept<A>,
-    new: &NewList<A>,
+    new: &[NewEntry<A>],
+    found: &[Option<usize>],
     tree: &T,
-    order: &[EntryKey],
 ) -> Result<Vec<Step<A>>, AllocError>
-    requires fits { FitsFor (is_untouched (T.is_touched tree.now)) kept.now new.now }
-    requires stand { (k : _) → Contains order.now k → Stands (T.is_touched tree.now) kept.now new.now k }
-    ensures { IfOk result (λ v. StepsFor (T.is_touched tree.now) kept.now new.now order.now (steps_seen v.items)) }
+    requires fit { EntriesFit (T.is_touched tree.now) kept.now.entries (new_entries new.now) }
+    requires found { found.now
+        ≡ map (λ k. place_in (T.is_touched tree.now) kept.now.entries k) (new_names (new_entries new.now)) }
+    ensures { IfOk result (λ v.
+        NewSteps (T.is_touched tree.now) kept.now.entries (new_entries new.now) (steps_seen v.items)) }
 {
-    let old = Places::new(alloc, kept_keys(alloc, &kept.entries)?)?;
-    let fresh = Places::new(alloc, new_keys(alloc, &new.entries)?)?;
-    let mut steps = Vec::with_capacity(alloc, order.len())?;
-    for key in order {
-        let step = plan_step(
-            alloc,
-            kept,
-            new,
-            tree,
-            *key,
-            old.find(*key),
-            fresh.find(*key),
-        )?;
+    let mut steps = Vec::with_capacity(alloc, new.len())?;
+    for (i, entry) in new.iter().enumerate() {
+        let step = plan_entry(alloc, kept, entry, found[i], tree)?;
         steps.push(step)?;
     }
     Ok(steps)
 }
 
-/// The step for a name, which has these places in the two levels.
+/// The step of a new entry, which has this place in the kept level.
 #[cycle(planning)]
-fn plan_step<A: Ledger, T: Touches>(
+fn plan_entry<A: Ledger, T: Touches>(
     alloc: Global,
     kept: &Kept<A>,
-    new: &NewList<A>,
+    entry: &NewEntry<A>,
+    place: Option<usize>,
     tree: &T,
-    key: EntryKey,
-    old: Option<usize>,
-    fresh: Option<usize>,
 ) -> Result<Step<A>, AllocError>
-    requires fits { FitsFor (is_untouched (T.is_touched tree.now)) kept.now new.now }
-    requires stands { Stands (T.is_touched tree.now) kept.now new.now key }
-    requires old { old ≡ place_of same_entry (kept_names kept.now.entries) key }
-    requires fresh { fresh ≡ place_of same_entry (new_names new.now) key }
-    ensures { IfOk result (λ s. StepsFor (T.is_touched tree.now) kept.now new.now (key ∷ []) (steps_seen (s ∷ []))) }
+    requires fit { EntriesFit (T.is_touched tree.now) kept.now.entries (new_entries (entry.now ∷ [])) }
+    requires place { place ∷ []
+        ≡ map (λ k. place_in (T.is_touched tree.now) kept.now.entries k) (new_names (new_entries (entry.now ∷ []))) }
+    ensures { IfOk result (λ s.
+        NewSteps (T.is_touched tree.now) kept.now.entries (new_entries (entry.now ∷ [])) (steps_seen (s ∷ []))) }
 {
-    match (fresh, old) {
-        (Some(place), _) => plan_new(alloc, kept, new, tree, key, old, place),
-        (None, Some(place)) => plan_old(alloc, kept, new, tree, key, place),
-        (None, None) => unreachable!(),
-    }
-}
-
-/// The step for a name of the new level.
-#[cycle(planning)]
-fn plan_new<A: Ledger, T: Touches>(
-    alloc: Global,
-    kept: &Kept<A>,
-    new: &NewList<A>,
-    tree: &T,
-    key: EntryKey,
-    old: Option<usize>,
-    place: usize,
-) -> Result<Step<A>, AllocError>
-    requires fits { FitsFor (is_untouched (T.is_touched tree.now)) kept.now new.now }
-    requires old { old ≡ place_of same_entry (kept_names kept.now.entries) key }
-    requires fresh { place_of same_entry (new_names new.now) key ≡ Some place }
-    ensures { IfOk result (λ s. StepsFor (T.is_touched tree.now) kept.now new.now (key ∷ []) (steps_seen (s ∷ []))) }
-{
-    match &new.entries[place] {
-        NewEntry::Leaf(_) => Ok(Step::New(place)),
-        NewEntry::Group {
-            key,
-            opacity,
-            inner,
-        } => {
-            let plan = plan_group(alloc, kept, old, inner, tree)?;
+    match entry {
+        NewEntry::Leaf(_) => Ok(Step::Leaf(place)),
+        NewEntry::Group { inner, .. } => {
+            let plan = plan_new_group(alloc, kept, place, inner, tree)?;
             Ok(Step::Group {
-                key: *key,
-                opacity: *opacity,
-                old,
-                new: Some(place),
-                plan,
-            })
-        }
-    }
-}
-
-/// The step for a name of the kept level alone.
-#[cycle(planning)]
-fn plan_old<A: Ledger, T: Touches>(
-    alloc: Global,
-    kept: &Kept<A>,
-    new: &NewList<A>,
-    tree: &T,
-    key: EntryKey,
-    place: usize,
-) -> Result<Step<A>, AllocError>
-    requires fits { FitsFor (is_untouched (T.is_touched tree.now)) kept.now new.now }
-    requires stands { Stands (T.is_touched tree.now) kept.now new.now key }
-    requires old { place_of same_entry (kept_names kept.now.entries) key ≡ Some place }
-    requires fresh { place_of same_entry (new_names new.now) key ≡ None }
-    ensures { IfOk result (λ s. StepsFor (T.is_touched tree.now) kept.now new.now (key ∷ []) (steps_seen (s ∷ []))) }
-{
-    match &kept.entries[place] {
-        Entry::Leaf(_) => Ok(Step::Old(place)),
-        Entry::Group(group) => {
-            let none = NewList::empty(alloc);
-            let plan = plan_level(alloc, &group.inner, &none, tree)?;
-            Ok(Step::Group {
-                key: group.key,
-                opacity: group.opacity,
-                old: Some(place),
-                new: None,
+                old: place,
+                is_new: true,
                 plan,
             })
         }
@@ -191,15 +132,14 @@ fn plan_old<A: Ledger, T: Touches>(
 
 /// The plan of the merge of a group's new list with the group at a place of the kept level, if there is one.
 #[cycle(planning)]
-fn plan_group<A: Ledger, T: Touches>(
+fn plan_new_group<A: Ledger, T: Touches>(
     alloc: Global,
     kept: &Kept<A>,
     place: Option<usize>,
     new: &NewList<A>,
     tree: &T,
 ) -> Result<Plan<A>, AllocError>
-    requires group { IsGroupPlace place kept.now.entries }
-    requires fits { FitsFor (is_untouched (T.is_touched tree.now)) (old_list place kept.now.entries) new.now }
+    requires { GroupFits (T.is_touched tree.now) kept.now.entries place new.now }
     ensures { IfOk result (IsPlan (T.is_touched tree.now) (old_list place kept.now.entries) new.now) }
 {
     let Some(place) = place else {
@@ -209,5 +149,50 @@ fn plan_group<A: Ledger, T: Touches>(
     match &kept.entries[place] {
         Entry::Leaf(_) => unreachable!(),
         Entry::Group(group) => plan_level(alloc, &group.inner, new, tree),
+    }
+}
+
+/// The steps of the groups at these places, into which no new entry goes.
+#[cycle(planning)]
+fn plan_groups<A: Ledger, T: Touches>(
+    alloc: Global,
+    kept: &Kept<A>,
+    places: &[usize],
+    tree: &T,
+) -> Result<Vec<Step<A>>, AllocError>
+    requires { GroupsFit (T.is_touched tree.now) kept.now.entries places.now }
+    ensures { IfOk result (λ v. InnerSteps (T.is_touched tree.now) kept.now.entries places.now (steps_seen v.items)) }
+{
+    let mut steps = Vec::with_capacity(alloc, places.len())?;
+    for place in places {
+        let step = plan_kept_group(alloc, kept, *place, tree)?;
+        steps.push(step)?;
+    }
+    Ok(steps)
+}
+
+/// The step of the group at a place, into which no new entry goes.
+#[cycle(planning)]
+fn plan_kept_group<A: Ledger, T: Touches>(
+    alloc: Global,
+    kept: &Kept<A>,
+    place: usize,
+    tree: &T,
+) -> Result<Step<A>, AllocError>
+    requires { GroupFits (T.is_touched tree.now) kept.now.entries (Some place) list.nil }
+    ensures { IfOk result (λ s.
+        InnerSteps (T.is_touched tree.now) kept.now.entries (place ∷ []) (steps_seen (s ∷ []))) }
+{
+    match &kept.entries[place] {
+        Entry::Leaf(_) => unreachable!(),
+        Entry::Group(group) => {
+            let none = NewList::empty(alloc);
+            let plan = plan_level(alloc, &group.inner, &none, tree)?;
+            Ok(Step::Group {
+                old: Some(place),
+                is_new: false,
+                plan,
+            })
+        }
     }
 }

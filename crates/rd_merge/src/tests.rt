@@ -1,12 +1,12 @@
-//! Two merges of small lists, worked out by hand.
+//! Merges of small lists, worked out by hand.
 ghost use Rattle.std.specs.Prelude.{◌≡◌, ◌<◌, ◌||◌, ◌∷◌, [], true, false, IfOk};
 ghost use Rattle.rd_geom.specs.Plane.{has_none};
 ghost use Rattle.rd_keys.specs.Keys.{same_key};
 ghost use Rattle.rd_list.specs.Entries as list;
 ghost use Rattle.rd_list.specs.NewView.{new_entries};
-ghost use Rattle.rd_merge.specs.Internal.Sample.{one_item, whole_list, part_list};
+ghost use Rattle.rd_merge.specs.Internal.Sample.{IsFirst, late_list, one_item, part_list, whole_list};
 
-use crate::{Touches, gather, merge};
+use crate::{Touches, merge};
 use rd_geom::{Color, Rect, Steps};
 use rd_item::{Item, Shape};
 use rd_keys::{Arena, BoxKey, BoxMark, Part};
@@ -130,7 +130,91 @@ fn is_as_worked<A: Ledger>(kept: &Kept<A>, one: BoxKey, other: BoxKey) -> bool {
     }
 }
 
-// A first merge of nothing with the whole list, and a second one where the other box was touched.
+fn late<A: Ledger>(
+    alloc: Global,
+    one: BoxKey,
+    other: BoxKey,
+    outside: Rect,
+    inside: Rect,
+    made: &mut Steps<A>,
+) -> Result<NewList<A>, AllocError>
+    requires outside { has_none outside ≡ false }
+    requires inside { has_none inside ≡ false }
+    ensures { IfOk result (λ l. l ≡ late_list one other outside inside INK) }
+{
+    let mut inner = Vec::with_capacity(alloc, 1)?;
+    inner.push(leaf(other, Part::Back, inside, 2, made))?;
+    let mut entries = Vec::with_capacity(alloc, 3)?;
+    entries.push(NewEntry::Group {
+        key: one,
+        opacity: 128,
+        inner: NewList { entries: inner },
+    })?;
+    entries.push(leaf(other, Part::Content, inside, 2, made))?;
+    entries.push(leaf(one, Part::Content, outside, 2, made))?;
+    Ok(NewList { entries })
+}
+
+// Two entries of one box and a group of one leaf between them.
+fn is_lessened<A: Ledger>(kept: &Kept<A>, one: BoxKey) -> bool {
+    if kept.entries.len() != 3 {
+        return false;
+    }
+    let back = is_leaf(&kept.entries[0], one, Part::Back, 1);
+    let content = is_leaf(&kept.entries[2], one, Part::Content, 1);
+    match &kept.entries[1] {
+        Entry::Leaf(_) => false,
+        Entry::Group(group) => {
+            let inside = &group.inner.entries;
+            back && content && inside.len() == 1 && is_leaf(&inside[0], one, Part::Border, 1)
+        }
+    }
+}
+
+// The content of the other box has come between the group and the content of the first one.
+fn is_widened<A: Ledger>(kept: &Kept<A>, one: BoxKey, other: BoxKey) -> bool {
+    if kept.entries.len() != 4 {
+        return false;
+    }
+    let back = is_leaf(&kept.entries[0], one, Part::Back, 1);
+    let between = is_leaf(&kept.entries[2], other, Part::Content, 2);
+    let content = is_leaf(&kept.entries[3], one, Part::Content, 2);
+    match &kept.entries[1] {
+        Entry::Leaf(_) => false,
+        Entry::Group(group) => {
+            let inside = &group.inner.entries;
+            let border = inside.len() == 2 && is_leaf(&inside[0], one, Part::Border, 1);
+            back && between && content && border && is_leaf(&inside[1], other, Part::Back, 2)
+        }
+    }
+}
+
+// A first merge of nothing with the whole list.
+fn first<A: Ledger>(
+    alloc: Global,
+    one: BoxKey,
+    other: BoxKey,
+    outside: Rect,
+    inside: Rect,
+    made: &mut Steps<A>,
+) -> Result<Kept<A>, AllocError>
+    requires outside { has_none outside ≡ false }
+    requires inside { has_none inside ≡ false }
+    requires apart { same_key other one ≡ false }
+    ensures { IfOk result (IsFirst one other outside inside INK) }
+{
+    let list = whole(alloc, one, other, outside, inside, made)?;
+    let all = Only {
+        all: true,
+        key: other,
+    };
+    match merge(alloc, Kept::empty(alloc), list, &all) {
+        Ok(kept) => Ok(kept),
+        Err((_, e)) => Err(e),
+    }
+}
+
+// A second merge where the other box was touched.
 fn merged_twice<A: Ledger>(
     alloc: Global,
     one: BoxKey,
@@ -143,21 +227,63 @@ fn merged_twice<A: Ledger>(
     requires inside { has_none inside ≡ false }
     requires apart { same_key other one ≡ false }
 {
-    let first = whole(alloc, one, other, outside, inside, made)?;
+    let kept = first(alloc, one, other, outside, inside, made)?;
     let second = part(alloc, one, other, inside, made)?;
-    let all = Only {
-        all: true,
-        key: other,
-    };
     let touched = Only {
         all: false,
         key: other,
     };
-    match merge(alloc, Kept::empty(alloc), first, &all) {
-        Ok(kept) => match merge(alloc, kept, second, &touched) {
-            Ok(kept) => Ok(is_as_worked(&kept, one, other)),
-            Err((_, e)) => Err(e),
-        },
+    match merge(alloc, kept, second, &touched) {
+        Ok(kept) => Ok(is_as_worked(&kept, one, other)),
+        Err((_, e)) => Err(e),
+    }
+}
+
+// A second merge where the other box has gone, and nothing is new.
+fn merged_to_less<A: Ledger>(
+    alloc: Global,
+    one: BoxKey,
+    other: BoxKey,
+    outside: Rect,
+    inside: Rect,
+    made: &mut Steps<A>,
+) -> Result<bool, AllocError>
+    requires outside { has_none outside ≡ false }
+    requires inside { has_none inside ≡ false }
+    requires apart { same_key other one ≡ false }
+{
+    let kept = first(alloc, one, other, outside, inside, made)?;
+    let touched = Only {
+        all: false,
+        key: other,
+    };
+    match merge(alloc, kept, NewList::empty(alloc), &touched) {
+        Ok(kept) => Ok(is_lessened(&kept, one)),
+        Err((_, e)) => Err(e),
+    }
+}
+
+// A second merge where a new entry comes between two that stand already.
+fn merged_to_more<A: Ledger>(
+    alloc: Global,
+    one: BoxKey,
+    other: BoxKey,
+    outside: Rect,
+    inside: Rect,
+    made: &mut Steps<A>,
+) -> Result<bool, AllocError>
+    requires outside { has_none outside ≡ false }
+    requires inside { has_none inside ≡ false }
+    requires apart { same_key other one ≡ false }
+{
+    let kept = first(alloc, one, other, outside, inside, made)?;
+    let second = late(alloc, one, other, outside, inside, made)?;
+    let touched = Only {
+        all: false,
+        key: other,
+    };
+    match merge(alloc, kept, second, &touched) {
+        Ok(kept) => Ok(is_widened(&kept, one, other)),
         Err((_, e)) => Err(e),
     }
 }
@@ -178,23 +304,17 @@ fn merges<A: Ledger>(
     }
     match (Rect::new(0, 0, 4, 4), Rect::new(8, 0, 4, 4)) {
         (Some(outside), Some(inside)) => {
-            merged_twice(alloc, one, other, outside, inside, &mut made)
+            let twice = merged_twice(alloc, one, other, outside, inside, &mut made)?;
+            let less = merged_to_less(alloc, one, other, outside, inside, &mut made)?;
+            let more = merged_to_more(alloc, one, other, outside, inside, &mut made)?;
+            Ok(twice && less && more)
         }
         (_, _) => Ok(false),
     }
 }
 
-// Of nothing, nothing is gathered.
-fn gathers(alloc: Global) -> bool {
-    let mut entries: Vec<Entry<Brand>> = Vec::new(alloc);
-    let mut room: Vec<Entry<Brand>> = Vec::new(alloc);
-    gather(alloc, &mut entries, &[], &mut room);
-    room.is_empty()
-}
-
 #[test]
-fn two_merges(rt: HostRuntime) -> Result<(), Fail> {
-    assert!(rt; gathers(rt.alloc()));
+fn small_merges(rt: HostRuntime) -> Result<(), Fail> {
     let mut boxes = Arena::<u8, BoxMark>::starting_at(rt.alloc(), 2, 0);
     match (boxes.insert(0), boxes.insert(1)) {
         (Ok(one), Ok(other)) => {

@@ -1,5 +1,5 @@
 -- What the calls on tables and lists of nodes do, in a word each.
-use Rattle.std.specs.Prelude.{◌≡◌, ℕ, Bool, if◌then◌else◌, Option, Some, List, [], ◌∷◌, ◌++◌, length}
+use Rattle.std.specs.Prelude.{◌≡◌, ℕ, Bool, if◌then◌else◌, Some, List, [], ◌∷◌, ◌++◌, length}
 use Rattle.indexmap.specs.IndexMap.{IndexMap}
 use Rattle.std.specs.declared.vec.Vec.{Vec}
 use Rattle.rd_keys.specs.declared.entry.EntryKey.{EntryKey}

@@ -1,26 +1,16 @@
 -- Plans written as tokens, so that proofs can tell them apart.
-use Rattle.std.specs.Prelude.{◌≡◌, refl, ℕ, Option, ◌⊎◌}
-use Rattle.std.specs.Coded.{Coded, code_by, coded×, coded⊎, coded_ℕ, coded_option}
-use mathlib.Core.Logic.{inl, inr}
-use Rattle.rd_list.specs.Wrappers.{Wrapper}
-use Rattle.rd_merge.specs.Plans.{LeafPlace, GroupPlaces, old, new}
+use Rattle.std.specs.Prelude.{refl, ℕ, Bool, Option}
+use Rattle.std.specs.Coded.{Coded, code_by, coded×, coded_ℕ, coded_bool, coded_option}
+use Rattle.rd_keys.specs.declared.entry.EntryKey.{EntryKey}
+use Rattle.rd_graph.specs.Patches.{PatchOf}
+use Rattle.rd_list.specs.Internal.EntriesCode.{entries_code}
+use Rattle.rd_merge.specs.Plans.{GroupStep, Steps, PlanList}
 
-abbrev pub split_place : LeafPlace → ℕ ⊎ ℕ
-split_place (old i) = inl i
-split_place (new j) = inr j
+abbrev pub group_code : Coded (PatchOf EntryKey) → Coded GroupStep
+group_code p =
+    code_by (Option ℕ × (Bool × PatchOf EntryKey)) (coded× (coded_option coded_ℕ) (coded× coded_bool p)) (λ g. (g.old, (g.is_new, g.patch)))
+    (λ t. record { old = t.0; is_new = t.1.0; patch = t.1.1 }) (λ _. refl)
 
-abbrev pub join_place : ℕ ⊎ ℕ → LeafPlace
-join_place (inl i) = old i
-join_place (inr j) = new j
-
-pub join-split : (p : LeafPlace) → join_place (split_place p) ≡ p
-join-split (old i) = refl
-join-split (new j) = refl
-
-abbrev pub place_code : Coded LeafPlace
-place_code = code_by (ℕ ⊎ ℕ) (coded⊎ coded_ℕ coded_ℕ) split_place join_place join-split
-
-abbrev pub places_code : Coded Wrapper → Coded GroupPlaces
-places_code w =
-    code_by (Wrapper × (Option ℕ × Option ℕ)) (coded× w (coded× (coded_option coded_ℕ) (coded_option coded_ℕ))) (λ g. (g.of, (g.old, g.new)))
-    (λ p. record { of = p.0; old = p.1.0; new = p.1.1 }) (λ _. refl)
+abbrev pub plan_code : Coded (PatchOf EntryKey) → Coded PlanList
+plan_code p =
+    code_by (PatchOf EntryKey × Steps) (coded× p (entries_code (coded_option coded_ℕ) (group_code p))) (λ l. (l.patch, l.steps)) (λ t. record { patch = t.0; steps = t.1 }) (λ _. refl)

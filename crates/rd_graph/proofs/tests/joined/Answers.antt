@@ -1,4 +1,4 @@
-use Rattle.std.proofs.Common.{rules, ◌≡◌, List, [], ◌∷◌, inl, inr, ◌⊎◌}
+use Rattle.std.proofs.Common.{rules, [], ◌∷◌, inl, inr}
 use Rattle.rd_graph.specs.Orders.{Before, Once}
 use Rattle.rd_graph.proofs.Listing.{has_from, contains_from}
 use Rattle.rd_keys.specs.Keys.{BoxKey}

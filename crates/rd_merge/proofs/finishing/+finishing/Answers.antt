@@ -1,97 +1,154 @@
-use Rattle.std.proofs.Common.{arith, refl, ap, ◌∙◌, sym, subst, length, length-append, ◌∷◌, ◌++◌, []}
+use Rattle.std.proofs.Common.{arith, ap, ◌∙◌, ◌≡◌, ◌+◌, ◌∷◌, []}
+use Rattle.std.specs.Prelude.{option_map, vec_len}
+use Rattle.std.specs.Vec.Iter.{into_iter_items}
+use Rattle.rd_graph.specs.Patches.{line_of}
+use Rattle.rd_graph.proofs.PutInPlace.{fits}
+use Rattle.rd_list.specs.Entries.{◌▷◌, list_size}
 use Rattle.rd_list.specs.KeptView.{kept_entries}
 use Rattle.rd_list.specs.NewView.{new_entries}
-use Rattle.rd_merge.specs.Plans.{fill}
+use Rattle.rd_merge.specs.Plans.{size_of, made_count}
 use Rattle.rd_merge.specs.PlanView.{steps_seen}
-use Rattle.rd_merge.specs.Internal.Taking.{KeepsOld, KeepsNew}
-use Rattle.rd_merge.proofs.AtPlaces.{old_leaf_within}
-use Rattle.rd_merge.proofs.Filling.{keeps_all_old, keeps_all_new, none_in, parts_next, next_placed, step_size, next_filled, next_old, next_new, made_so, nothing_left, old_step_placed, old_step_filled, old_step_kept, group_step_size, group_step_fits}
+use Rattle.rd_merge.proofs.InPlace.{kept-size}
+use Rattle.rd_merge.proofs.Stepping.{start_level, start_fits, start_stepped, first_made, first_size, none_counted, now_fits, then_fits, then_stepped, line_so, none_made, room_so, group_size, group_there, group_named, group_fits, group_stepped}
 use Rattle.rd_merge.proofs.finishing.+finishing.Goals as goal
 
 pub finish-loop-step-init : goal.finish-loop-step-init
 finish-loop-step-init g t c =
     let gives = c.into_iter-step-iterator.ensures.into_iter_gives.0 in
-    let ok = c.plan.inside.room.ok in
+    let steps = ap steps_seen gives ∙ ap (λ p. p.steps) c.plan.view_is in
+    let made_ok = c.plan.inside.made.ok in
     let empty = c.plan.invariant.0 in
+    let level = start_level c.kept.inside.entries.items c.plan.inside.made.items (omega (arith, made_ok.0, empty)) ∙ ap (λ k. k.entries) c.kept.view_is in
+    let news = ap new_entries c.into_iter-fresh.ensures.rest ∙ c.new.view_is in
+    let ok = c.kept.inside.entries.ok in
+    let size = kept-size c.kept.inside.entries.items in
+    let kept_size = ap (λ k. size_of k.entries) c.kept.view_is in
+    let count = ap made_count steps in
+    let counted = ap (λ p. made_count p.steps) c.plan.view_is in
     let room = c.plan.invariant.1 in
-    let sizes = ap length gives in (
+    let listed = ap list_size steps in (
       tt,
       tt,
-      ap steps_seen gives ∙ ap (λ p. p.entries) c.plan.view_is,
-      none_in c.plan.inside.room.items (omega (arith, ok.0, empty)),
-      subst (λ x. KeepsOld [] c.args.kept.entries x) (sym (ap (λ k. k.entries) c.kept.view_is)) (keeps_all_old c.args.kept.entries),
-      subst (λ x. KeepsNew [] c.args.new x) (sym c.new.view_is) (keeps_all_new c.args.new),
-      omega (arith, empty, room, sizes),
+      start_fits (size_of c.args.kept.entries) (steps_seen c.into_iter-step-iterator.result.rest.items) c.args.plan.steps (kept_entries c.kept.inside.entries.items ▷ kept_entries c.plan.inside.made.items) c.args.kept.entries (new_entries (into_iter_items c.into_iter-fresh.result)) c.args.new steps level news c.requires.steps,
+      start_stepped (size_of c.args.kept.entries) (steps_seen c.into_iter-step-iterator.result.rest.items) c.args.plan.steps (kept_entries c.kept.inside.entries.items ▷ kept_entries c.plan.inside.made.items) c.args.kept.entries (new_entries (into_iter_items c.into_iter-fresh.result)) c.args.new steps level news,
+      omega (arith, ok.0, size, kept_size),
+      omega (arith, empty, count),
+      omega (arith, room, counted),
+      omega (arith, listed),
     )
 
 pub finish-loop-step-init-derived : goal.finish-loop-step-init-derived
 finish-loop-step-init-derived g t c = (tt, tt)
 
-pub finish-finish_step-entry-requires : goal.finish-finish_step-entry-requires
-finish-finish_step-entry-requires g t c κs within =
-    let done = c.loop-step.yielded in
-    let rest = c.loop-step.step-iterator.rest.items in
-    let inv = c.loop-step.invariant in
-    let next = c.in-Some.ensures.steps.0 in
-    let small = step_size c.args.plan c.args.kept c.args.new (done ++ rest) done rest c.next.new.self.rest.items c.in-Some.step c.requires inv.2 refl next (kept_entries c.loop-step.old.items) (new_entries c.loop-step.fresh.items) inv.4 inv.5 in
-    (omega (arith, small, c.decreases), (within, next_placed c.args.plan c.args.kept c.args.new (done ++ rest) done rest c.next.new.self.rest.items c.in-Some.step c.requires inv.2 refl next (kept_entries c.loop-step.old.items) (new_entries c.loop-step.fresh.items) inv.4 inv.5))
-
-pub finish-put-requires : goal.finish-put-requires
-finish-put-requires g t c = let inv = c.loop-step.invariant.6 in let next = ap length c.in-Some.ensures.steps.0 in omega (arith, inv, next)
-
-pub finish-loop-step-preserved : goal.finish-loop-step-preserved
-finish-loop-step-preserved g t c =
-    let done = c.loop-step.yielded in
-    let rest = c.loop-step.step-iterator.rest.items in
+pub finish-finish_step-requires : goal.finish-finish_step-requires
+finish-finish_step-requires g t c κs within =
+    let s = c.in-Some.step in
     let more = c.next.new.self.rest.items in
-    let inv = c.loop-step.invariant in
     let next = c.in-Some.ensures.steps.0 in
-    let size = ap length next in
-    let ok = c.put.new.room.ok in
-    let was = c.loop-step.room.ok in
-    let len = ap length c.put.ensures.put ∙ length-append c.loop-step.room.items (c.finish_step-entry.result ∷ []) in
-    let space = c.put.ensures.room in
-    let roomy = inv.6 in (
-      inv.0,
-      inv.1,
-      ap steps_seen (sym (parts_next (done ++ rest) done rest more c.in-Some.step refl next)) ∙ inv.2,
-      next_filled c.args.plan c.args.kept c.args.new (done ++ rest) done rest more c.in-Some.step c.requires inv.2 refl next (kept_entries c.loop-step.old.items) (new_entries c.loop-step.fresh.items) inv.4 inv.5
-          c.loop-step.room.items c.put.new.room.items c.finish_step-entry.result inv.3 c.finish_step-entry.ensures.filled c.put.ensures.put,
-      next_old c.args.plan c.args.kept c.args.new (done ++ rest) done rest more c.in-Some.step c.requires inv.2 refl next (kept_entries c.loop-step.old.items) (new_entries c.loop-step.fresh.items) inv.4 inv.5
-          (kept_entries c.finish_step-entry.new.old.items) c.finish_step-entry.ensures.old,
-      next_new c.args.plan c.args.kept c.args.new (done ++ rest) done rest more c.in-Some.step c.requires inv.2 refl next (kept_entries c.loop-step.old.items) (new_entries c.loop-step.fresh.items) inv.4 inv.5
-          (new_entries c.finish_step-entry.new.fresh.items) c.finish_step-entry.ensures.fresh,
-      omega (arith, ok.0, was.0, len, space, roomy, size),
-    )
-
-pub finish-returns : goal.finish-returns
-finish-returns g t c =
     let inv = c.loop-step.invariant in
-    let ok = c.loop-step.step-iterator.rest.ok in
-    let over = c.in-None.ensures.steps in
-    let last = nothing_left c.loop-step.yielded c.loop-step.step-iterator.rest.items (omega (arith, ok.0, over.0)) in
-    made_so c.args.plan c.args.kept c.args.new c.plan.inside.graph (kept_entries c.loop-step.room.items) (ap (λ p. p.graph) c.plan.view_is)
-    (inv.3 ∙ ap (λ x. fill x c.args.kept.entries c.args.new) (ap steps_seen (sym last) ∙ inv.2))
-
-pub finish_step-take_at-requires : goal.finish_step-take_at-requires
-finish_step-take_at-requires g t c =
-    let ok = c.args.old.now.ok in
-    let w = old_leaf_within c.args.old.now.items c.in-Old.place (old_step_placed c.args.step c.args.old.now.items (new_entries c.args.fresh.now.items) c.in-Old.place c.in-Old.is c.requires) in
-    omega (arith, ok.0, w)
-
-pub finish_step-finish-inner-requires : goal.finish_step-finish-inner-requires
-finish_step-finish-inner-requires g t c κs within =
-    let i = c.in-Group in
-    let size = group_step_size c.args.step i.key i.opacity i.old_place i.new_place i.plan i.is in (
-      omega (arith, size, c.decreases),
+    let size = ap (λ zs. list_size (steps_seen zs)) next ∙ first_size s more in
+    let count = ap (λ zs. made_count (steps_seen zs)) next ∙ first_made s more in
+    let listed = inv.7 in
+    let counted = inv.5 in
+    let room = inv.6 in (
+      omega (arith, size, listed, c.decreases),
       (
         within,
-        group_step_fits c.args.step i.key i.opacity i.old_place i.new_place i.plan i.is (kept_entries c.args.old.now.items) (new_entries c.args.fresh.now.items) c.take_group-kept.result c.take_new_group-new.result c.requires c.take_group-kept.ensures.taken c.take_new_group-new.ensures.taken,
+        (
+          now_fits (size_of c.args.kept.entries) s more (kept_entries c.loop-step.entries.items ▷ kept_entries c.loop-step.made.items) (new_entries (into_iter_items c.loop-step.fresh)) c.loop-step.step-iterator.rest.items next (vec_len c.loop-step.entries) inv.4 inv.2,
+          omega (arith, count, counted, room),
+        ),
       ),
     )
 
-pub finish_step-returns-in-Old-clause-filled : goal.finish_step-returns-in-Old-clause-filled
-finish_step-returns-in-Old-clause-filled g t c = old_step_filled c.args.step c.args.old.now.items (new_entries c.args.fresh.now.items) c.in-Old.place c.in-Old.is c.take_at.result c.requires c.take_at.ensures.taken
+pub finish-loop-step-preserved : goal.finish-loop-step-preserved
+finish-loop-step-preserved g t c =
+    let s = c.in-Some.step in
+    let more = c.next.new.self.rest.items in
+    let rest = c.loop-step.step-iterator.rest.items in
+    let next = c.in-Some.ensures.steps.0 in
+    let inv = c.loop-step.invariant in
+    let k = kept_entries c.loop-step.entries.items ▷ kept_entries c.loop-step.made.items in
+    let n = new_entries (into_iter_items c.loop-step.fresh) in
+    let k2 = kept_entries c.finish_step.new.entries.items ▷ kept_entries c.finish_step.new.made.items in
+    let n2 = new_entries (into_iter_items c.finish_step.new.fresh) in
+    let size = ap (λ zs. list_size (steps_seen zs)) next ∙ first_size s more in
+    let count = ap (λ zs. made_count (steps_seen zs)) next ∙ first_made s more in
+    let listed = inv.7 in
+    let counted = inv.5 in
+    let room = inv.6 in
+    let made = c.finish_step.ensures.made in
+    let wider = c.finish_step.ensures.room in (
+      inv.0,
+      inv.1,
+      then_fits (size_of c.args.kept.entries) s more k n rest next k2 n2 c.finish_step.ensures.stepped c.finish_step.ensures.left inv.2,
+      then_stepped (size_of c.args.kept.entries) s more k n rest next k2 n2 c.finish_step.ensures.stepped c.finish_step.ensures.left ∙ inv.3,
+      c.finish_step.ensures.entries ∙ inv.4,
+      omega (arith, count, counted, made),
+      omega (arith, room, wider),
+      omega (arith, size, listed),
+    )
 
-pub finish_step-returns-in-Old-clause-old : goal.finish_step-returns-in-Old-clause-old
-finish_step-returns-in-Old-clause-old g t c = old_step_kept c.args.step c.args.old.now.items (new_entries c.args.fresh.now.items) c.in-Old.place c.in-Old.is c.take_at.new.entries.items c.take_at.ensures.kept
+pub finish-in_line-entries-requires-clause-line : goal.finish-in_line-entries-requires-clause-line
+finish-in_line-entries-requires-clause-line g t c =
+    let inv = c.loop-step.invariant in
+    let ok = c.loop-step.step-iterator.rest.ok in
+    let over = c.in-None.ensures.steps in
+    let none = none_counted c.loop-step.step-iterator.rest.items (omega (arith, ok.0, over.0)) in
+    let entries = inv.4 in
+    let counted = inv.5 in
+    line_so (option_map (λ l. l.now) c.line.result) (line_of c.args.plan.patch) (vec_len c.loop-step.entries + vec_len c.loop-step.made) (size_of c.args.kept.entries + made_count c.args.plan.steps) (c.line.ensures ∙ ap (λ p. line_of p.patch) c.plan.view_is) (omega (arith, none, entries, counted)) c.requires.line
+
+pub finish-in_line-entries-requires-clause-still : goal.finish-in_line-entries-requires-clause-still
+finish-in_line-entries-requires-clause-still g t c =
+    let inv = c.loop-step.invariant in
+    let ok = c.loop-step.step-iterator.rest.ok in
+    let over = c.in-None.ensures.steps in
+    let none = none_counted c.loop-step.step-iterator.rest.items (omega (arith, ok.0, over.0)) in
+    let counted = inv.5 in
+    none_made (option_map (λ l. l.now) c.line.result) (line_of c.args.plan.patch) c.args.plan.steps (vec_len c.loop-step.made) (c.line.ensures ∙ ap (λ p. line_of p.patch) c.plan.view_is) (omega (arith, none, counted)) c.requires.still
+
+pub finish-in_line-entries-requires-clause-room : goal.finish-in_line-entries-requires-clause-room
+finish-in_line-entries-requires-clause-room g t c = room_so (option_map (λ l. l.now) c.line.result) (line_of c.plan.inside.patch) c.plan.inside.room c.line.ensures c.plan.invariant.2
+
+pub finish-apply-requires : goal.finish-apply-requires
+finish-apply-requires g t c = fits c.plan.inside.patch c.args.plan.patch c.kept.inside.graph c.args.kept.graph (ap (λ p. p.patch) c.plan.view_is) (ap (λ k. k.graph) c.kept.view_is) c.requires.patch
+
+pub finish_step-finish_group-entry-requires : goal.finish_step-finish_group-entry-requires
+finish_step-finish_group-entry-requires g t c κs within =
+    let i = c.in-Group in
+    let ok = c.args.entries.now.ok in
+    let k = kept_entries c.args.entries.now.items in
+    let m = kept_entries c.args.made.now.items in
+    let n = new_entries (into_iter_items c.args.fresh.now) in
+    let size = kept-size c.args.entries.now.items in
+    let long : size_of k ≡ vec_len c.args.entries.now = omega (arith, size, ok.0) in
+    let smaller = group_size c.args.step i.old i.is_new i.plan i.is in (
+      omega (arith, smaller, c.decreases),
+      (
+        within,
+        (
+          group_there c.args.step i.old i.is_new i.plan i.is (vec_len c.args.entries.now) k m n long c.requires.fits,
+          (
+            group_named c.args.step i.old i.is_new i.plan i.is (vec_len c.args.entries.now) k m n long c.requires.fits,
+            group_fits c.args.step i.old i.is_new i.plan i.is (vec_len c.args.entries.now) k m n long c.requires.fits,
+          ),
+        ),
+      ),
+    )
+
+pub finish_step-returns-in-Group-clause-stepped : goal.finish_step-returns-in-Group-clause-stepped
+finish_step-returns-in-Group-clause-stepped g t c =
+    let i = c.in-Group in
+    let ok = c.args.entries.now.ok in
+    let later = c.finish_group-entry.new.entries.ok in
+    let k = kept_entries c.args.entries.now.items in
+    let m = kept_entries c.args.made.now.items in
+    let n = new_entries (into_iter_items c.args.fresh.now) in
+    let size = kept-size c.args.entries.now.items in
+    let size_later = kept-size c.finish_group-entry.new.entries.items in
+    let len = c.finish_group-entry.ensures.len in
+    let long : size_of k ≡ vec_len c.args.entries.now = omega (arith, size, ok.0) in
+    c.put-in-Group.ensures.put
+    ∙ group_stepped c.args.step i.old i.is_new i.plan i.is (vec_len c.args.entries.now) k m n long c.requires.fits (kept_entries c.finish_group-entry.new.entries.items) (kept_entries (c.finish_group-entry.result ∷ []))
+    (omega (arith, size, size_later, ok.0, later.0, len)) c.finish_group-entry.ensures.others c.finish_group-entry.ensures.made

@@ -1,195 +1,256 @@
-use Rattle.std.specs.Prelude.{[]}
-use Rattle.std.proofs.Common.{rules, arith, ap, ◌∙◌, sym, subst, length}
-use Rattle.std.specs.Prelude.{IfOk, Contains, slice_index_or}
-use Rattle.rd_merge.specs.LevelMade.{FitsFor}
-use Rattle.rd_keys.specs.declared.entry.EntryKey.{EntryKey}
-use Rattle.rd_keys.specs.declared.entry.EntryKey.TheVariants as key
-use Rattle.rd_keys.specs.declared.entry.Part.TheVariants.{Back}
+use Rattle.std.proofs.Common.{arith, ap, ◌∙◌, sym, subst, refl, length, [], Some}
+use Rattle.std.specs.Prelude.{IfOk, map}
 use Rattle.rd_graph.specs.Orders.{Once}
-use Rattle.rd_graph.proofs.Entries.{has_get}
-use Rattle.rd_graph.proofs.Listing.{contains_from}
-use Rattle.rd_list.specs.Entries.{list_size}
+use Rattle.rd_graph.specs.Patches.{FitsPatch}
+use Rattle.rd_list.specs.Entries.{list_size, nil}
 use Rattle.rd_list.specs.EntryNames.{new_names}
 use Rattle.rd_list.specs.KeptView.{kept_entries}
 use Rattle.rd_list.specs.NewView.{new_entries}
 use Rattle.rd_merge.specs.Going.{is_untouched}
+use Rattle.rd_merge.specs.Fitting.{FitsFor}
+use Rattle.rd_merge.specs.Looking.{kept_names}
 use Rattle.rd_merge.specs.Merging.{IsPlan}
+use Rattle.rd_merge.specs.Plans.{IsGroupPlace, old_list, made_count}
 use Rattle.rd_merge.specs.PlanView.{steps_seen}
-use Rattle.rd_merge.specs.Internal.Steps.{kept_names, StepsFor}
-use Rattle.rd_merge.proofs.Planned.{planned}
-use Rattle.rd_merge.proofs.Planning.{old_place_within, new_place_within, has_place, new_leaf_step, new_inner_size, new_group_place, new_group_fits, new_group_step, old_leaf_step, old_group_fits, old_group_step, none_fits, group_within_vector, group_no_leaf, group_at_is, group_size, whole_take, steps_next, steps_length, order_stands, found_in}
+use Rattle.rd_merge.specs.Internal.Planning.{EntriesFit, GroupsFit, NewSteps, InnerSteps, place_in}
+use Rattle.rd_merge.proofs.PlanLoops.{steps_append, whole_take, new_next, inner_next_step, fit_at, place_here, found_long, groups_at, new_size_at, group_within, group_no_leaf, group_list, group_size, list_fits, list_plan, none_fits, entries_fit, groups_fit, looked_as, can_patch_as, is_patched_as}
+use Rattle.rd_merge.proofs.PlannedLevel.{can_patch, planned, few_made}
 use Rattle.rd_merge.proofs.preparing.+planning.Goals as goal
 
--- ---- plan_group
+-- ---- plan_entries
 
-pub plan_group-plan_level-requires : goal.plan_group-plan_level-requires
-plan_group-plan_level-requires g t c κs within =
+pub plan_entries-loop-i-init : goal.plan_entries-loop-i-init
+plan_entries-loop-i-init g t c = record { steps = subst (λ us. NewSteps (g.T.Touches.is_touched c.args.tree.now) c.args.kept.now.entries nil (steps_seen us)) (sym c.in_ok-steps.ensures.items) tt }
+
+pub plan_entries-bounds-found-i : goal.plan_entries-bounds-found-i
+plan_entries-bounds-found-i g t c = found_long (g.T.Touches.is_touched c.args.tree.now) c.args.kept.now.entries c.args.new.now c.loop-i.i c.args.found.now c.loop-i-test.true c.requires.found
+
+pub plan_entries-plan_entry-requires : goal.plan_entries-plan_entry-requires
+plan_entries-plan_entry-requires g t c κs within =
     let touched = g.T.Touches.is_touched c.args.tree.now in
-    let none = ap (λ k. list_size k.entries) c.empty-none.ensures in
-    (omega (arith, none, c.decreases), (within.0, (within.1, none_fits (is_untouched touched) c.args.kept.now.entries c.args.place c.empty-none.result c.args.new.now c.in_default.is c.empty-none.ensures c.requires.fits)))
-
-pub plan_group-index-requires : goal.plan_group-index-requires
-plan_group-index-requires g t c =
-    let ok = c.kept.inside.entries.ok in
-    let w = group_within_vector c.kept.inside.entries.items c.args.kept.now.entries (ap (λ k. k.entries) c.kept.view_is) c.args.place c.in-Some.place c.in-Some.is c.requires.group in
-    omega (arith, ok.0, w)
-
-pub plan_group-unreachable-requires : goal.plan_group-unreachable-requires
-plan_group-unreachable-requires g t c =
-    group_no_leaf c.kept.inside.entries.items c.args.kept.now.entries (ap (λ k. k.entries) c.kept.view_is) c.args.place c.in-Some.place c.in-Some.is c.requires.group c.index.result.now c.in-Leaf.field-0 c.index.ensures c.in-Leaf.is
-
-pub plan_group-unreachable-unreachable : goal.plan_group-unreachable-unreachable
-plan_group-unreachable-unreachable g t c =
-    group_no_leaf c.kept.inside.entries.items c.args.kept.now.entries (ap (λ k. k.entries) c.kept.view_is) c.args.place c.in-Some.place c.in-Some.is c.requires.group c.index.result.now c.in-Leaf.field-0 c.index.ensures c.in-Leaf.is
-
-pub plan_group-plan_level-requires-in-Group : goal.plan_group-plan_level-requires-in-Group
-plan_group-plan_level-requires-in-Group g t c κs within =
-    let touched = g.T.Touches.is_touched c.args.tree.now in
-    let es = c.kept.inside.entries.items in
-    let view = ap (λ k. k.entries) c.kept.view_is in
-    let w = group_within_vector es c.args.kept.now.entries view c.args.place c.in-Some.place c.in-Some.is c.requires.group in
-    let size = group_size es c.args.kept.now.entries view c.in-Some.place c.index.result.now c.in-Group.group w c.index.ensures c.in-Group.is in
-    let is = group_at_is es c.args.kept.now.entries view c.args.place c.in-Some.place c.in-Some.is c.requires.group c.index.result.now c.in-Group.group c.index.ensures c.in-Group.is in
-    (omega (arith, size, c.decreases), (within.0, (within.1, subst (λ y. FitsFor (is_untouched touched) y c.args.new.now) (sym is) c.requires.fits)))
-
-pub plan_group-returns : goal.plan_group-returns
-plan_group-returns g t c =
-    let es = c.kept.inside.entries.items in
-    let is = group_at_is es c.args.kept.now.entries (ap (λ k. k.entries) c.kept.view_is) c.args.place c.in-Some.place c.in-Some.is c.requires.group c.index.result.now c.in-Group.group c.index.ensures c.in-Group.is in
-    subst (λ y. IfOk c.plan_level-in-Group.result (IsPlan (g.T.Touches.is_touched c.args.tree.now) y c.args.new.now)) is c.plan_level-in-Group.ensures
-
--- ---- plan_level
-
-pub plan_level-plan_steps-requires : goal.plan_level-plan_steps-requires
-plan_level-plan_steps-requires g t c κs within =
-    let touched = g.T.Touches.is_touched c.args.tree.now in
-    (omega (arith, c.decreases), (within.0, (within.1, (c.requires, (λ k d. order_stands touched c.args.kept.now c.args.new.now c.in_ok-level.level.graph c.in_ok-level.level.order.items c.requires c.in_ok-level.ensures.made k (subst (λ ks. Contains ks k) c.deref.ensures.value d))))))
-
-pub plan_level-invariant_of-result : goal.plan_level-invariant_of-result
-plan_level-invariant_of-result g t c =
-    let room = c.in_ok-room.ensures in
-    let steps = steps_length (g.T.Touches.is_touched c.args.tree.now) c.args.kept.now c.args.new.now c.deref.result.now c.in_ok-steps.steps.items c.in_ok-steps.ensures in
-    let line = ap length c.deref.ensures.value in
-    let ok = c.in_ok-level.level.order.ok in
-    let len = c.len.ensures in
-    let capacity = room.capacity in
-    (room.len, omega (arith, steps, line, ok.0, len, capacity))
-
-pub plan_level-returns : goal.plan_level-returns
-plan_level-returns g t c =
-    planned (g.T.Touches.is_touched c.args.tree.now) c.args.kept.now c.args.new.now c.requires c.in_ok-level.level.graph c.in_ok-level.level.order.items (steps_seen c.in_ok-steps.steps.items) c.in_ok-level.ensures.made
-    (subst (λ ks. StepsFor (g.T.Touches.is_touched c.args.tree.now) c.args.kept.now c.args.new.now ks (steps_seen c.in_ok-steps.steps.items)) c.deref.ensures.value c.in_ok-steps.ensures)
-
--- ---- plan_new
-
-pub plan_new-index-requires : goal.plan_new-index-requires
-plan_new-index-requires g t c =
-    let ok = c.new.inside.entries.ok in
-    let w = new_place_within c.new.inside.entries.items c.args.new.now c.args.key c.args.place c.new.view_is c.requires.fresh in
-    omega (arith, ok.0, w)
-
-pub plan_new-plan_group-requires : goal.plan_new-plan_group-requires
-plan_new-plan_group-requires g t c κs within =
-    let touched = g.T.Touches.is_touched c.args.tree.now in
-    let i = c.in-Group in
-    let es = c.new.inside.entries.items in
-    let size = new_inner_size touched c.args.kept.now c.args.new.now es c.new.view_is c.args.key c.args.place c.requires.fresh c.index.result.now c.index.ensures i.key i.opacity i.inner i.is in
-    let place = new_group_place touched c.args.kept.now c.args.new.now es c.new.view_is c.args.key c.args.place c.requires.fresh c.index.result.now c.index.ensures i.key i.opacity i.inner i.is c.args.old c.requires.old in
-    let fits = new_group_fits touched c.args.kept.now c.args.new.now es c.new.view_is c.args.key c.args.place c.requires.fresh c.index.result.now c.index.ensures i.key i.opacity i.inner i.is c.args.old c.requires.old c.requires.fits in
-    (omega (arith, size, c.decreases), (within.0, (within.1, (place, fits))))
-
-pub plan_new-returns-in-Leaf : goal.plan_new-returns-in-Leaf
-plan_new-returns-in-Leaf g t c = (new_leaf_step (g.T.Touches.is_touched c.args.tree.now) c.args.kept.now c.args.new.now c.new.inside.entries.items c.new.view_is c.args.key c.args.place c.requires.fresh c.index.result.now c.index.ensures c.in-Leaf.field-0 c.in-Leaf.is, tt)
-
-pub plan_new-returns-in_ok-plan-in-Group : goal.plan_new-returns-in_ok-plan-in-Group
-plan_new-returns-in_ok-plan-in-Group g t c =
-    let i = c.in-Group in
-    (new_group_step (g.T.Touches.is_touched c.args.tree.now) c.args.kept.now c.args.new.now c.new.inside.entries.items c.new.view_is c.args.key c.args.place c.requires.fresh c.index.result.now c.index.ensures i.key i.opacity i.inner i.is c.args.old c.requires.old c.in_ok-plan-in-Group.plan c.in_ok-plan-in-Group.ensures, tt)
-
--- ---- plan_old
-
-pub plan_old-index-requires : goal.plan_old-index-requires
-plan_old-index-requires g t c =
-    let ok = c.kept.inside.entries.ok in
-    let w = old_place_within c.kept.inside.entries.items c.args.kept.now.entries c.args.key c.args.place (ap (λ k. k.entries) c.kept.view_is) c.requires.old in
-    omega (arith, ok.0, w)
-
-pub plan_old-plan_level-requires : goal.plan_old-plan_level-requires
-plan_old-plan_level-requires g t c κs within =
-    let touched = g.T.Touches.is_touched c.args.tree.now in
-    let es = c.kept.inside.entries.items in
-    let view = ap (λ k. k.entries) c.kept.view_is in
-    let w = old_place_within es c.args.kept.now.entries c.args.key c.args.place view c.requires.old in
-    let size = group_size es c.args.kept.now.entries view c.args.place c.index.result.now c.in-Group.group w c.index.ensures c.in-Group.is in
-    let none = ap list_size c.empty-none.ensures in
-    let fits = old_group_fits touched c.args.kept.now c.args.new.now es view c.args.key c.args.place c.requires.old c.requires.fresh c.index.result.now c.index.ensures c.in-Group.group c.in-Group.is c.empty-none.result c.empty-none.ensures c.requires.fits in
-    (omega (arith, size, none, c.decreases), (within.0, (within.1, fits)))
-
-pub plan_old-returns-in-Leaf : goal.plan_old-returns-in-Leaf
-plan_old-returns-in-Leaf g t c =
-    (old_leaf_step (g.T.Touches.is_touched c.args.tree.now) c.args.kept.now c.args.new.now c.kept.inside.entries.items (ap (λ k. k.entries) c.kept.view_is) c.args.key c.args.place c.requires.old c.requires.fresh c.index.result.now c.index.ensures c.requires.fits c.requires.stands c.in-Leaf.field-0 c.in-Leaf.is, tt)
-
-pub plan_old-returns-in_ok-plan-in-Group : goal.plan_old-returns-in_ok-plan-in-Group
-plan_old-returns-in_ok-plan-in-Group g t c = (
-  old_group_step (g.T.Touches.is_touched c.args.tree.now) c.args.kept.now c.args.new.now c.kept.inside.entries.items (ap (λ k. k.entries) c.kept.view_is) c.args.key c.args.place c.requires.old c.requires.fresh c.index.result.now c.index.ensures c.in-Group.group c.in-Group.is c.requires.fits c.requires.stands
-      c.empty-none.result c.empty-none.ensures c.in_ok-plan-in-Group.plan c.in_ok-plan-in-Group.ensures,
-  tt,
-)
-
--- ---- plan_step
-
-pub plan_step-unreachable-requires : goal.plan_step-unreachable-requires
-plan_step-unreachable-requires g t c =
-    has_place (g.T.Touches.is_touched c.args.tree.now) c.args.kept.now c.args.new.now c.args.key c.requires.stands (sym c.requires.old ∙ c.in-None-None.is-1) (sym c.requires.fresh ∙ c.in-None-None.is-0)
-
--- ---- plan_steps
-
-pub plan_steps-offset_bounds-order-key-index : goal.plan_steps-offset_bounds-order-key-index
-plan_steps-offset_bounds-order-key-index g t c = search rules
-
-pub plan_steps-bounds-order-key-index : goal.plan_steps-bounds-order-key-index
-plan_steps-bounds-order-key-index g t c = c.loop-key-test.true
-
-pub plan_steps-loop-key-smaller : goal.plan_steps-loop-key-smaller
-plan_steps-loop-key-smaller g t c = let h = c.loop-key-test.true in omega (arith, h)
-
-pub plan_steps-new-requires : goal.plan_steps-new-requires
-plan_steps-new-requires g t c =
-    subst (λ ks. Once ks) (sym (c.in_ok-kept_keys.ensures ∙ ap (λ xs. kept_names (kept_entries xs)) c.deref.ensures.value ∙ ap (λ k. kept_names k.entries) c.kept.view_is)) (c.requires.fits.fits.once_kept [])
-
-pub plan_steps-new-requires-2 : goal.plan_steps-new-requires-2
-plan_steps-new-requires-2 g t c =
-    subst (λ ks. Once ks) (sym (c.in_ok-new_keys.ensures ∙ ap (λ xs. new_names (new_entries xs)) c.deref-2.ensures.value ∙ ap new_names c.new-2.view_is)) (c.requires.fits.fits.once_new [])
-
-pub plan_steps-loop-key-init : goal.plan_steps-loop-key-init
-plan_steps-loop-key-init g t c = record { steps = subst (λ xs. StepsFor (g.T.Touches.is_touched c.args.tree.now) c.args.kept.now c.args.new.now [] (steps_seen xs)) (sym c.in_ok-steps.ensures.items) tt }
-
-pub plan_steps-plan_step-requires : goal.plan_steps-plan_step-requires
-plan_steps-plan_step-requires g t c κs within =
-    let old = c.in_ok-old.ensures ∙ c.in_ok-kept_keys.ensures ∙ ap (λ xs. kept_names (kept_entries xs)) c.deref.ensures.value ∙ ap (λ k. kept_names k.entries) c.kept.view_is in
-    let fresh = c.in_ok-fresh.ensures ∙ c.in_ok-new_keys.ensures ∙ ap (λ xs. new_names (new_entries xs)) c.deref-2.ensures.value ∙ ap new_names c.new-2.view_is in
-    let k : EntryKey = slice_index_or c.args.order.now c.loop-key.key-index (key.Leaf (record { slot = 0; generation = 0; mark = record {} }) Back) in (
-      omega (arith, c.decreases),
+    let xs = c.args.kept.now.entries in
+    let size = new_size_at c.args.new.now c.loop-i.i c.index-new-i.result c.loop-i-test.true c.index-new-i.is in (
+      omega (arith, size, c.decreases),
       (
         within.0,
         (
           within.1,
           (
-            c.requires.fits,
-            (
-              c.requires.stand _ (contains_from c.args.order.now _ (has_get c.args.order.now c.loop-key.key-index _ c.loop-key-test.true)),
-              (
-                found_in c.find.result c.in_ok-old.old (kept_names c.args.kept.now.entries) k c.find.ensures old,
-                found_in c.find-in-loop-key.result c.in_ok-fresh.fresh (new_names c.args.new.now) k c.find-in-loop-key.ensures fresh,
-              ),
-            ),
+            fit_at touched xs c.args.new.now c.loop-i.i c.index-new-i.result c.loop-i-test.true c.index-new-i.is c.requires.fit,
+            place_here touched xs c.args.new.now c.loop-i.i c.index-new-i.result _ c.args.found.now c.loop-i-test.true c.index-new-i.is c.requires.found,
           ),
         ),
       ),
     )
 
-pub plan_steps-loop-key-preserved : goal.plan_steps-loop-key-preserved
-plan_steps-loop-key-preserved g t c = record { steps = steps_next (g.T.Touches.is_touched c.args.tree.now) c.args.kept.now c.args.new.now c.args.order.now c.loop-key.key-index _ c.loop-key.steps.items c.push.new.self.items c.in_ok-step.step c.loop-key-test.true c.loop-key.invariant.steps c.in_ok-step.ensures c.in_ok-push.ensures.items }
+pub plan_entries-loop-i-preserved : goal.plan_entries-loop-i-preserved
+plan_entries-loop-i-preserved g t c = record {
+  steps = new_next (g.T.Touches.is_touched c.args.tree.now) c.args.kept.now.entries c.args.new.now c.loop-i.i c.index-new-i.result c.loop-i.steps.items c.push.new.self.items c.in_ok-step.step c.loop-i-test.true c.index-new-i.is c.loop-i.invariant.steps c.in_ok-step.ensures
+      c.in_ok-push.ensures.items;
+}
 
-pub plan_steps-returns : goal.plan_steps-returns
-plan_steps-returns g t c = subst (λ ks. StepsFor (g.T.Touches.is_touched c.args.tree.now) c.args.kept.now c.args.new.now ks (steps_seen c.loop-key.steps.items)) (whole_take c.args.order.now c.loop-key.key-index c.loop-key-test.false) c.loop-key.invariant.steps
+pub plan_entries-returns : goal.plan_entries-returns
+plan_entries-returns g t c =
+    subst (λ es. NewSteps (g.T.Touches.is_touched c.args.tree.now) c.args.kept.now.entries (new_entries es) (steps_seen c.loop-i.steps.items)) (whole_take c.args.new.now c.loop-i.i c.loop-i-test.false) c.loop-i.invariant.steps
+
+-- ---- plan_groups
+
+pub plan_groups-loop-place-init : goal.plan_groups-loop-place-init
+plan_groups-loop-place-init g t c = record { steps = subst (λ us. InnerSteps (g.T.Touches.is_touched c.args.tree.now) c.args.kept.now.entries [] (steps_seen us)) (sym c.in_ok-steps.ensures.items) tt }
+
+pub plan_groups-plan_kept_group-requires : goal.plan_groups-plan_kept_group-requires
+plan_groups-plan_kept_group-requires g t c κs within =
+    (omega (arith, c.decreases), (within.0, (within.1, groups_at (g.T.Touches.is_touched c.args.tree.now) c.args.kept.now.entries c.args.places.now c.loop-place.place-index c.loop-place-test.true c.requires)))
+
+pub plan_groups-loop-place-preserved : goal.plan_groups-loop-place-preserved
+plan_groups-loop-place-preserved g t c = record {
+  steps = inner_next_step (g.T.Touches.is_touched c.args.tree.now) c.args.kept.now.entries c.args.places.now c.loop-place.place-index c.loop-place.steps.items c.push.new.self.items c.in_ok-step.step c.loop-place-test.true c.loop-place.invariant.steps c.in_ok-step.ensures
+      c.in_ok-push.ensures.items;
+}
+
+pub plan_groups-returns : goal.plan_groups-returns
+plan_groups-returns g t c =
+    subst (λ ps. InnerSteps (g.T.Touches.is_touched c.args.tree.now) c.args.kept.now.entries ps (steps_seen c.loop-place.steps.items)) (whole_take c.args.places.now c.loop-place.place-index c.loop-place-test.false) c.loop-place.invariant.steps
+
+-- ---- plan_kept_group
+
+pub plan_kept_group-index-requires : goal.plan_kept_group-index-requires
+plan_kept_group-index-requires g t c =
+    let ok = c.kept.inside.entries.ok in
+    let w = group_within c.kept.inside.entries.items c.args.kept.now.entries (ap (λ k. k.entries) c.kept.view_is) c.args.place c.requires.there in
+    omega (arith, ok.0, w)
+
+pub plan_kept_group-unreachable-requires : goal.plan_kept_group-unreachable-requires
+plan_kept_group-unreachable-requires g t c =
+    group_no_leaf c.kept.inside.entries.items c.args.kept.now.entries (ap (λ k. k.entries) c.kept.view_is) c.args.place c.requires.there c.index.result.now c.index.ensures c.in-Leaf.field-0 c.in-Leaf.is
+
+pub plan_kept_group-unreachable-unreachable : goal.plan_kept_group-unreachable-unreachable
+plan_kept_group-unreachable-unreachable g t c =
+    group_no_leaf c.kept.inside.entries.items c.args.kept.now.entries (ap (λ k. k.entries) c.kept.view_is) c.args.place c.requires.there c.index.result.now c.index.ensures c.in-Leaf.field-0 c.in-Leaf.is
+
+pub plan_kept_group-plan_level-requires : goal.plan_kept_group-plan_level-requires
+plan_kept_group-plan_level-requires g t c κs within =
+    let es = c.kept.inside.entries.items in
+    let xs = c.args.kept.now.entries in
+    let view = ap (λ k. k.entries) c.kept.view_is in
+    let size = group_size es xs view c.args.place c.requires.there c.index.result.now c.index.ensures c.in-Group.group c.in-Group.is in
+    let is = group_list es xs view c.args.place c.requires.there c.index.result.now c.index.ensures c.in-Group.group c.in-Group.is in
+    let none = ap list_size c.empty-none.ensures in
+    (omega (arith, size, none, c.decreases), (within.0, (within.1, list_fits (is_untouched (g.T.Touches.is_touched c.args.tree.now)) c.in-Group.group.inner (old_list (Some c.args.place) xs) c.empty-none.result is c.empty-none.ensures c.requires.fits)))
+
+pub plan_kept_group-returns : goal.plan_kept_group-returns
+plan_kept_group-returns g t c =
+    let es = c.kept.inside.entries.items in
+    let xs = c.args.kept.now.entries in
+    let view = ap (λ k. k.entries) c.kept.view_is in
+    let is = group_list es xs view c.args.place c.requires.there c.index.result.now c.index.ensures c.in-Group.group c.in-Group.is in (
+      record {
+        old_is = refl;
+        new_is = refl;
+        there = c.requires.there;
+        plan = list_plan (g.T.Touches.is_touched c.args.tree.now) c.in-Group.group.inner (old_list (Some c.args.place) xs) c.empty-none.result c.in_ok-plan-in-Group.plan is c.empty-none.ensures c.in_ok-plan-in-Group.ensures;
+      },
+      tt,
+    )
+
+-- ---- plan_new_group
+
+pub plan_new_group-plan_level-requires : goal.plan_new_group-plan_level-requires
+plan_new_group-plan_level-requires g t c κs within =
+    let none = ap (λ k. list_size k.entries) c.empty-none.ensures in
+    (omega (arith, none, c.decreases), (within.0, (within.1, none_fits (is_untouched (g.T.Touches.is_touched c.args.tree.now)) c.args.kept.now.entries c.args.place c.empty-none.result c.args.new.now c.in_default.is c.empty-none.ensures c.requires.fits)))
+
+pub plan_new_group-index-requires : goal.plan_new_group-index-requires
+plan_new_group-index-requires g t c =
+    let ok = c.kept.inside.entries.ok in
+    let there = subst (λ o. IsGroupPlace o c.args.kept.now.entries) c.in-Some.is c.requires.there in
+    let w = group_within c.kept.inside.entries.items c.args.kept.now.entries (ap (λ k. k.entries) c.kept.view_is) c.in-Some.place there in
+    omega (arith, ok.0, w)
+
+pub plan_new_group-unreachable-requires : goal.plan_new_group-unreachable-requires
+plan_new_group-unreachable-requires g t c =
+    let there = subst (λ o. IsGroupPlace o c.args.kept.now.entries) c.in-Some.is c.requires.there in
+    group_no_leaf c.kept.inside.entries.items c.args.kept.now.entries (ap (λ k. k.entries) c.kept.view_is) c.in-Some.place there c.index.result.now c.index.ensures c.in-Leaf.field-0 c.in-Leaf.is
+
+pub plan_new_group-unreachable-unreachable : goal.plan_new_group-unreachable-unreachable
+plan_new_group-unreachable-unreachable g t c =
+    let there = subst (λ o. IsGroupPlace o c.args.kept.now.entries) c.in-Some.is c.requires.there in
+    group_no_leaf c.kept.inside.entries.items c.args.kept.now.entries (ap (λ k. k.entries) c.kept.view_is) c.in-Some.place there c.index.result.now c.index.ensures c.in-Leaf.field-0 c.in-Leaf.is
+
+pub plan_new_group-plan_level-requires-in-Group : goal.plan_new_group-plan_level-requires-in-Group
+plan_new_group-plan_level-requires-in-Group g t c κs within =
+    let es = c.kept.inside.entries.items in
+    let xs = c.args.kept.now.entries in
+    let view = ap (λ k. k.entries) c.kept.view_is in
+    let there = subst (λ o. IsGroupPlace o xs) c.in-Some.is c.requires.there in
+    let size = group_size es xs view c.in-Some.place there c.index.result.now c.index.ensures c.in-Group.group c.in-Group.is in
+    let is = group_list es xs view c.in-Some.place there c.index.result.now c.index.ensures c.in-Group.group c.in-Group.is ∙ ap (λ o. old_list o xs) (sym c.in-Some.is) in
+    (omega (arith, size, c.decreases), (within.0, (within.1, subst (λ y. FitsFor (is_untouched (g.T.Touches.is_touched c.args.tree.now)) y c.args.new.now) (sym is) c.requires.fits)))
+
+pub plan_new_group-returns : goal.plan_new_group-returns
+plan_new_group-returns g t c =
+    let es = c.kept.inside.entries.items in
+    let xs = c.args.kept.now.entries in
+    let view = ap (λ k. k.entries) c.kept.view_is in
+    let there = subst (λ o. IsGroupPlace o xs) c.in-Some.is c.requires.there in
+    let is = group_list es xs view c.in-Some.place there c.index.result.now c.index.ensures c.in-Group.group c.in-Group.is ∙ ap (λ o. old_list o xs) (sym c.in-Some.is) in
+    subst (λ y. IfOk c.plan_level-in-Group.result (IsPlan (g.T.Touches.is_touched c.args.tree.now) y c.args.new.now)) is c.plan_level-in-Group.ensures
+
+-- ---- plan_level
+
+pub plan_level-look-requires-clause-names : goal.plan_level-look-requires-clause-names
+plan_level-look-requires-clause-names g t c =
+    let names = c.deref-3.ensures.value ∙ c.in_ok-names.ensures ∙ ap (λ es. new_names (new_entries es)) c.deref.ensures.value ∙ ap new_names c.new.view_is in
+    subst (λ ks. Once ks) (sym names) (c.requires.fits.once_new [])
+
+pub plan_level-look-requires-clause-entries : goal.plan_level-look-requires-clause-entries
+plan_level-look-requires-clause-entries g t c =
+    let entries = ap kept_entries c.deref-2.ensures.value ∙ ap (λ k. k.entries) c.kept.view_is in
+    subst (λ ys. Once (kept_names ys)) (sym entries) (c.requires.fits.once_kept [])
+
+pub plan_level-patch-requires : goal.plan_level-patch-requires
+plan_level-patch-requires g t c =
+    let touched = g.T.Touches.is_touched c.args.tree.now in
+    let keys = c.in_ok-names.ensures ∙ ap (λ es. new_names (new_entries es)) c.deref.ensures.value ∙ ap new_names c.new.view_is in
+    let entries = ap kept_entries c.deref-2.ensures.value ∙ ap (λ k. k.entries) c.kept.view_is in
+    let l = c.in_ok-looked.looked in
+    let looked = looked_as touched c.args.kept.now.entries _ _ (new_names c.args.new.now) l.gone.items l.found.items l.inner.items entries (c.deref-3.ensures.value ∙ keys) c.in_ok-looked.ensures in
+    can_patch_as l.gone.items _ (new_names c.args.new.now) _ l.found.items _ c.args.kept.now.graph _ c.deref-4.ensures.value (c.deref-5.ensures.value ∙ keys) c.deref-6.ensures.value (ap (λ k. k.graph) c.kept.view_is)
+    (can_patch touched c.args.kept.now c.args.new.now c.requires l.gone.items l.found.items l.inner.items looked)
+
+pub plan_level-plan_entries-requires : goal.plan_level-plan_entries-requires
+plan_level-plan_entries-requires g t c κs within =
+    let touched = g.T.Touches.is_touched c.args.tree.now in
+    let xs = c.args.kept.now.entries in
+    let keys = c.in_ok-names.ensures ∙ ap (λ es. new_names (new_entries es)) c.deref.ensures.value ∙ ap new_names c.new.view_is in
+    let entries = ap kept_entries c.deref-2.ensures.value ∙ ap (λ k. k.entries) c.kept.view_is in
+    let l = c.in_ok-looked.looked in
+    let looked = looked_as touched xs _ _ (new_names c.args.new.now) l.gone.items l.found.items l.inner.items entries (c.deref-3.ensures.value ∙ keys) c.in_ok-looked.ensures in
+    let new_is = ap new_entries c.deref-7.ensures.value ∙ c.new.view_is in
+    let size = ap list_size new_is in (
+      omega (arith, size, c.decreases),
+      (
+        within.0,
+        (
+          within.1,
+          (
+            subst (λ z. EntriesFit touched xs z) (sym new_is) (entries_fit touched c.args.kept.now c.args.new.now c.requires),
+            c.deref-8.ensures.value ∙ looked.found_are ∙ ap (λ z. map (λ k. place_in touched xs k) (new_names z)) (sym new_is),
+          ),
+        ),
+      ),
+    )
+
+pub plan_level-plan_groups-requires : goal.plan_level-plan_groups-requires
+plan_level-plan_groups-requires g t c κs within =
+    let touched = g.T.Touches.is_touched c.args.tree.now in
+    let xs = c.args.kept.now.entries in
+    let keys = c.in_ok-names.ensures ∙ ap (λ es. new_names (new_entries es)) c.deref.ensures.value ∙ ap new_names c.new.view_is in
+    let entries = ap kept_entries c.deref-2.ensures.value ∙ ap (λ k. k.entries) c.kept.view_is in
+    let l = c.in_ok-looked.looked in
+    let looked = looked_as touched xs _ _ (new_names c.args.new.now) l.gone.items l.found.items l.inner.items entries (c.deref-3.ensures.value ∙ keys) c.in_ok-looked.ensures in (
+      omega (arith, c.decreases),
+      (within.0, (within.1, subst (λ z. GroupsFit touched xs z) (sym c.deref-9.ensures.value) (groups_fit touched c.args.kept.now c.args.new.now c.requires l.gone.items l.found.items l.inner.items looked))),
+    )
+
+pub plan_level-same-patch : goal.plan_level-same-patch
+plan_level-same-patch g t c = refl
+
+pub plan_level-invariant_of-result : goal.plan_level-invariant_of-result
+plan_level-invariant_of-result g t c =
+    let touched = g.T.Touches.is_touched c.args.tree.now in
+    let xs = c.args.kept.now.entries in
+    let keys = c.in_ok-names.ensures ∙ ap (λ es. new_names (new_entries es)) c.deref.ensures.value ∙ ap new_names c.new.view_is in
+    let entries = ap kept_entries c.deref-2.ensures.value ∙ ap (λ k. k.entries) c.kept.view_is in
+    let graph = ap (λ k. k.graph) c.kept.view_is in
+    let l = c.in_ok-looked.looked in
+    let looked = looked_as touched xs _ _ (new_names c.args.new.now) l.gone.items l.found.items l.inner.items entries (c.deref-3.ensures.value ∙ keys) c.in_ok-looked.ensures in
+    let fits = subst (λ z. FitsPatch c.in_ok-patch.patch z) graph c.in_ok-patch.ensures.fits in
+    let patched = is_patched_as l.gone.items _ (new_names c.args.new.now) _ l.found.items _ c.args.kept.now.graph _ c.deref-4.ensures.value (c.deref-5.ensures.value ∙ keys) c.deref-6.ensures.value graph c.in_ok-patch.patch c.in_ok-patch.ensures.patched in
+    let new_is = ap new_entries c.deref-7.ensures.value ∙ c.new.view_is in
+    let firsts = subst (λ z. NewSteps touched xs z (steps_seen c.in_ok-steps.steps.items)) new_is c.in_ok-steps.ensures in
+    let lasts = subst (λ z. InnerSteps touched xs z (steps_seen c.in_ok-inner.inner.items)) c.deref-9.ensures.value c.in_ok-inner.ensures in
+    let few = few_made touched c.args.kept.now c.args.new.now c.requires l.gone.items l.found.items l.inner.items looked c.in_ok-patch.patch fits patched (steps_seen c.in_ok-steps.steps.items) (steps_seen c.in_ok-inner.inner.items) firsts lasts in
+    let all = ap made_count (ap steps_seen c.in_ok-append.ensures.items ∙ steps_append c.in_ok-steps.steps.items c.in_ok-inner.inner.items) in
+    let many = ap length keys in
+    let ok = c.in_ok-names.names.ok in
+    let len = c.len.ensures in
+    let capacity = c.in_ok-made.ensures.capacity in
+    (c.in_ok-made.ensures.len, omega (arith, few, all, many, ok.0, len, capacity), c.in_ok-room.ensures)
+
+pub plan_level-returns : goal.plan_level-returns
+plan_level-returns g t c =
+    let touched = g.T.Touches.is_touched c.args.tree.now in
+    let xs = c.args.kept.now.entries in
+    let keys = c.in_ok-names.ensures ∙ ap (λ es. new_names (new_entries es)) c.deref.ensures.value ∙ ap new_names c.new.view_is in
+    let entries = ap kept_entries c.deref-2.ensures.value ∙ ap (λ k. k.entries) c.kept.view_is in
+    let graph = ap (λ k. k.graph) c.kept.view_is in
+    let l = c.in_ok-looked.looked in
+    let looked = looked_as touched xs _ _ (new_names c.args.new.now) l.gone.items l.found.items l.inner.items entries (c.deref-3.ensures.value ∙ keys) c.in_ok-looked.ensures in
+    let fits = subst (λ z. FitsPatch c.in_ok-patch.patch z) graph c.in_ok-patch.ensures.fits in
+    let patched = is_patched_as l.gone.items _ (new_names c.args.new.now) _ l.found.items _ c.args.kept.now.graph _ c.deref-4.ensures.value (c.deref-5.ensures.value ∙ keys) c.deref-6.ensures.value graph c.in_ok-patch.patch c.in_ok-patch.ensures.patched in
+    let new_is = ap new_entries c.deref-7.ensures.value ∙ c.new.view_is in
+    let firsts = subst (λ z. NewSteps touched xs z (steps_seen c.in_ok-steps.steps.items)) new_is c.in_ok-steps.ensures in
+    let lasts = subst (λ z. InnerSteps touched xs z (steps_seen c.in_ok-inner.inner.items)) c.deref-9.ensures.value c.in_ok-inner.ensures in
+    subst (λ z. IsPlan touched c.args.kept.now c.args.new.now (record { patch = c.in_ok-patch.patch; steps = z })) (sym (ap steps_seen c.in_ok-append.ensures.items ∙ steps_append c.in_ok-steps.steps.items c.in_ok-inner.inner.items))
+    (planned touched c.args.kept.now c.args.new.now c.requires l.gone.items l.found.items l.inner.items looked c.in_ok-patch.patch fits patched (steps_seen c.in_ok-steps.steps.items) (steps_seen c.in_ok-inner.inner.items) firsts lasts)

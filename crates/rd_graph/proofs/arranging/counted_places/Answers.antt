@@ -1,0 +1,8 @@
+use Rattle.rd_graph.proofs.Countings.{counted_next, free_few}
+use Rattle.rd_graph.proofs.arranging.counted_places.Goals as goal
+
+pub loop-place-preserved : goal.loop-place-preserved
+loop-place-preserved c = record {
+  places = counted_next c.args.found.now c.loop-place.place-index _ c.loop-place.next c.in_ok-next.next c.loop-place.places.items c.push_counted.new.places.items _ c.loop-place-test.true c.loop-place.invariant.places c.in_ok-next.ensures.next c.in_ok-next.ensures.places;
+  few = free_few c.loop-place.next c.in_ok-next.next _ c.loop-place.place-index _ c.in_ok-next.ensures.next c.loop-place.invariant.few;
+}

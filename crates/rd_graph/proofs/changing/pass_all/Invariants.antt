@@ -1,0 +1,10 @@
+use Rattle.rd_graph.specs.Internal.Patching.{lists_seen}
+use Rattle.rd_graph.specs.Internal.Seen.{seen}
+use Rattle.rd_graph.specs.Internal.Tables.{noted_in, has_it}
+use Rattle.rd_graph.proofs.Late.{SoFar}
+use Rattle.rd_graph.proofs.changing.pass_all.Given as goal
+
+abbrev pub invariant-loop-place : goal.invariant-loop-place
+invariant-loop-place l = record {
+  so_far : SoFar (has_it l.gone.names) l.chain.names.now (seen l.nodes) (noted_in l.notes) (lists_seen l.lists.items) l.place;
+}

@@ -1,0 +1,14 @@
+-- What a contract sees of patches.
+use Rattle.std.specs.Prelude.{◌≡◌, ℕ, ◌≤◌, List, map, length, Option, Some, None, vec_len, vec_capacity}
+use Rattle.std.specs.declared.vec.Vec.{Vec}
+use Rattle.rd_keys.specs.declared.entry.EntryKey.{EntryKey}
+use Rattle.rd_graph.specs.declared.graph.Node.{Node}
+
+-- lists of predecessors with their places
+abbrev pub lists_seen : {A : Type 0} → List (ℕ × Vec EntryKey A) → List (ℕ × List EntryKey)
+lists_seen ls = map (λ l. (l.0, l.1.items)) ls
+
+-- where there is a line, there is empty room for as many nodes
+abbrev pub HasRoom : {A B : Type 0} → Option (Vec ℕ A) → Vec Node B → Type 0
+HasRoom None room = Unit {0}
+HasRoom (Some line) room = (vec_len room ≡ 0) × (length line.items ≤ vec_capacity room)

@@ -1,0 +1,84 @@
+-- Lists of predecessors that change, by the places of their nodes.
+use Rattle.std.specs.Prelude.{◌≡◌, ℕ, ◌<◌, ◌==◌, ◌%◌, Bool, true, false, if◌then◌else◌, ◌↔◌, List, [], ◌∷◌, ◌++◌, length, slice_index_or, Contains, Option, Some, None}
+use Rattle.indexmap.specs.IndexMap.{IndexMap}
+use Rattle.rd_keys.specs.declared.entry.EntryKey.{EntryKey}
+use Rattle.rd_keys.specs.declared.entry.EntryKey.TheVariants as key
+use Rattle.rd_graph.specs.Graphs.{Graph}
+use Rattle.rd_graph.specs.Laws.{Full}
+use Rattle.rd_graph.specs.Names.{is_in}
+use Rattle.rd_graph.specs.Patches.{AreWithin}
+use Rattle.rd_graph.specs.Internal.Chains.{just_before}
+use Rattle.rd_graph.specs.Internal.Tables.{has_it}
+
+-- where a name has its mark, which other names may share
+abbrev pub mark_of : EntryKey → ℕ
+mark_of (key.Leaf k p) = k.slot % 4096
+mark_of (key.Group k) = k.slot % 4096
+
+-- each name of a table has its mark
+abbrev pub AreMarked : {S : Type 0} → List Bool → IndexMap EntryKey ℕ S → Type 0
+AreMarked marks names = (k : EntryKey) → has_it names k ≡ true → slice_index_or marks (mark_of k) false ≡ true
+
+module _ {E : Type 0} where
+  -- the list at a place, after new lists
+  abbrev pub list_at : List (ℕ × List E) → ℕ → List E → List E
+  list_at [] k ps = ps
+  list_at (l ∷ ls) k ps = list_at ls k (if l.0 == k then l.1 else ps)
+
+  -- a graph's node at a place
+  abbrev pub IsAt : Graph E → ℕ → E × List E → Type 0
+  IsAt g k x = (k < length g) × (slice_index_or g k x ≡ x)
+
+  module _ (same : E → E → Bool) where
+    -- does a list have all of these?
+    abbrev pub has_all : List E → List E → Bool
+    has_all xs [] = true
+    has_all xs (k ∷ ks) = if is_in same xs k then has_all xs ks else false
+
+    -- a list with these at its end, unless it has all of them
+    abbrev pub joined : List E → List E → List E
+    joined xs ks = if has_all xs ks then xs else xs ++ ks
+
+  module _ (gone : E → Bool) where
+    -- does one of these go?
+    abbrev pub some_gone : List E → Bool
+    some_gone [] = false
+    some_gone (p ∷ ps) = if gone p then true else some_gone ps
+
+    -- does the node stay, and a predecessor go?
+    abbrev pub is_late : E × List E → Bool
+    is_late x = if gone x.0 then false else some_gone x.1
+
+    -- New lists of the nodes that stay, and of which a predecessor goes: those have the edges of the merge.
+    pub record Relists (chain : List E) (g : Graph E) (lists : List (ℕ × List E)) : Type 0 where
+      pub within : AreWithin lists g
+      pub kept : (k : ℕ) (x : E × List E) → IsAt g k x → is_late x ≡ false → list_at lists k x.1 ≡ x.1
+      pub new : (k : ℕ) (x : E × List E) → IsAt g k x → is_late x ≡ true → (a : E) → Contains (list_at lists k x.1) a ↔ Full g gone chain a x.0
+
+    module _ (same : E → E → Bool) (chain : List E) where
+      -- does a node of the chain keep the list that it has so far? It stays, and is late or has the edge of the chain.
+      abbrev pub keeps : E × List E → Bool
+      keeps x = if gone x.0 then false else (if some_gone x.1 then true else has_all same x.1 (just_before same chain x.0))
+
+      -- a new list: what the node has, and the edge of the chain; one that goes has that edge alone
+      abbrev pub relinked : E × List E → List E
+      relinked x = (if gone x.0 then [] else x.1) ++ just_before same chain x.0
+
+      -- the list of a node of the chain
+      abbrev pub on_chain : E × List E → List E → List E
+      on_chain x ps = if keeps x then ps else relinked x
+
+      -- the same of each node of some part of the chain
+      abbrev pub along : List E → E × List E → List E → List E
+      along part x ps = if is_in same part x.0 then on_chain x ps else ps
+
+      -- lists after those of some part of the chain
+      pub record GoesAlong (part : List E) (g : Graph E) (old new : List (ℕ × List E)) : Type 0 where
+        pub within : AreWithin old g → AreWithin new g
+        pub lists : (k : ℕ) (x : E × List E) → IsAt g k x → list_at new k x.1 ≡ along part x (list_at old k x.1)
+
+      -- one more list, of the node of the chain at this place
+      abbrev pub GoesAlongAt : Option ℕ → Graph E → List (ℕ × List E) → List (ℕ × List E) → Type 0
+      GoesAlongAt None g old new = new ≡ old
+      GoesAlongAt (Some p) g old new =
+          (x : E × List E) × IsAt g p x × (new ≡ old ++ (if keeps x then [] else (p, relinked x) ∷ []))

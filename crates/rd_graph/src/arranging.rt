@@ -1,0 +1,130 @@
+//! The line in which the nodes of a merge stand.
+ghost use Rattle.std.specs.Prelude.{◌≡◌, ◌+◌, ◌<◌, ◌≤◌, ◌↔◌, ◌⊎◌, ◌≢◌, ℕ, slice_index_or, ◌∷◌, ◌++◌, ◌^◌, [], IfOk, OnOk, IsTrue, length, Contains, option_map};
+ghost use Rattle.rd_graph.specs.Patches.{AreRising, CanBePatched, IsArranged};
+ghost use Rattle.rd_graph.specs.Internal.Seen.{seen};
+ghost use Rattle.rd_graph.specs.Internal.Walks.{counted, place_or, free_after, IsMet, RisesTo};
+
+use crate::graph::{Node, OrderGraph};
+use crate::ranking::ranked_line;
+use crate::walking::walked_line;
+use rd_keys::EntryKey;
+use std::alloc::{AllocError, Global};
+
+/// Puts the place of a name at the end, or the next free place, if it has none. Gives the next free place.
+fn push_counted(
+    places: &mut Vec<usize>,
+    place: Option<usize>,
+    next: usize,
+) -> Result<usize, AllocError>
+    requires { next + 1 < 2 ^ 64 }
+    ensures places { OnOk result (places.new.items ≡ places.old.items ++ place_or next place ∷ []) }
+    ensures next { IfOk result (λ n. n ≡ free_after next place) }
+{
+    match place {
+        Some(place) => {
+            places.push(place)?;
+            Ok(next)
+        }
+        None => {
+            places.push(next)?;
+            Ok(next + 1)
+        }
+    }
+}
+
+/// The places of the names of a chain. Those that are not found have places after the nodes, in their order.
+fn counted_places(
+    alloc: Global,
+    nodes: &[Node],
+    found: &[Option<usize>],
+) -> Result<Vec<usize>, AllocError>
+    ensures { IfOk result (λ v. v.items ≡ counted (length nodes.now) found.now) }
+{
+    let mut places = Vec::with_capacity(alloc, found.len())?;
+    let mut next = nodes.len();
+    for place in found {
+        next = push_counted(&mut places, *place, next)?;
+    }
+    Ok(places)
+}
+
+/// Do places rise below an end?
+fn rises(places: &[usize], end: usize) -> bool
+    ensures { IsTrue result ↔ RisesTo end 0 places.now }
+{
+    let mut least = 0;
+    for place in places {
+        if *place < least {
+            return false;
+        }
+        if end <= *place {
+            return false;
+        }
+        least = *place + 1;
+    }
+    true
+}
+
+/// How many are met, of those that are looked for one after another, when a walk comes to a place.
+fn met_after(gone: &[usize], met: usize, place: usize) -> usize
+    ensures { IsMet gone.now met place result }
+{
+    if gone.len() <= met {
+        return met;
+    }
+    if gone[met] != place {
+        return met;
+    }
+    met + 1
+}
+
+/// Is each of these among some places? Both rise.
+fn are_among(gone: &[usize], places: &[usize]) -> bool
+    requires gone { AreRising gone.now }
+    requires places { AreRising places.now }
+    ensures { IsTrue result ↔ ((p : ℕ) → Contains gone.now p → Contains places.now p) }
+{
+    let mut met = 0;
+    for place in places {
+        met = met_after(gone, met, *place);
+    }
+    if met < gone.len() {
+        return false;
+    }
+    true
+}
+
+/// May every node of a merge stay at its place?
+fn stands_still(gone: &[usize], places: &[usize], end: usize) -> bool
+    requires { AreRising gone.now }
+    ensures { IsTrue result ↔ (RisesTo end 0 places.now × ((p : ℕ) → Contains gone.now p → Contains places.now p)) }
+{
+    if !rises(places, end) {
+        return false;
+    }
+    are_among(gone, places)
+}
+
+/// The places of the nodes of a merge in an order in which each edge goes forward. None where every node may stay at its
+/// place.
+pub(crate) fn arrange(
+    alloc: Global,
+    graph: &OrderGraph,
+    gone: &[usize],
+    chain: &[EntryKey],
+    found: &[Option<usize>],
+) -> Result<Option<Vec<usize>>, AllocError>
+    requires { CanBePatched gone.now chain.now found.now graph.now }
+    ensures { IfOk result (λ l. IsArranged gone.now chain.now found.now graph.now (option_map (λ v. v.items) l)) }
+{
+    let nodes: &[Node] = &graph.nodes;
+    let places = counted_places(alloc, nodes, found)?;
+    if stands_still(gone, &places, nodes.len()) {
+        return Ok(None);
+    }
+    if let Some(line) = walked_line(alloc, nodes, gone, chain, found, &places)? {
+        return Ok(Some(line));
+    }
+    let line = ranked_line(alloc, nodes, gone, chain, found, &places)?;
+    Ok(Some(line))
+}

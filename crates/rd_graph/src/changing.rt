@@ -1,0 +1,399 @@
+//! The lists of predecessors that a merge changes.
+ghost use Rattle.std.specs.Prelude.{◌≡◌, ℕ, ◌<◌, [], ◌∷◌, ◌++◌, IfOk, IfSome, OnOk, true, false, take, if◌then◌else◌, slice_index_or, length, Contains};
+ghost use Rattle.rd_graph.specs.Patches.{CanBePatched, IsRelisted, found_in};
+ghost use Rattle.rd_graph.specs.Internal.Seen.{seen, seen_one};
+ghost use Rattle.rd_graph.specs.Graphs.{IsInOrder, nodes as nodes_of};
+ghost use Rattle.rd_graph.specs.Gathered.{gathered};
+ghost use Rattle.rd_graph.specs.Names.{is_in, place_of, same_entry};
+ghost use Rattle.rd_graph.specs.Orders.{Once};
+ghost use Rattle.rd_graph.specs.Internal.Chains.{just_before};
+ghost use Rattle.rd_graph.specs.Internal.Patching.{lists_seen};
+ghost use Rattle.rd_graph.specs.Internal.Relisting.{AreMarked, GoesAlong, GoesAlongAt, Relists, has_all, is_late, joined, keeps, mark_of, relinked, some_gone};
+ghost use Rattle.rd_graph.specs.Internal.Tables.{at, fits_list, has_it};
+ghost use Rattle.rd_graph.specs.Internal.Words.{NotesIf, resolved_once};
+
+use crate::chain::linked;
+use crate::graph::Node;
+use crate::stitch::resolve;
+use crate::tables::{find, has, places, put};
+use indexmap::IndexMap;
+use rd_keys::EntryKey;
+use std::alloc::{AllocError, Global};
+
+/// The names that go. The marks tell most others at once.
+#[derive(Drop)]
+struct Gone {
+    names: IndexMap<EntryKey, usize>,
+    marks: Vec<bool>,
+}
+
+/// A chain with the places of its names.
+#[derive(Drop)]
+struct Chained<'a> {
+    names: &'a [EntryKey],
+    places: IndexMap<EntryKey, usize>,
+}
+
+/// Where a name has its mark.
+fn mark_of(key: &EntryKey) -> usize
+    ensures { result ≡ mark_of key.now }
+{
+    match key {
+        EntryKey::Leaf(name, _) => name.slot as usize % 4096,
+        EntryKey::Group(name) => name.slot as usize % 4096,
+    }
+}
+
+/// A table of the names of the nodes at these places.
+fn names_at(
+    alloc: Global,
+    nodes: &[Node],
+    gone: &[usize],
+) -> Result<IndexMap<EntryKey, usize>, AllocError>
+    requires { (k : ℕ) → k < length gone.now → slice_index_or gone.now k 0 < length nodes.now }
+    ensures { IfOk result (λ t. fits_list t (gathered gone.now (nodes_of (seen nodes.now)))) }
+{
+    let mut table = IndexMap::new(alloc);
+    for place in gone {
+        put(&mut table, nodes[*place].key, 0)?;
+    }
+    Ok(table)
+}
+
+/// The marks of the names of the nodes at these places. None are made where nothing goes.
+fn marks_at(alloc: Global, nodes: &[Node], gone: &[usize]) -> Result<Vec<bool>, AllocError>
+    requires { (k : ℕ) → k < length gone.now → slice_index_or gone.now k 0 < length nodes.now }
+    ensures { IfOk result (λ v. (k : EntryKey)
+        → Contains (gathered gone.now (nodes_of (seen nodes.now))) k → slice_index_or v.items (mark_of k) false ≡ true) }
+{
+    if gone.is_empty() {
+        return Ok(Vec::new(alloc));
+    }
+    let mut marks = vec![in alloc; false; 4096]?;
+    for place in gone {
+        marks[mark_of(&nodes[*place].key)] = true;
+    }
+    Ok(marks)
+}
+
+/// The names of the nodes at these places, with their marks.
+fn gone_at(alloc: Global, nodes: &[Node], gone: &[usize]) -> Result<Gone, AllocError>
+    requires { (k : ℕ) → k < length gone.now → slice_index_or gone.now k 0 < length nodes.now }
+    ensures marked { IfOk result (λ g. AreMarked g.marks.items g.names) }
+    ensures named { IfOk result (λ g. fits_list g.names (gathered gone.now (nodes_of (seen nodes.now)))) }
+{
+    let names = names_at(alloc, nodes, gone)?;
+    let marks = marks_at(alloc, nodes, gone)?;
+    Ok(Gone { names, marks })
+}
+
+/// Does the name go?
+fn goes(gone: &Gone, key: &EntryKey) -> bool
+    requires { AreMarked gone.now.marks.items gone.now.names }
+    ensures { result ≡ has_it gone.now.names key.now }
+{
+    let mark = mark_of(key);
+    mark < gone.marks.len() && gone.marks[mark] && has(&gone.names, *key)
+}
+
+/// Does one of the names go?
+fn some_goes(gone: &Gone, keys: &[EntryKey]) -> bool
+    requires { AreMarked gone.now.marks.items gone.now.names }
+    ensures { result ≡ some_gone (has_it gone.now.names) keys.now }
+{
+    for key in keys {
+        if goes(gone, key) {
+            return true;
+        }
+    }
+    false
+}
+
+/// A node that goes is noted.
+fn note(
+    alloc: Global,
+    gone: &Gone,
+    notes: &mut IndexMap<EntryKey, Vec<EntryKey>>,
+    node: &Node,
+) -> Result<(), AllocError>
+    ensures { OnOk result (NotesIf true node.now.key
+        (resolved_once gone.now.names notes.old node.now.before.items) notes.old notes.new) }
+{
+    let before = resolve(alloc, &gone.names, notes, &node.before)?;
+    put(notes, node.key, before)?;
+    Ok(())
+}
+
+/// Have two entries one name?
+fn is_same(key: &EntryKey, name: &EntryKey) -> bool
+    ensures { result ≡ same_entry key.now name.now }
+{
+    key == name
+}
+
+/// Is the name one of these?
+fn is_among(keys: &[EntryKey], name: EntryKey) -> bool
+    ensures { result ≡ is_in same_entry keys.now name }
+{
+    for key in keys {
+        if is_same(key, &name) {
+            return true;
+        }
+    }
+    false
+}
+
+/// Is the name before a node in the chain in its list? So it is too where there is none.
+fn has_edge(chain: &Chained, node: &Node) -> bool
+    requires { (k : _) → at chain.now.places k ≡ place_of same_entry chain.now.names.now k }
+    ensures { result ≡ has_all same_entry node.now.before.items
+        (just_before same_entry chain.now.names.now node.now.key) }
+{
+    if let Some(place) = find(&chain.places, node.key) {
+        let place = *place;
+        if 0 < place && place <= chain.names.len() {
+            return is_among(&node.before, chain.names[place - 1]);
+        }
+    }
+    true
+}
+
+/// The list of a node with the edge of the chain, which it may have already.
+fn with_edge(chain: &Chained, node: Node) -> Result<Vec<EntryKey>, AllocError>
+    requires { (k : _) → at chain.now.places k ≡ place_of same_entry chain.now.names.now k }
+    ensures { IfOk result (λ v. v.items ≡ joined same_entry node.before.items
+        (just_before same_entry chain.now.names.now node.key)) }
+{
+    if has_edge(chain, &node) {
+        return Ok(node.before);
+    }
+    let node = linked(node, chain.names, &chain.places)?;
+    Ok(node.before)
+}
+
+/// A late node gets a new list, with the edge of the chain.
+fn relist(
+    alloc: Global,
+    gone: &Gone,
+    chain: &Chained,
+    notes: &IndexMap<EntryKey, Vec<EntryKey>>,
+    lists: &mut Vec<(usize, Vec<EntryKey>)>,
+    place: usize,
+    node: &Node,
+) -> Result<(), AllocError>
+    requires { (k : _) → at chain.now.places k ≡ place_of same_entry chain.now.names.now k }
+    ensures { OnOk result (lists_seen lists.new.items ≡ lists_seen lists.old.items
+        ++ (
+          place,
+          joined same_entry (resolved_once gone.now.names notes.now node.now.before.items)
+              (just_before same_entry chain.now.names.now node.now.key),
+        ) ∷ []) }
+{
+    let before = resolve(alloc, &gone.names, notes, &node.before)?;
+    let node = Node {
+        key: node.key,
+        before,
+    };
+    let before = with_edge(chain, node)?;
+    lists.push((place, before))?;
+    Ok(())
+}
+
+/// A node that goes is noted, and a late one gets a new list.
+fn pass(
+    alloc: Global,
+    gone: &Gone,
+    chain: &Chained,
+    notes: &mut IndexMap<EntryKey, Vec<EntryKey>>,
+    lists: &mut Vec<(usize, Vec<EntryKey>)>,
+    place: usize,
+    node: &Node,
+) -> Result<(), AllocError>
+    requires marked { AreMarked gone.now.marks.items gone.now.names }
+    requires placed { (k : _) → at chain.now.places k ≡ place_of same_entry chain.now.names.now k }
+    ensures notes { OnOk result (NotesIf (has_it gone.now.names node.now.key) node.now.key
+        (resolved_once gone.now.names notes.old node.now.before.items) notes.old notes.new) }
+    ensures lists { OnOk result (lists_seen lists.new.items ≡ lists_seen lists.old.items
+        ++ (if is_late (has_it gone.now.names) (seen_one node.now)
+        then (
+          place,
+          joined same_entry (resolved_once gone.now.names notes.old node.now.before.items)
+              (just_before same_entry chain.now.names.now node.now.key),
+        ) ∷ []
+        else [])) }
+{
+    if goes(gone, &node.key) {
+        note(alloc, gone, notes, node)?;
+        return Ok(());
+    }
+    if !some_goes(gone, &node.before) {
+        return Ok(());
+    }
+    relist(alloc, gone, chain, notes, lists, place, node)?;
+    Ok(())
+}
+
+/// New lists of the nodes that stay, and of which a predecessor goes. Before the first place nothing goes.
+fn pass_all(
+    alloc: Global,
+    nodes: &[Node],
+    first: usize,
+    gone: &Gone,
+    chain: &Chained,
+) -> Result<Vec<(usize, Vec<EntryKey>)>, AllocError>
+    requires sound { IsInOrder (seen nodes.now) }
+    requires once { Once chain.now.names.now }
+    requires quiet { (k : EntryKey) → Contains (take first (nodes_of (seen nodes.now))) k
+        → has_it gone.now.names k ≡ false }
+    requires marked { AreMarked gone.now.marks.items gone.now.names }
+    requires placed { (k : _) → at chain.now.places k ≡ place_of same_entry chain.now.names.now k }
+    ensures { IfOk result (λ v. Relists (has_it gone.now.names) chain.now.names.now
+        (seen nodes.now) (lists_seen v.items)) }
+{
+    let mut notes = IndexMap::new(alloc);
+    let mut lists = Vec::new(alloc);
+    for place in first..nodes.len() {
+        let node = &nodes[place];
+        pass(alloc, gone, chain, &mut notes, &mut lists, place, node)?;
+    }
+    Ok(lists)
+}
+
+/// A list once more.
+fn copied(alloc: Global, keys: &[EntryKey]) -> Result<Vec<EntryKey>, AllocError>
+    ensures { IfOk result (λ v. v.items ≡ keys.now) }
+{
+    let mut all = Vec::with_capacity(alloc, keys.len())?;
+    for key in keys {
+        all.push(*key)?;
+    }
+    Ok(all)
+}
+
+/// What a node of the chain that does not keep its list has before the edge of the chain: nothing where it goes.
+fn own(alloc: Global, gone: &Gone, node: &Node) -> Result<Vec<EntryKey>, AllocError>
+    requires { AreMarked gone.now.marks.items gone.now.names }
+    ensures { IfOk result (λ v. v.items ≡ (if has_it gone.now.names node.now.key then [] else node.now.before.items)) }
+{
+    if goes(gone, &node.key) {
+        return Ok(Vec::new(alloc));
+    }
+    copied(alloc, &node.before)
+}
+
+/// Does a node of the chain keep the list that it has so far? It stays, and is late or has the edge of the chain.
+fn keeps_list(gone: &Gone, chain: &Chained, node: &Node) -> bool
+    requires marked { AreMarked gone.now.marks.items gone.now.names }
+    requires placed { (k : _) → at chain.now.places k ≡ place_of same_entry chain.now.names.now k }
+    ensures { result ≡ keeps (has_it gone.now.names) same_entry chain.now.names.now (seen_one node.now) }
+{
+    !goes(gone, &node.key) && (some_goes(gone, &node.before) || has_edge(chain, node))
+}
+
+/// A node of the chain gets a new list, unless it keeps the one that it has.
+fn go_along(
+    alloc: Global,
+    gone: &Gone,
+    chain: &Chained,
+    lists: &mut Vec<(usize, Vec<EntryKey>)>,
+    place: usize,
+    node: &Node,
+) -> Result<(), AllocError>
+    requires marked { AreMarked gone.now.marks.items gone.now.names }
+    requires placed { (k : _) → at chain.now.places k ≡ place_of same_entry chain.now.names.now k }
+    ensures { OnOk result (lists_seen lists.new.items ≡ lists_seen lists.old.items
+        ++ (if keeps (has_it gone.now.names) same_entry chain.now.names.now (seen_one node.now) then []
+        else (place, relinked (has_it gone.now.names) same_entry chain.now.names.now (seen_one node.now)) ∷ [])) }
+{
+    if keeps_list(gone, chain, node) {
+        return Ok(());
+    }
+    let before = own(alloc, gone, node)?;
+    let node = Node {
+        key: node.key,
+        before,
+    };
+    let node = linked(node, chain.names, &chain.places)?;
+    lists.push((place, node.before))?;
+    Ok(())
+}
+
+/// The node of the chain at a place gets a new list, unless it keeps the one that it has.
+fn go_along_at(
+    alloc: Global,
+    nodes: &[Node],
+    gone: &Gone,
+    chain: &Chained,
+    lists: &mut Vec<(usize, Vec<EntryKey>)>,
+    place: Option<usize>,
+) -> Result<(), AllocError>
+    requires within { IfSome place (λ p. p < length nodes.now) }
+    requires marked { AreMarked gone.now.marks.items gone.now.names }
+    requires placed { (k : _) → at chain.now.places k ≡ place_of same_entry chain.now.names.now k }
+    ensures { OnOk result (GoesAlongAt (has_it gone.now.names) same_entry chain.now.names.now place (seen nodes.now)
+        (lists_seen lists.old.items) (lists_seen lists.new.items)) }
+{
+    if let Some(place) = place {
+        go_along(alloc, gone, chain, lists, place, &nodes[place])?;
+        return Ok(());
+    }
+    Ok(())
+}
+
+/// Each node of the chain that is found gets a new list, unless it keeps the one that it has.
+fn go_along_all(
+    alloc: Global,
+    nodes: &[Node],
+    gone: &Gone,
+    chain: &Chained,
+    found: &[Option<usize>],
+    lists: &mut Vec<(usize, Vec<EntryKey>)>,
+) -> Result<(), AllocError>
+    requires sound { IsInOrder (seen nodes.now) }
+    requires once { Once chain.now.names.now }
+    requires found_are { found.now ≡ found_in chain.now.names.now (seen nodes.now) }
+    requires marked { AreMarked gone.now.marks.items gone.now.names }
+    requires placed { (k : _) → at chain.now.places k ≡ place_of same_entry chain.now.names.now k }
+    ensures { OnOk result (GoesAlong (has_it gone.now.names) same_entry chain.now.names.now chain.now.names.now
+        (seen nodes.now) (lists_seen lists.old.items) (lists_seen lists.new.items)) }
+{
+    for place in found {
+        go_along_at(alloc, nodes, gone, chain, lists, *place)?;
+    }
+    Ok(())
+}
+
+/// The first place that goes, or else the count of all.
+fn first_of(gone: &[usize], count: usize) -> usize
+    ensures { result ≡ slice_index_or gone.now 0 count }
+{
+    match gone.first() {
+        Some(place) => *place,
+        None => count,
+    }
+}
+
+/// New lists of predecessors with the places of their nodes: of the nodes that stand after one that goes, and of those of
+/// the chain.
+pub(crate) fn changed(
+    alloc: Global,
+    nodes: &[Node],
+    gone: &[usize],
+    chain: &[EntryKey],
+    found: &[Option<usize>],
+) -> Result<Vec<(usize, Vec<EntryKey>)>, AllocError>
+    requires sound { IsInOrder (seen nodes.now) }
+    requires can { CanBePatched gone.now chain.now found.now (seen nodes.now) }
+    ensures { IfOk result (λ v. IsRelisted gone.now chain.now (seen nodes.now) (lists_seen v.items)) }
+{
+    let first = first_of(gone, nodes.len());
+    let gone = gone_at(alloc, nodes, gone)?;
+    let places = places(alloc, chain)?;
+    let chain = Chained {
+        names: chain,
+        places,
+    };
+    let mut lists = pass_all(alloc, nodes, first, &gone, &chain)?;
+    go_along_all(alloc, nodes, &gone, &chain, found, &mut lists)?;
+    Ok(lists)
+}

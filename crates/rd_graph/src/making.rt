@@ -1,0 +1,69 @@
+//! The nodes that a merge makes.
+ghost use Rattle.std.specs.Prelude.{◌≡◌, [], ◌++◌, ◌<◌, IfOk, OnOk, Some, length};
+ghost use Rattle.rd_graph.specs.Internal.Chains.{before_place};
+ghost use Rattle.rd_graph.specs.Internal.MadeNodes.{made_at, made_after};
+ghost use Rattle.rd_graph.specs.Internal.Patching.{HasRoom};
+ghost use Rattle.rd_graph.specs.Internal.Seen.{seen};
+
+use crate::graph::Node;
+use rd_keys::EntryKey;
+use std::alloc::{AllocError, Global};
+
+/// What comes right before a place of the chain.
+fn before_at(alloc: Global, chain: &[EntryKey], i: usize) -> Result<Vec<EntryKey>, AllocError>
+    requires { i < length chain.now }
+    ensures { IfOk result (λ v. v.items ≡ before_place chain.now (Some i)) }
+{
+    let mut before = Vec::new(alloc);
+    if i == 0 {
+        return Ok(before);
+    }
+    before.push(chain[i - 1])?;
+    Ok(before)
+}
+
+/// The node of a name of the chain, if the name was not found.
+fn push_made(
+    alloc: Global,
+    made: &mut Vec<Node>,
+    chain: &[EntryKey],
+    i: usize,
+    key: EntryKey,
+    found: Option<usize>,
+) -> Result<(), AllocError>
+    requires { i < length chain.now }
+    ensures { OnOk result (seen made.new.items ≡ seen made.old.items ++ made_at chain.now i key found) }
+{
+    if found.is_some() {
+        return Ok(());
+    }
+    let before = before_at(alloc, chain, i)?;
+    made.push(Node { key, before })?;
+    Ok(())
+}
+
+/// The nodes of the names of the chain that were not found, each after the name before it in the chain.
+pub(crate) fn make(
+    alloc: Global,
+    chain: &[EntryKey],
+    found: &[Option<usize>],
+) -> Result<Vec<Node>, AllocError>
+    requires { length found.now ≡ length chain.now }
+    ensures { IfOk result (λ v. seen v.items ≡ made_after [] chain.now found.now) }
+{
+    let mut made = Vec::new(alloc);
+    for (i, key) in chain.iter().enumerate() {
+        push_made(alloc, &mut made, chain, i, *key, found[i])?;
+    }
+    Ok(made)
+}
+
+/// Room for the nodes of a line.
+pub(crate) fn room(alloc: Global, line: &Option<Vec<usize>>) -> Result<Vec<Node>, AllocError>
+    ensures { IfOk result (λ r. HasRoom line.now r) }
+{
+    match line {
+        Some(line) => Vec::with_capacity(alloc, line.len()),
+        None => Ok(Vec::new(alloc)),
+    }
+}

@@ -1,0 +1,89 @@
+//! Patches: what a merge of a level changes in a graph, made before the first change.
+ghost use Rattle.std.specs.Prelude.{◌≡◌, IfOk, option_map};
+ghost use Rattle.rd_graph.specs.Patches.{CanBePatched, FitsPatch, IsPatched, patched, line_of};
+
+use crate::applying::{in_line, put_lists};
+use crate::arranging::arrange;
+use crate::changing::changed;
+use crate::graph::{Node, OrderGraph};
+use crate::making::{make, room};
+use rd_keys::EntryKey;
+use std::alloc::{AllocError, Global};
+use std::marker::Model;
+
+/// New lists of predecessors by the places of their nodes, the nodes that are made, and the places of the result's nodes in their
+/// order, old and made ones counted through; none where every node stays at its place. There is room for the nodes of the result.
+#[derive(Drop)]
+pub struct Patch {
+    pub(crate) alloc: Global,
+    pub(crate) lists: Vec<(usize, Vec<EntryKey>)>,
+    pub(crate) made: Vec<Node>,
+    pub(crate) line: Option<Vec<usize>>,
+    pub(crate) room: Vec<Node>,
+}
+
+impl Model for Patch {
+    ghost use Rattle.std.specs.Prelude.{◌≡◌, option_map};
+    ghost use Rattle.rd_keys.specs.declared.entry.EntryKey.{EntryKey};
+    ghost use Rattle.rd_graph.specs.Patches.{PatchOf};
+    ghost use Rattle.rd_graph.specs.Internal.Seen.{seen};
+    ghost use Rattle.rd_graph.specs.Internal.Patching.{lists_seen, HasRoom};
+
+    ghost Value = { PatchOf EntryKey };
+
+    ghost view = { λ p. (lists_seen p.lists.items, (seen p.made.items, option_map (λ l. l.items) p.line)) };
+
+    ghost invariant = { λ p. HasRoom p.line p.room };
+}
+
+impl Patch {
+    /// The places of the result's nodes in their order, old and made ones counted through. None where every node stays at its place.
+    pub fn line(&self) -> Option<&[usize]>
+        ensures { option_map (λ l. l.now) result ≡ line_of self.now }
+    {
+        match &self.line {
+            Some(line) => Some(line),
+            None => None,
+        }
+    }
+}
+
+impl OrderGraph {
+    /// The patch of a merge: without the nodes at some places, which rise, and with the nodes and the edges of a chain, whose names stand
+    /// at the places `found`. It only reads the graph, and takes all memory that the change will need.
+    pub fn patch(
+        &self,
+        alloc: Global,
+        gone: &[usize],
+        chain: &[EntryKey],
+        found: &[Option<usize>],
+    ) -> Result<Patch, AllocError>
+        requires { CanBePatched gone.now chain.now found.now self.now }
+        ensures fits { IfOk result (λ p. FitsPatch p self.now) }
+        ensures patched { IfOk result (λ p. IsPatched gone.now chain.now found.now self.now p) }
+    {
+        let lists = changed(alloc, &self.nodes, gone, chain, found)?;
+        let line = arrange(alloc, self, gone, chain, found)?;
+        let made = make(alloc, chain, found)?;
+        let room = room(alloc, &line)?;
+        Ok(Patch {
+            alloc,
+            lists,
+            made,
+            line,
+            room,
+        })
+    }
+
+    /// The graph with its patch. It takes no memory.
+    pub fn apply(self, patch: Patch) -> OrderGraph
+        requires { FitsPatch patch self }
+        ensures { result ≡ patched patch self }
+    {
+        let mut nodes = self.nodes;
+        put_lists(&mut nodes, patch.lists);
+        OrderGraph {
+            nodes: in_line(patch.alloc, nodes, patch.made, patch.line, patch.room),
+        }
+    }
+}

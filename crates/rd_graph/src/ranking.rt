@@ -1,0 +1,144 @@
+//! A line by ranks: nodes are sorted by the first name of the chain that they are or reach.
+ghost use Rattle.std.specs.Prelude.{◌≡◌, ℕ, ◌+◌, ◌<◌, ◌++◌, ◌∷◌, [], IfOk, OnOk, Some, IsPermutation, length, map, slice_index_or, if◌then◌else◌, ◌^◌};
+ghost use Rattle.std.specs.List.Sorted.{IsNonDecreasingBy, IsStableByKey};
+ghost use Rattle.std.specs.Ordering.{nat_cmp};
+ghost use Rattle.rd_graph.specs.Graphs.{IsInOrder};
+ghost use Rattle.rd_graph.specs.Patches.{CanBePatched};
+ghost use Rattle.rd_graph.specs.Internal.Seen.{seen};
+ghost use Rattle.rd_graph.specs.Internal.Walks.{stays_at, counted};
+ghost use Rattle.rd_graph.specs.Internal.Ranks.{fixed, rank_after, loose_one, loose, ranked_nodes, IsLineOf};
+
+use crate::chain::label_nodes;
+use crate::graph::Node;
+use crate::tables::label;
+use crate::walking::{marks, push_staying, stays_there};
+use indexmap::IndexMap;
+use rd_keys::EntryKey;
+use std::alloc::{AllocError, Global};
+
+/// Puts a name of the chain at the end, if it stays.
+fn push_fixed(names: &mut Vec<EntryKey>, stays: bool, name: EntryKey) -> Result<(), AllocError>
+    ensures { OnOk result (names.new.items ≡ names.old.items ++ (if stays then name ∷ [] else [])) }
+{
+    if stays {
+        names.push(name)?;
+    }
+    Ok(())
+}
+
+/// The names of a chain that stay.
+fn fixed_names(
+    alloc: Global,
+    stays: &[bool],
+    places: &[usize],
+    chain: &[EntryKey],
+) -> Result<Vec<EntryKey>, AllocError>
+    requires { length places.now ≡ length chain.now }
+    ensures { IfOk result (λ v. v.items ≡ fixed stays.now places.now chain.now) }
+{
+    let mut names = Vec::new(alloc);
+    for i in 0..places.len() {
+        push_fixed(&mut names, stays_there(stays, places[i]), chain[i])?;
+    }
+    Ok(names)
+}
+
+/// Puts a place of the chain at the end with its rank, unless it stays. Gives the rank of the next one.
+fn push_loose(
+    pairs: &mut Vec<(usize, usize)>,
+    stays: &[bool],
+    rank: usize,
+    place: usize,
+) -> Result<usize, AllocError>
+    requires { rank + 1 < 2 ^ 64 }
+    ensures pairs { OnOk result (pairs.new.items ≡ pairs.old.items ++ loose_one stays.now rank place) }
+    ensures rank { IfOk result (λ r. r ≡ rank_after stays.now rank place) }
+{
+    if stays_there(stays, place) {
+        return Ok(rank + 1);
+    }
+    pairs.push((rank, place))?;
+    Ok(rank)
+}
+
+/// The places of the chain that do not stay, with their ranks.
+fn loose_pairs(
+    alloc: Global,
+    stays: &[bool],
+    places: &[usize],
+) -> Result<Vec<(usize, usize)>, AllocError>
+    ensures { IfOk result (λ v. v.items ≡ loose stays.now 0 places.now) }
+{
+    let mut pairs = Vec::new(alloc);
+    let mut rank = 0;
+    for place in places {
+        rank = push_loose(&mut pairs, stays, rank, *place)?;
+    }
+    Ok(pairs)
+}
+
+/// Puts some places at the end, with the ranks of their nodes.
+fn push_ranked(
+    pairs: &mut Vec<(usize, usize)>,
+    nodes: &[Node],
+    kept: &[usize],
+    labels: &IndexMap<EntryKey, usize>,
+    last: usize,
+) -> Result<(), AllocError>
+    requires { (k : ℕ) → k < length kept.now → slice_index_or kept.now k 0 < length nodes.now }
+    ensures { OnOk result (pairs.new.items ≡ pairs.old.items ++ ranked_nodes labels.now last nodes.now kept.now) }
+{
+    for place in kept {
+        pairs.push((label(labels, last, nodes[*place].key), *place))?;
+    }
+    Ok(())
+}
+
+/// The pairs by their ranks, those of one rank as they stood.
+fn sort(pairs: &mut Vec<(usize, usize)>) -> Result<(), AllocError>
+    ensures same { IsPermutation pairs.old.items pairs.new.items }
+    ensures sorted { OnOk result (IsNonDecreasingBy (λ p. p.0) pairs.new.items) }
+    ensures stable { IsStableByKey (λ p. p.0) nat_cmp pairs.old.items pairs.new.items }
+{
+    pairs.sort_by_key(|p| p.0)?;
+    Ok(())
+}
+
+/// The places of pairs.
+fn places_alone(alloc: Global, pairs: &[(usize, usize)]) -> Result<Vec<usize>, AllocError>
+    ensures { IfOk result (λ v. v.items ≡ map (λ p. p.1) pairs.now) }
+{
+    let mut places = Vec::with_capacity(alloc, pairs.len())?;
+    for (_, place) in pairs {
+        places.push(*place)?;
+    }
+    Ok(places)
+}
+
+/// The line by ranks.
+pub(crate) fn ranked_line(
+    alloc: Global,
+    nodes: &[Node],
+    gone: &[usize],
+    chain: &[EntryKey],
+    found: &[Option<usize>],
+    places: &[usize],
+) -> Result<Vec<usize>, AllocError>
+    requires sound { IsInOrder (seen nodes.now) }
+    requires can { CanBePatched gone.now chain.now found.now (seen nodes.now) }
+    requires places { places.now ≡ counted (length nodes.now) found.now }
+    ensures { IfOk result (IsLineOf gone.now chain.now found.now (seen nodes.now)) }
+{
+    let marked = marks(alloc, nodes.len(), gone)?;
+    let stays: &[bool] = &marked;
+    let names = fixed_names(alloc, stays, places, chain)?;
+    let fixed: &[EntryKey] = &names;
+    let labels = label_nodes(alloc, nodes, fixed)?;
+    let mut pairs = loose_pairs(alloc, stays, places)?;
+    let mut kept = Vec::with_capacity(alloc, nodes.len())?;
+    push_staying(&mut kept, stays, 0, stays.len())?;
+    push_ranked(&mut pairs, nodes, &kept, &labels, fixed.len())?;
+    sort(&mut pairs)?;
+    let line = places_alone(alloc, &pairs)?;
+    Ok(line)
+}

@@ -1,0 +1,143 @@
+//! A line by one walk along the old places: what stays keeps its order, and what is of the chain comes between.
+ghost use Rattle.std.specs.Prelude.{◌≡◌, ℕ, ◌+◌, ◌-◌, ◌<◌, ◌≤◌, ◌↔◌, ◌⊎◌, false, IfOk, OnOk, IsTrue, MatchOption, Some, IfSome, if◌then◌else◌, [], ◌∷◌, ◌++◌, length, slice_index_or, Contains};
+ghost use Rattle.rd_graph.specs.Graphs.{IsInOrder};
+ghost use Rattle.rd_graph.specs.Patches.{CanBePatched};
+ghost use Rattle.rd_graph.specs.Internal.Ranks.{IsLineOf};
+ghost use Rattle.rd_graph.specs.Internal.Seen.{seen};
+ghost use Rattle.rd_graph.specs.Internal.Walks.{stays_at, staying, counted, from_after, led_to, walk, RisesWhere, IsBehind, IsAhead};
+
+use crate::graph::Node;
+use rd_keys::EntryKey;
+use std::alloc::{AllocError, Global};
+
+/// Which of so many places stay.
+pub(crate) fn marks(alloc: Global, count: usize, gone: &[usize]) -> Result<Vec<bool>, AllocError>
+    requires { (k : ℕ) → k < length gone.now → slice_index_or gone.now k 0 < count }
+    ensures count { IfOk result (λ v. length v.items ≡ count) }
+    ensures stays { IfOk result (λ v. (p : ℕ) → p < count → IsTrue (stays_at v.items p) ↔ (Contains gone.now p → ⊥)) }
+{
+    let mut stays = vec![in alloc; true; count]?;
+    for place in gone {
+        stays[*place] = false;
+    }
+    Ok(stays)
+}
+
+/// Does the node at a place stay?
+pub(crate) fn stays_there(stays: &[bool], place: usize) -> bool
+    ensures { result ≡ stays_at stays.now place }
+{
+    place < stays.len() && stays[place]
+}
+
+/// Puts a place at the end, if it stays.
+fn push_if(line: &mut Vec<usize>, stays: bool, place: usize) -> Result<(), AllocError>
+    ensures { OnOk result (line.new.items ≡ line.old.items ++ (if stays then place ∷ [] else [])) }
+{
+    if stays {
+        line.push(place)?;
+    }
+    Ok(())
+}
+
+/// Puts those places at the end that stay, of a stretch of places.
+pub(crate) fn push_staying(
+    line: &mut Vec<usize>,
+    stays: &[bool],
+    from: usize,
+    to: usize,
+) -> Result<(), AllocError>
+    requires { to ≤ length stays.now }
+    ensures { OnOk result (line.new.items ≡ line.old.items ++ staying stays.now from (to - from)) }
+{
+    for place in from..to {
+        push_if(line, stays[place], place)?;
+    }
+    Ok(())
+}
+
+/// Puts a place of the chain at the end, and before it, if it stays, those that stay since the walk stopped.
+/// Gives the place to go on from.
+fn push_led(
+    line: &mut Vec<usize>,
+    stays: &[bool],
+    from: usize,
+    place: usize,
+) -> Result<usize, AllocError>
+    ensures line { OnOk result (line.new.items ≡ line.old.items ++ led_to stays.now from place) }
+    ensures from { IfOk result (λ f. f ≡ from_after stays.now from place) }
+{
+    if place < stays.len() && stays[place] {
+        push_staying(line, stays, from, place)?;
+        line.push(place)?;
+        return Ok(place + 1);
+    }
+    line.push(place)?;
+    Ok(from)
+}
+
+/// The whole walk, with the places of the chain.
+pub(crate) fn walked(
+    alloc: Global,
+    stays: &[bool],
+    places: &[usize],
+) -> Result<Vec<usize>, AllocError>
+    ensures { IfOk result (λ v. v.items ≡ walk stays.now 0 places.now) }
+{
+    let mut line = Vec::with_capacity(alloc, stays.len() + places.len())?;
+    let mut from = 0;
+    for place in places {
+        from = push_led(&mut line, stays, from, *place)?;
+    }
+    push_staying(&mut line, stays, from, stays.len())?;
+    Ok(line)
+}
+
+/// Where the walk goes on after a place of the chain. None if it stays and lies behind.
+fn goes_on(stays: &[bool], from: usize, place: usize) -> Option<usize>
+    ensures { MatchOption result (IsBehind stays.now from place) (IsAhead stays.now from place) }
+{
+    if place < stays.len() && stays[place] {
+        if place < from {
+            return None;
+        }
+        return Some(place + 1);
+    }
+    Some(from)
+}
+
+/// Do those places of a chain rise that stay?
+pub(crate) fn rises_where(stays: &[bool], places: &[usize]) -> bool
+    ensures { IsTrue result ↔ RisesWhere stays.now 0 places.now }
+{
+    let mut from = 0;
+    for place in places {
+        match goes_on(stays, from, *place) {
+            Some(next) => from = next,
+            None => return false,
+        }
+    }
+    true
+}
+
+/// The line by one walk, where those places of the chain that stay rise. Else none.
+pub(crate) fn walked_line(
+    alloc: Global,
+    nodes: &[Node],
+    gone: &[usize],
+    chain: &[EntryKey],
+    found: &[Option<usize>],
+    places: &[usize],
+) -> Result<Option<Vec<usize>>, AllocError>
+    requires sound { IsInOrder (seen nodes.now) }
+    requires can { CanBePatched gone.now chain.now found.now (seen nodes.now) }
+    requires places { places.now ≡ counted (length nodes.now) found.now }
+    ensures { IfOk result (λ l. IfSome l (IsLineOf gone.now chain.now found.now (seen nodes.now))) }
+{
+    let stays = marks(alloc, nodes.len(), gone)?;
+    if !rises_where(&stays, places) {
+        return Ok(None);
+    }
+    let line = walked(alloc, &stays, places)?;
+    Ok(Some(line))
+}

@@ -1,0 +1,33 @@
+use Rattle.std.proofs.Common.{◌∙◌, sym, ap, subst, map, ◌≤◌, ℕ}
+use Rattle.rd_graph.specs.Names.{place_of, same_entry}
+use Rattle.rd_graph.proofs.Marks.{take_whole}
+use Rattle.rd_list.specs.EntryNames.{entry_names, kept_leaves}
+use Rattle.rd_list.specs.KeptView.{kept_entries}
+use Rattle.rd_merge.specs.Going.{is_untouched}
+use Rattle.rd_merge.specs.Looking.{gone_places, inner_places, kept_names}
+use Rattle.rd_merge.proofs.Looks.{gone_next, inner_next, named_next, names_length}
+use Rattle.rd_merge.proofs.looking.look.Goals as goal
+
+pub loop-place-preserved : goal.loop-place-preserved
+loop-place-preserved g c =
+    let t = g.T.Touches.is_touched c.args.tree.now in
+    let es = c.args.entries.now in
+    let i = c.loop-place.place in
+    let x = c.index-entries-place.result in
+    record {
+      gone = gone_next t es i x c.loop-place.looked.gone.items _ c.loop-place-test.true c.index-entries-place.is c.loop-place.invariant.gone c.in_ok-look_at.ensures.gone;
+      found = named_next es c.args.names.now c.in_ok-sought.sought i x c.loop-place.looked.found.items _ c.in_ok-sought.ensures c.requires.names c.requires.entries c.loop-place-test.true c.index-entries-place.is c.loop-place.invariant.found
+          c.in_ok-look_at.ensures.found;
+      inner = inner_next t c.args.names.now c.in_ok-sought.sought es i x c.loop-place.looked.inner.items _ c.in_ok-sought.ensures c.loop-place-test.true c.index-entries-place.is c.loop-place.invariant.inner c.in_ok-look_at.ensures.inner;
+    }
+
+pub returns : goal.returns
+returns g c =
+    let t = g.T.Touches.is_touched c.args.tree.now in
+    let es = c.args.entries.now in
+    let all = take_whole es c.loop-place.place c.loop-place-test.false in
+    record {
+      gone_are = c.loop-place.invariant.gone ∙ ap (λ xs. gone_places entry_names (is_untouched t) 0 (kept_leaves (kept_entries xs))) all;
+      found_are = c.loop-place.invariant.found ∙ ap (λ ks. map (λ k. place_of same_entry ks k) c.args.names.now) (take_whole (kept_names (kept_entries es)) c.loop-place.place (subst (λ (n : ℕ). n ≤ c.loop-place.place) (sym (names_length es)) c.loop-place-test.false));
+      inner_are = c.loop-place.invariant.inner ∙ ap (λ xs. inner_places entry_names (is_untouched t) c.args.names.now 0 (kept_leaves (kept_entries xs))) all;
+    }

@@ -1,0 +1,160 @@
+//! A look at a kept level: which entries go, where the names of the new level stand, and in which groups something goes.
+ghost use Rattle.std.specs.Prelude.{◌≡◌, ◌<◌, ◌&&◌, not, if◌then◌else◌, [], ◌∷◌, ◌++◌, length, map, None, IfOk, IfSome, OnOk};
+ghost use Rattle.rd_graph.specs.Names.{place_of, same_entry};
+ghost use Rattle.rd_graph.specs.Orders.{Once};
+ghost use Rattle.rd_list.specs.Entries.{is_empty};
+ghost use Rattle.rd_list.specs.EntryNames.{kept_leaves};
+ghost use Rattle.rd_list.specs.KeptView.{kept_entries};
+ghost use Rattle.rd_merge.specs.Internal.Looks.{gone_at, goes_inside, has_touched, inner_at, name_of, noted};
+ghost use Rattle.rd_merge.specs.Looking.{IsLooked, kept_names};
+
+use crate::going::{Touches, key_of, stays_at};
+use crate::sought::Sought;
+use rd_keys::EntryKey;
+use rd_list::Entry;
+use std::alloc::{AllocError, Global};
+use std::sync::ledger::Ledger;
+
+/// Places in a kept level: of the entries that go, of each name of the new level, and of the groups to go into although the new level does
+/// not name them.
+#[derive(Drop)]
+pub(crate) struct Looked {
+    pub(crate) gone: Vec<usize>,
+    pub(crate) found: Vec<Option<usize>>,
+    pub(crate) inner: Vec<usize>,
+}
+
+/// Is there no entry?
+fn has_none<A: Ledger>(entries: &[Entry<A>]) -> bool
+    ensures { result ≡ is_empty (kept_leaves (kept_entries entries.now)) }
+{
+    entries.is_empty()
+}
+
+/// Does a leaf of a touched box stand here, in a group or outside, or a group without entries?
+#[cycle(leaving)]
+fn any_goes<A: Ledger, T: Touches>(entries: &[Entry<A>], tree: &T) -> bool
+    ensures { result ≡ has_touched (T.is_touched tree.now) (kept_entries entries.now) }
+{
+    for entry in entries {
+        if goes_at(entry, tree) {
+            return true;
+        }
+    }
+    false
+}
+
+#[cycle(leaving)]
+fn goes_at<A: Ledger, T: Touches>(entry: &Entry<A>, tree: &T) -> bool
+    ensures { result ≡ has_touched (T.is_touched tree.now) (kept_entries (entry.now ∷ [])) }
+{
+    match entry {
+        Entry::Leaf(item) => tree.touches(item.owner()),
+        Entry::Group(group) => {
+            has_none(&group.inner.entries) || any_goes(&group.inner.entries, tree)
+        }
+    }
+}
+
+/// Is it a group of which something goes?
+fn goes_inside<A: Ledger, T: Touches>(entry: &Entry<A>, tree: &T) -> bool
+    ensures { result ≡ goes_inside (T.is_touched tree.now) entry.now }
+{
+    match entry {
+        Entry::Leaf(_) => false,
+        Entry::Group(group) => any_goes(&group.inner.entries, tree),
+    }
+}
+
+/// Is it a group to go into, although the new level does not name it?
+fn is_inner<A: Ledger, T: Touches>(stays: bool, is_new: bool, entry: &Entry<A>, tree: &T) -> bool
+    ensures { result ≡ (stays && not is_new && goes_inside (T.is_touched tree.now) entry.now) }
+{
+    stays && !is_new && goes_inside(entry, tree)
+}
+
+/// The place of a name is noted, where the name is found.
+fn note(found: &mut Vec<Option<usize>>, name: Option<usize>, place: usize)
+    requires { IfSome name (λ j. j < length found.old.items) }
+    ensures { found.new.items ≡ noted name place found.old.items }
+{
+    if let Some(j) = name {
+        found[j] = Some(place);
+    }
+}
+
+/// The place goes to the end, if it is wanted.
+fn push_if(places: &mut Vec<usize>, is_wanted: bool, place: usize) -> Result<(), AllocError>
+    ensures { OnOk result (places.new.items ≡ places.old.items ++ (if is_wanted then place ∷ [] else [])) }
+{
+    if is_wanted {
+        places.push(place)?;
+        return Ok(());
+    }
+    Ok(())
+}
+
+/// Notes what is found at one entry.
+fn look_at<A: Ledger, T: Touches>(
+    looked: &mut Looked,
+    names: &Sought,
+    place: usize,
+    entry: &Entry<A>,
+    tree: &T,
+) -> Result<(), AllocError>
+    requires { length looked.old.found.items ≡ length names.now }
+    ensures gone { OnOk result (looked.new.gone.items
+        ≡ looked.old.gone.items ++ gone_at (T.is_touched tree.now) place entry.now) }
+    ensures found { OnOk result (looked.new.found.items
+        ≡ noted (place_of same_entry names.now (name_of entry.now)) place looked.old.found.items) }
+    ensures inner { OnOk result (looked.new.inner.items
+        ≡ looked.old.inner.items ++ inner_at (T.is_touched tree.now) names.now place entry.now) }
+{
+    let name = names.find(key_of(entry));
+    note(&mut looked.found, name, place);
+    let stays = stays_at(entry, tree);
+    push_if(&mut looked.gone, !stays, place)?;
+    let is_inner = is_inner(stays, name.is_some(), entry, tree);
+    push_if(&mut looked.inner, is_inner, place)?;
+    Ok(())
+}
+
+/// Nothing is found as yet.
+fn nothing(alloc: Global, names: &[EntryKey]) -> Result<Looked, AllocError>
+    ensures gone { IfOk result (λ l. l.gone.items ≡ []) }
+    ensures found { IfOk result (λ l. l.found.items ≡ map (λ k. None) names.now) }
+    ensures inner { IfOk result (λ l. l.inner.items ≡ []) }
+{
+    let mut found = Vec::with_capacity(alloc, names.len())?;
+    for _ in names {
+        found.push(None)?;
+    }
+    Ok(Looked {
+        gone: Vec::new(alloc),
+        found,
+        inner: Vec::new(alloc),
+    })
+}
+
+/// One pass over the entries of a kept level, for the names of a new one.
+pub(crate) fn look<A: Ledger, T: Touches>(
+    alloc: Global,
+    entries: &[Entry<A>],
+    names: &[EntryKey],
+    tree: &T,
+) -> Result<Looked, AllocError>
+    requires names { Once names.now }
+    requires entries { Once (kept_names (kept_entries entries.now)) }
+    ensures { IfOk result (λ l. IsLooked (T.is_touched tree.now) (kept_entries entries.now) names.now
+        l.gone.items l.found.items l.inner.items) }
+{
+    let mut looked = nothing(alloc, names)?;
+    if entries.is_empty() {
+        return Ok(looked);
+    }
+    let sought = Sought::new(alloc, names)?;
+    for (place, entry) in entries.iter().enumerate() {
+        look_at(&mut looked, &sought, place, entry, tree)?;
+    }
+    Ok(looked)
+}

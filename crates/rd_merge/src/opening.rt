@@ -1,0 +1,149 @@
+//! New entries are taken one after another, and groups out of their places.
+ghost use Rattle.std.specs.Prelude.{◌≡◌, ◌∷◌, [], true, Some, is_some, vec_len};
+ghost use Rattle.std.specs.Vec.Iter.{into_iter_items};
+ghost use Rattle.rd_list.specs.KeptView.{kept_entries};
+ghost use Rattle.rd_list.specs.NewView.{new_entries};
+ghost use Rattle.rd_list.specs.Views.{group_at};
+ghost use Rattle.rd_list.specs.Wrappers.{wrapper};
+ghost use Rattle.rd_merge.specs.Plans.{IsGroupPlace, IsNamed, IsPlace, first_leaf, first_list, first_wrapper, later, left_for, list_for, old_list, size_of, wrapper_at, wrapper_for};
+ghost use Rattle.rd_merge.specs.Internal.Moving.{IsSameBut};
+
+use crate::moving::take_at;
+use rd_keys::BoxKey;
+use rd_list::{Entry, Group, Kept, NewEntry, NewList};
+use std::alloc::Global;
+use std::sync::ledger::Ledger;
+use std::vec::IntoIter;
+
+/// What a new list says of a group, and the group's new list.
+#[derive(Drop)]
+struct NewGroup<A: Ledger> {
+    key: BoxKey,
+    opacity: u8,
+    inner: NewList<A>,
+}
+
+/// What is said of a group, and what it is made of: the list that was kept in it and the new one.
+#[derive(Drop)]
+pub(crate) struct Opened<A: Ledger> {
+    pub(crate) key: BoxKey,
+    pub(crate) opacity: u8,
+    pub(crate) kept: Kept<A>,
+    pub(crate) new: NewList<A>,
+}
+
+/// A new leaf, as an entry of a kept list.
+fn as_kept<A: Ledger>(entry: NewEntry<A>) -> Entry<A>
+    requires { size_of (first_leaf (new_entries (entry ∷ []))) ≡ 1 }
+    ensures { kept_entries (result ∷ []) ≡ first_leaf (new_entries (entry ∷ [])) }
+{
+    match entry {
+        NewEntry::Leaf(item) => Entry::Leaf(item),
+        NewEntry::Group { .. } => unreachable!(),
+    }
+}
+
+/// The next new entry, which is a leaf.
+pub(crate) fn next_leaf<A: Ledger>(fresh: &mut IntoIter<NewEntry<A>, Global>) -> Entry<A>
+    requires { size_of (first_leaf (new_entries (into_iter_items fresh.old))) ≡ 1 }
+    ensures leaf { kept_entries (result ∷ []) ≡ first_leaf (new_entries (into_iter_items fresh.old)) }
+    ensures left { new_entries (into_iter_items fresh.new) ≡ later (new_entries (into_iter_items fresh.old)) }
+{
+    match fresh.next() {
+        Some(entry) => as_kept(entry),
+        None => unreachable!(),
+    }
+}
+
+/// The next new entry, which is a group.
+fn next_group<A: Ledger>(fresh: &mut IntoIter<NewEntry<A>, Global>) -> NewGroup<A>
+    requires { is_some (first_wrapper (new_entries (into_iter_items fresh.old))) ≡ true }
+    ensures named { first_wrapper (new_entries (into_iter_items fresh.old))
+        ≡ Some (wrapper result.key result.opacity) }
+    ensures inner { result.inner ≡ first_list (new_entries (into_iter_items fresh.old)) }
+    ensures left { new_entries (into_iter_items fresh.new) ≡ later (new_entries (into_iter_items fresh.old)) }
+{
+    match fresh.next() {
+        Some(NewEntry::Leaf(_)) => unreachable!(),
+        Some(
+            NewEntry::Group {
+                key,
+                opacity,
+                inner,
+            },
+        ) => NewGroup {
+            key,
+            opacity,
+            inner,
+        },
+        None => unreachable!(),
+    }
+}
+
+/// The group at a place, taken out of it.
+fn take_group<A: Ledger>(alloc: Global, entries: &mut Vec<Entry<A>>, place: usize) -> Group<A>
+    requires { is_some (group_at place (kept_entries entries.old.items)) ≡ true }
+    ensures named { wrapper_at place (kept_entries entries.old.items) ≡ Some (wrapper result.key result.opacity) }
+    ensures inner { group_at place (kept_entries entries.old.items) ≡ Some result.inner }
+    ensures others { IsSameBut (Some place) (kept_entries entries.old.items) (kept_entries entries.new.items) }
+    ensures len { vec_len entries.new ≡ vec_len entries.old }
+{
+    match take_at(alloc, entries, place) {
+        Entry::Leaf(_) => unreachable!(),
+        Entry::Group(group) => group,
+    }
+}
+
+/// What a step needs of its group: taken out of its place, where it has one, and of the next new entry, where that goes into it.
+pub(crate) fn open<A: Ledger>(
+    alloc: Global,
+    entries: &mut Vec<Entry<A>>,
+    fresh: &mut IntoIter<NewEntry<A>, Global>,
+    old: Option<usize>,
+    is_new: bool,
+) -> Opened<A>
+    requires group { IsGroupPlace old (kept_entries entries.old.items) }
+    requires named { IsNamed is_new old (new_entries (into_iter_items fresh.old)) }
+    ensures named { wrapper_for is_new old (kept_entries entries.old.items) (new_entries (into_iter_items fresh.old))
+        ≡ Some (wrapper result.key result.opacity) }
+    ensures kept { result.kept ≡ old_list old (kept_entries entries.old.items) }
+    ensures new { result.new ≡ list_for is_new (new_entries (into_iter_items fresh.old)) }
+    ensures left { new_entries (into_iter_items fresh.new)
+        ≡ left_for is_new (new_entries (into_iter_items fresh.old)) }
+    ensures others { IsSameBut old (kept_entries entries.old.items) (kept_entries entries.new.items) }
+    ensures len { vec_len entries.new ≡ vec_len entries.old }
+{
+    let Some(place) = old else {
+        let NewGroup {
+            key,
+            opacity,
+            inner,
+        } = next_group(fresh);
+        return Opened {
+            key,
+            opacity,
+            kept: Kept::empty(alloc),
+            new: inner,
+        };
+    };
+    let group = take_group(alloc, entries, place);
+    if is_new {
+        let NewGroup {
+            key,
+            opacity,
+            inner,
+        } = next_group(fresh);
+        return Opened {
+            key,
+            opacity,
+            kept: group.inner,
+            new: inner,
+        };
+    }
+    Opened {
+        key: group.key,
+        opacity: group.opacity,
+        kept: group.inner,
+        new: NewList::empty(alloc),
+    }
+}
