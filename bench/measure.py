@@ -58,6 +58,7 @@ INPUTS = [
     ("1,000 boxes below the root, painted and dumped", lambda: script(boxes(1_000, flat), PAINT)),
     ("1,000 boxes of a page, painted and dumped", lambda: script(boxes(1_000, page), PAINT)),
     ("5,000 boxes of a page, painted and dumped", lambda: script(boxes(5_000, page), PAINT)),
+    ("20,000 boxes of a page, painted and dumped", lambda: script(boxes(20_000, page), PAINT)),
     ("a chain of 256 boxes, painted and dumped", lambda: script(boxes(256, chain), PAINT)),
     ("10,000 insertions below the root", lambda: script(boxes(1, flat), insertions(10_001))),
     ("19,999 insertions below the root", lambda: script(boxes(1, flat), insertions(20_000))),

@@ -1,0 +1,169 @@
+#!/usr/bin/env python3
+"""What one edit with its paint costs: `python3 bench/paints.py [--instructions|--long] PROGRAM [NAME=PROGRAM ..]`.
+
+Each scene is painted once, and then a paint follows each edit. A scene comes with K and with 2K edits, the first K of
+them the same, and the difference of the two runs over K is the cost of one edit with its paint, without start, reading
+and the first paint. It prints processor time (the least of three runs); with --instructions also what callgrind of
+valgrind counts, which is the same on every run. Any program that reads the same scripts may stand beside.
+With --long it prints what an edit with its paint costs in each of five stretches of 2,000 paints, from one run each.
+Run by hand; nothing in the gate looks at time.
+"""
+import json
+import os
+import random
+import resource
+import subprocess
+import sys
+import tempfile
+
+WIDTH, HEIGHT = 1280, 800
+
+
+def box(key, parent, rect, style):
+    return {"id": key, "parent": parent, "rect": rect, "style": style}
+
+
+def ink(rng):
+    return "#%06x" % rng.randrange(1 << 24)
+
+
+def flat(count, rng):
+    """All boxes on the same ten pixels."""
+    return [10, 10], [box(f"b{i}", "b0", [i % 10, 0, 1, 1], {}) for i in range(1, count)]
+
+
+def spread(count, rng):
+    """Boxes without nesting, all over the canvas."""
+    return [WIDTH, HEIGHT], [
+        box(f"b{i}", "b0", [rng.randrange(WIDTH - 16), rng.randrange(HEIGHT - 12), 16, 12], {"background": ink(rng)})
+        for i in range(1, count)
+    ]
+
+
+def divide(found, parent, rect, count, depth, rng):
+    """Boxes below a box, side by side or one above another, each with its share of what is left of them."""
+    fan = min(count, rng.randint(3, 8)) if depth < 12 else count
+    shares = [1 + (count - fan) * i // fan - (count - fan) * (i - 1) // fan for i in range(1, fan + 1)]
+    x, y, w, h = rect
+    across = w > 2 * h
+    for i, share in enumerate(shares):
+        part = [x + w * i // fan, y, max(w // fan, 6), h] if across else [x, y + h * i // fan, w, max(h // fan, 5)]
+        key = f"b{len(found) + 1}"
+        style = {"background": ink(rng)} if rng.random() < 0.4 else {"content": ink(rng)}
+        if rng.random() < 0.1:
+            style["border-width"] = [1, 1, 1, 1]
+            style["border-color"] = ink(rng)
+        if rng.random() < 0.05:
+            style["position"] = rng.choice(("relative", "absolute"))
+        if share > 1 and rng.random() < 0.01:
+            style["opacity"] = rng.randrange(60, 255)
+        found.append(box(key, parent, part, style))
+        if share > 1:
+            divide(found, key, part, share - 1, depth + 1, rng)
+
+
+def page(count, rng):
+    """Nested boxes of many styles, as a page has them."""
+    found = []
+    divide(found, "b0", [0, 0, WIDTH, HEIGHT], count - 1, 0, rng)
+    return [WIDTH, HEIGHT], found
+
+
+def nested(count, rng):
+    """A chain of groups, each in the one before."""
+    return [WIDTH, HEIGHT], [
+        box(f"b{i}", f"b{i - 1}", [i, i, 300, 300], {"background": ink(rng), "opacity": 200}) for i in range(1, count)
+    ]
+
+
+def scene(kind, count, edits):
+    (w, h), found = kind(count, random.Random(1))
+    root = {"id": "b0", "parent": None, "rect": [0, 0, w, h], "style": {"background": "#ffffff"}}
+    rng = random.Random(2)
+    commands = [{"do": "paint"}]
+    for _ in range(edits):
+        one = found[rng.randrange(len(found))]
+        commands.append({"do": "style", "id": one["id"], "style": {"background": ink(rng)}})
+        commands.append({"do": "paint"})
+    return json.dumps({"version": 1, "canvas": {"w": w, "h": h}, "boxes": [root] + found, "script": commands})
+
+
+SCENES = [
+    (name, kind, count, edits)
+    for name, kind, sizes, edits in (
+        ("page", page, (1000, 5000, 20000), 200),
+        ("flat", flat, (1000, 5000, 20000), 50),
+        ("spread", spread, (1000, 5000, 20000), 200),
+        ("nested", nested, (64, 128, 250), 50),
+    )
+    for count in sizes
+]
+
+
+def seconds(program, path, runs=3):
+    least = None
+    for _ in range(runs):
+        before = resource.getrusage(resource.RUSAGE_CHILDREN)
+        with open(path, "rb") as text:
+            subprocess.run([program, "replay"], stdin=text, stdout=subprocess.DEVNULL, check=True)
+        after = resource.getrusage(resource.RUSAGE_CHILDREN)
+        took = after.ru_utime + after.ru_stime - before.ru_utime - before.ru_stime
+        least = took if least is None else min(least, took)
+    return least
+
+
+def instructions(program, path):
+    words = ["valgrind", "--tool=callgrind", "--callgrind-out-file=/dev/null", program, "replay"]
+    with open(path, "rb") as text:
+        run = subprocess.run(words, stdin=text, stdout=subprocess.DEVNULL, stderr=subprocess.PIPE, check=True)
+    return int(run.stderr.split(b"Collected :")[1].split()[0])
+
+
+def written(folder, name, text):
+    path = os.path.join(folder, name)
+    with open(path, "w", encoding="utf-8") as file:
+        file.write(text)
+    return path
+
+
+def long_runs(programs):
+    """Whether a paint becomes dearer the more paints there were."""
+    print("| Scene, boxes, program | " + " | ".join(f"to {2000 * k}, ms" for k in range(1, 6)) + " |")
+    print("|---|" + "---|" * 5)
+    for name, kind, count in (("page", page, 1000), ("spread", spread, 1000)):
+        with tempfile.TemporaryDirectory() as folder:
+            paths = [written(folder, str(k), scene(kind, count, 2000 * k)) for k in range(6)]
+            for title, program in programs:
+                took = [seconds(program, path, 1) for path in paths]
+                cells = [f"{(after - before) / 2:.3f}" for before, after in zip(took, took[1:])]
+                print(f"| {name}, {count}, {title} | " + " | ".join(cells) + " |", flush=True)
+
+
+def main():
+    flags = [word for word in sys.argv[1:] if word.startswith("--")]
+    words = [word for word in sys.argv[1:] if not word.startswith("--")]
+    if not words or not set(flags) <= {"--instructions", "--long"}:
+        sys.exit(__doc__)
+    programs = [word.split("=", 1) if "=" in word else ["this program", word] for word in words]
+    if "--long" in flags:
+        return long_runs(programs)
+    counts = "--instructions" in flags
+    units = ["ms"] + (["thousand instructions"] if counts else [])
+    columns = [f"{name}, {unit}" for name, _ in programs for unit in units]
+    print("| Scene, boxes | " + " | ".join(columns) + " |")
+    print("|---|" + "---|" * len(columns))
+    for name, kind, count, edits in SCENES:
+        with tempfile.TemporaryDirectory() as folder:
+            paths = [written(folder, str(k), scene(kind, count, k * edits)) for k in (1, 2)]
+            cells = []
+            for _, program in programs:
+                first, second = (seconds(program, path) for path in paths)
+                cells.append(f"{1000 * (second - first) / edits:.3f}")
+                if counts:
+                    first, second = (instructions(program, path) for path in paths)
+                    cells.append(f"{(second - first) / edits / 1000:.0f}")
+        print(f"| {name}, {count} | " + " | ".join(cells) + " |", flush=True)
+
+
+if __name__ == "__main__":
+    main()
