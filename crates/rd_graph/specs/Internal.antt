@@ -7,5 +7,6 @@ pub mod Ranks
 pub mod Seen
 pub mod Tables
 pub mod Taking
+pub mod Trimming
 pub mod Walks
 pub mod Words

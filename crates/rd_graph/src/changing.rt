@@ -260,7 +260,7 @@ fn pass_all(
 }
 
 /// A list once more.
-fn copied(alloc: Global, keys: &[EntryKey]) -> Result<Vec<EntryKey>, AllocError>
+pub(crate) fn copied(alloc: Global, keys: &[EntryKey]) -> Result<Vec<EntryKey>, AllocError>
     ensures { IfOk result (λ v. v.items ≡ keys.now) }
 {
     let mut all = Vec::with_capacity(alloc, keys.len())?;

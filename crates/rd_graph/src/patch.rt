@@ -7,6 +7,7 @@ use crate::arranging::arrange;
 use crate::changing::changed;
 use crate::graph::{Node, OrderGraph};
 use crate::making::{make, room};
+use crate::trimming::trimmed;
 use rd_keys::EntryKey;
 use std::alloc::{AllocError, Global};
 use std::marker::Model;
@@ -62,7 +63,8 @@ impl OrderGraph {
         ensures fits { IfOk result (λ p. FitsPatch p self.now) }
         ensures patched { IfOk result (λ p. IsPatched gone.now chain.now found.now self.now p) }
     {
-        let lists = changed(alloc, &self.nodes, gone, chain, found)?;
+        let relisted = changed(alloc, &self.nodes, gone, chain, found)?;
+        let lists = trimmed(alloc, chain, relisted)?;
         let line = arrange(alloc, self, gone, chain, found)?;
         let made = make(alloc, chain, found)?;
         let room = room(alloc, &line)?;
