@@ -7,19 +7,15 @@ use Rattle.rd_keys.specs.declared.entry.EntryKey.{EntryKey}
 use Rattle.rd_graph.specs.Orders as order
 use Rattle.rd_graph.specs.Orders.{Before}
 use Rattle.rd_graph.specs.Graphs.{Graph, nodes, Precedes, Hop, here, Stitch, IsInOrder}
-use Rattle.rd_graph.specs.Laws.{Full}
 use Rattle.rd_graph.specs.Names.{same_entry}
 use Rattle.rd_graph.specs.Passes.{IsSorted, noted, distinct, resolved, all_pushed}
 use Rattle.rd_graph.specs.Patches.{AreWithin}
-use Rattle.rd_graph.specs.Internal.Chains.{just_before}
-use Rattle.rd_graph.specs.Internal.Relisting.{list_at, IsAt, joined, some_gone, is_late, Relists}
+use Rattle.rd_graph.specs.Internal.Relisting.{list_at, IsAt, some_gone, is_late, AreNoted, Relists}
 use Rattle.rd_graph.proofs.Listing.{Has, Once, cases, never, has_from, contains_from, has_either, before_to}
 use Rattle.rd_graph.proofs.Calls.{once_of}
 use Rattle.rd_graph.proofs.Entries.{same_entry-sound, same_entry-refl, resolved-same, not_yet}
 use Rattle.rd_graph.proofs.OnePass.{Right, made, noted_more, right_more, one_list, last_step}
 use Rattle.rd_graph.proofs.Dropping.{sorted_from}
-use Rattle.rd_graph.proofs.Adding.{before_next, next_before}
-use Rattle.rd_graph.proofs.Joining.{joined_either, joined_left, joined_right}
 use Rattle.rd_graph.proofs.ListsAt.{get_same, at_has, list_at-here, list_at-there}
 use Rattle.rd_graph.proofs.Marks.{none_goes, one_goes}
 
@@ -64,7 +60,7 @@ module _ (gone : EntryKey → Bool) where
     | inr f ↦ let u : some_gone gone x.1 ≡ true = rw f at h in (f, u)
   ]
 
-module _ (gone : EntryKey → Bool) (chain : List EntryKey) (g : Graph EntryKey) where
+module _ (gone : EntryKey → Bool) (g : Graph EntryKey) where
   -- The pass, so far.
   pub record SoFar (notes : EntryKey → List EntryKey) (lists : List (ℕ × List EntryKey)) (i : ℕ) : Type 0 where
     pub through : Graph EntryKey
@@ -72,9 +68,9 @@ module _ (gone : EntryKey → Bool) (chain : List EntryKey) (g : Graph EntryKey)
     pub right : Right same_entry gone same_entry-sound same_entry-refl (Precedes g) through (take i (nodes g))
     pub within : AreWithin lists g
     pub kept : (k : ℕ) (x : EntryKey × List EntryKey) → IsAt g k x → (is_late gone x ≡ false) ⊎ (i ≤ k) → list_at lists k x.1 ≡ x.1
-    pub new : (k : ℕ) (x : EntryKey × List EntryKey) → IsAt g k x → is_late gone x ≡ true → k < i → (a : EntryKey) → Has (list_at lists k x.1) a ↔ Full g gone chain a x.0
+    pub new : (k : ℕ) (x : EntryKey × List EntryKey) → IsAt g k x → is_late gone x ≡ true → k < i → (a : EntryKey) → Has (list_at lists k x.1) a ↔ Stitch (Precedes g) gone a x.0
 
-module _ (gone : EntryKey → Bool) (chain : List EntryKey) (g : Graph EntryKey) (sound : IsInOrder g) (once : order.Once chain) where
+module _ (gone : EntryKey → Bool) (g : Graph EntryKey) (sound : IsInOrder g) where
   names_once : Once (nodes g)
   names_once = once_of (nodes g) sound.once
 
@@ -103,7 +99,7 @@ module _ (gone : EntryKey → Bool) (chain : List EntryKey) (g : Graph EntryKey)
       )
 
   -- before the first place nothing goes
-  pub so_first : (notes : EntryKey → List EntryKey) (first : ℕ) → ((k : EntryKey) → Contains (take first (nodes g)) k → gone k ≡ false) → ((k : EntryKey) → notes k ≡ []) → SoFar gone chain g notes [] first
+  pub so_first : (notes : EntryKey → List EntryKey) (first : ℕ) → ((k : EntryKey) → Contains (take first (nodes g)) k → gone k ≡ false) → ((k : EntryKey) → notes k ≡ []) → SoFar gone g notes [] first
   so_first notes first quiet empty = record {
     through = [];
     notes_are = empty;
@@ -115,10 +111,10 @@ module _ (gone : EntryKey → Bool) (chain : List EntryKey) (g : Graph EntryKey)
         absurd (never (gone r.0) r.2 (quiet r.0 (contains_from (take first (nodes g)) r.0 (take_less (nodes g) k first r.0 (omega arith) (before_at k x h r.0 r.1)))));
   }
 
-  module _ (i : ℕ) (x : EntryKey × List EntryKey) (at_x : IsAt g i x) (notes then : EntryKey → List EntryKey) (found : List EntryKey) (lists next : List (ℕ × List EntryKey)) (so : SoFar gone chain g notes lists i)
+  module _ (i : ℕ) (x : EntryKey × List EntryKey) (at_x : IsAt g i x) (notes then : EntryKey → List EntryKey) (found : List EntryKey) (lists next : List (ℕ × List EntryKey)) (so : SoFar gone g notes lists i)
       (is : found ≡ all_pushed same_entry [] (resolved same_entry gone notes x.1))
       (noting : (k : EntryKey) → then k ≡ cond (gone x.0) (cond (same_entry x.0 k) found (notes k)) (notes k))
-      (listing : next ≡ lists ++ cond (is_late gone x) ((i, joined same_entry found (just_before same_entry chain x.0)) ∷ []) []) where
+      (listing : next ≡ lists ++ cond (is_late gone x) ((i, found) ∷ []) []) where
     abbrev own : List EntryKey
     own = distinct same_entry gone so.through x.1
 
@@ -151,48 +147,42 @@ module _ (gone : EntryKey → Bool) (chain : List EntryKey) (g : Graph EntryKey)
     ]
 
     -- the new list of a late node
-    late_has : gone x.0 ≡ false → (a : EntryKey) → Has (joined same_entry found (just_before same_entry chain x.0)) a ↔ Full g gone chain a x.0
+    late_has : gone x.0 ≡ false → (a : EntryKey) → Has found a ↔ Stitch (Precedes g) gone a x.0
     late_has f a = (
-      (λ h. elim (joined_either same_entry same_entry-sound same_entry-refl found (just_before same_entry chain x.0) a h) [
-        | inl m ↦ let r = (own_has a).0 (subst (λ (z : List EntryKey). Has z a) own_is m) in inl (record { hop = r.1; first = r.0; second = f })
-        | inr m ↦ inr (before_next same_entry same_entry-sound same_entry-refl chain a x.0 m)
-      ]),
-      (λ h. elim h [
-        | inl s ↦ joined_left same_entry same_entry-sound same_entry-refl found (just_before same_entry chain x.0) a (subst (λ (z : List EntryKey). Has z a) (sym own_is) ((own_has a).1 (s.first, s.hop)))
-        | inr s ↦ joined_right same_entry same_entry-sound same_entry-refl found (just_before same_entry chain x.0) a (next_before same_entry same_entry-sound same_entry-refl chain (once_of chain once) a x.0 s)
-      ]),
+      (λ h. let r = (own_has a).0 (subst (λ (z : List EntryKey). Has z a) own_is h) in record { hop = r.1; first = r.0; second = f }),
+      (λ s. subst (λ (z : List EntryKey). Has z a) (sym own_is) ((own_has a).1 (s.first, s.hop))),
     )
 
     -- all but a late node at this place are as before
     next_there : (k : ℕ) (y : EntryKey × List EntryKey) → IsAt g k y → (is_late gone y ≡ false) ⊎ (i ≡ k → ⊥) → list_at next k y.1 ≡ list_at lists k y.1
     next_there k y h o = elim (cases (is_late gone x)) [
       | inl t ↦
-          let e : next ≡ lists ++ (i, joined same_entry found (just_before same_entry chain x.0)) ∷ [] = rw t at listing in
+          let e : next ≡ lists ++ (i, found) ∷ [] = rw t at listing in
           let d : i ≡ k → ⊥ = elim o [
             | inl f ↦ λ u. never (is_late gone y) (ap (is_late gone) (one_node g k y x h (subst (λ j. IsAt g j x) u at_x)) ∙ t) f
             | inr v ↦ v
           ] in
-          rw e (list_at-there lists i k (joined same_entry found (just_before same_entry chain x.0)) y.1 d)
+          rw e (list_at-there lists i k (found) y.1 d)
       | inr f ↦ let e : next ≡ lists ++ [] = rw f at listing in ap (λ ls. list_at ls k y.1) (e ∙ append-nil lists)
     ]
 
-    next_here : is_late gone x ≡ true → list_at next i x.1 ≡ joined same_entry found (just_before same_entry chain x.0)
+    next_here : is_late gone x ≡ true → list_at next i x.1 ≡ found
     next_here t =
-        let e : next ≡ lists ++ (i, joined same_entry found (just_before same_entry chain x.0)) ∷ [] = rw t at listing in
-        rw e (list_at-here lists i (joined same_entry found (just_before same_entry chain x.0)) x.1)
+        let e : next ≡ lists ++ (i, found) ∷ [] = rw t at listing in
+        rw e (list_at-here lists i (found) x.1)
 
     next_within : AreWithin next g
-    next_within l c = elim (has_either lists (cond (is_late gone x) ((i, joined same_entry found (just_before same_entry chain x.0)) ∷ []) []) l (has_from (lists ++ cond (is_late gone x) ((i, joined same_entry found (just_before same_entry chain x.0)) ∷ []) []) l (subst (λ ls. Contains ls l) listing c))) [
+    next_within l c = elim (has_either lists (cond (is_late gone x) ((i, found) ∷ []) []) l (has_from (lists ++ cond (is_late gone x) ((i, found) ∷ []) []) l (subst (λ ls. Contains ls l) listing c))) [
       | inl m ↦ so.within l (contains_from lists l m)
       | inr m ↦ elim (cases (is_late gone x)) [
         | inl t ↦
-            let u : Has ((i, joined same_entry found (just_before same_entry chain x.0)) ∷ []) l = rw t at m in
+            let u : Has ((i, found) ∷ []) l = rw t at m in
             elim u [ inl e ↦ subst (λ j. j < length g) (ap (λ q. q.0) e) at_x.0 | inr n ↦ absurd n ]
         | inr f ↦ let u : Has {A = ℕ × List EntryKey} [] l = rw f at m in absurd u
       ]
     ]
 
-    pub so_next : SoFar gone chain g then next (i + 1)
+    pub so_next : SoFar gone g then next (i + 1)
     so_next = record {
       through = noted_next.0;
       notes_are = noted_next.1;
@@ -200,17 +190,17 @@ module _ (gone : EntryKey → Bool) (chain : List EntryKey) (g : Graph EntryKey)
       within = next_within;
       kept = λ k y h o. next_there k y h (elim o [ inl f ↦ inl f | inr l ↦ inr (λ e. omega arith) ]) ∙ so.kept k y h (elim o [ inl f ↦ inl f | inr l ↦ inr (omega arith) ]);
       new = λ k y h t l a. elim (cases_lt k i) [
-        | inl u ↦ subst (λ (z : List EntryKey). Has z a ↔ Full g gone chain a y.0) (sym (next_there k y h (inr (λ e. omega arith)))) (so.new k y h t u a)
+        | inl u ↦ subst (λ (z : List EntryKey). Has z a ↔ Stitch (Precedes g) gone a y.0) (sym (next_there k y h (inr (λ e. omega arith)))) (so.new k y h t u a)
         | inr u ↦
             let e : i ≡ k = omega arith in
             let v : x ≡ y = one_node g k x y (subst (λ j. IsAt g j x) e at_x) h in
-            subst (λ (j : ℕ). Has (list_at next j y.1) a ↔ Full g gone chain a y.0) e
-            (subst (λ (z : EntryKey × List EntryKey). is_late gone z ≡ true → Has (list_at next i z.1) a ↔ Full g gone chain a z.0) v
-            (λ s. subst (λ (z : List EntryKey). Has z a ↔ Full g gone chain a x.0) (sym (next_here s)) (late_has (late_parts gone x s).0 a)) t)
+            subst (λ (j : ℕ). Has (list_at next j y.1) a ↔ Stitch (Precedes g) gone a y.0) e
+            (subst (λ (z : EntryKey × List EntryKey). is_late gone z ≡ true → Has (list_at next i z.1) a ↔ Stitch (Precedes g) gone a z.0) v
+            (λ s. subst (λ (z : List EntryKey). Has z a ↔ Stitch (Precedes g) gone a x.0) (sym (next_here s)) (late_has (late_parts gone x s).0 a)) t)
       ];
     }
 
-  pub so_all : (notes : EntryKey → List EntryKey) (lists : List (ℕ × List EntryKey)) (i : ℕ) → length g ≤ i → SoFar gone chain g notes lists i → Relists gone chain g lists
+  pub so_all : (notes : EntryKey → List EntryKey) (lists : List (ℕ × List EntryKey)) (i : ℕ) → length g ≤ i → SoFar gone g notes lists i → Relists gone g lists
   so_all notes lists i l so = record {
     within = so.within;
     kept = λ k x h f. so.kept k x h (inl f);
@@ -220,3 +210,17 @@ module _ (gone : EntryKey → Bool) (chain : List EntryKey) (g : Graph EntryKey)
           (λ s. contains_from (list_at lists k x.1) a (r.1 s)),
         );
   }
+
+  -- the notes of the whole pass
+  pub notes_all : (notes : EntryKey → List EntryKey) (lists : List (ℕ × List EntryKey)) (i : ℕ) → length g ≤ i → SoFar gone g notes lists i
+      → AreNoted gone (λ ps. all_pushed same_entry [] (resolved same_entry gone notes ps)) g
+  notes_all notes lists i l so k x h f a =
+      let is : all_pushed same_entry [] (resolved same_entry gone notes x.1) ≡ distinct same_entry gone so.through x.1 =
+      ap (all_pushed same_entry []) (resolved-same same_entry gone notes (noted same_entry gone so.through) so.notes_are x.1)
+      in
+      let has = made same_entry gone same_entry-sound same_entry-refl (Precedes g) g precedes so.through (take i (nodes g)) so.right x (at_has g k x h)
+      (λ p c. contains_from (take i (nodes g)) p (take_less (nodes g) k i p (let m = h.0 in omega (arith, m, l)) (before_at k x h p (has_from x.1 p c)))) a
+      in (
+        (λ c. let r = has.0 (subst (λ (z : List EntryKey). Has z a) is (has_from _ a c)) in record { hop = r.1; first = r.0; second = f }),
+        (λ s. contains_from _ a (subst (λ (z : List EntryKey). Has z a) (sym is) (has.1 (s.first, s.hop)))),
+      )

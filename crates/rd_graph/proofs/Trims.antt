@@ -1,9 +1,10 @@
 -- Lists of predecessors without what a chain implies.
 use Rattle.std.proofs.Common.{◌≡◌, refl, ap, ◌∙◌, sym, subst, ℕ, ◌+◌, ◌<◌, ◌≤◌, max, Bool, true, cond, List, [], ◌∷◌, ◌++◌, length, take, get_or, Option, Some, None, inl, inr, ◌⊎◌, arith, append_assoc}
+use Rattle.std.proofs.lemmas.Bool.{cases_lt}
 use Rattle.std.proofs.lemmas.List.{take_more}
 use Rattle.rd_graph.specs.Orders.{Before}
 use Rattle.rd_graph.specs.Names.{place_of}
-use Rattle.rd_graph.specs.Internal.Trimming.{higher, highest, is_left, left_in, trimmed}
+use Rattle.rd_graph.specs.Internal.Trimming.{higher, highest, is_left, left_in, trimmed, all_trimmed}
 use Rattle.rd_graph.proofs.Listing.{Has, cases, has_left, has_right, has_either}
 use Rattle.rd_graph.proofs.ChainPlaces.{before_at}
 use Rattle.rd_graph.proofs.Entries.{place_some}
@@ -121,6 +122,31 @@ module _ {E : Type 0} (place : E → Option ℕ) where
   few_left [] l = refl
   few_left (k ∷ []) l = one_left k (place k) refl
   few_left (k ∷ j ∷ ks) l = absurd (omega arith)
+
+-- the places of the names of a list alone tell what is left
+module _ {E : Type 0} (place other : E → Option ℕ) where
+  highest_same : (top : ℕ) (ks : List E) → ((k : E) → Has ks k → place k ≡ other k) → highest place top ks ≡ highest other top ks
+  highest_same top [] is = refl
+  highest_same top (k ∷ ks) is = ap (λ o. highest place (higher top o) ks) (is k (inl refl)) ∙ highest_same (higher top (other k)) ks (λ j h. is j (inr h))
+
+  left_same : (top : ℕ) (ks : List E) → ((k : E) → Has ks k → place k ≡ other k) → left_in place top ks ≡ left_in other top ks
+  left_same top [] is = refl
+  left_same top (k ∷ ks) is =
+      ap (λ o. cond (is_left top o) (k ∷ []) [] ++ left_in place top ks) (is k (inl refl))
+      ∙ ap (λ js. cond (is_left top (other k)) (k ∷ []) [] ++ js) (left_same top ks (λ j h. is j (inr h)))
+
+  trimmed_same : (ks : List E) → ((k : E) → Has ks k → place k ≡ other k) → trimmed place ks ≡ trimmed other ks
+  trimmed_same ks is = ap (λ n. left_in place n ks) (highest_same 0 ks is) ∙ left_same (highest other 0 ks) ks is
+
+  -- the same of lists, where those of one name stay as they are
+  pub all_trimmed_same : (ls : List (ℕ × List E)) → ((l : ℕ × List E) → Has ls l → 1 < length l.1 → (k : E) → Has l.1 k → place k ≡ other k) → all_trimmed place ls ≡ all_trimmed other ls
+  all_trimmed_same [] is = refl
+  all_trimmed_same (l ∷ ls) is =
+      let one : trimmed place l.1 ≡ trimmed other l.1 = elim (cases_lt 1 (length l.1)) [
+        | inl m ↦ trimmed_same l.1 (is l (inl refl) m)
+        | inr m ↦ sym (few_left place l.1 (omega (arith, m))) ∙ few_left other l.1 (omega (arith, m))
+      ] in
+      ap (λ ks. (l.0, ks) ∷ all_trimmed place ls) one ∙ ap (λ ms. (l.0, trimmed other l.1) ∷ ms) (all_trimmed_same ls (λ m h. is m (inr h)))
 
 -- lower places come before
 module _ {E : Type 0} (same : E → E → Bool) (sound : (a b : E) → same a b ≡ true → a ≡ b) (reflexive : (a : E) → same a a ≡ true) (chain : List E) where

@@ -4,18 +4,17 @@ ghost use Rattle.rd_graph.specs.Patches.{CanBePatched, IsRelisted, found_in};
 ghost use Rattle.rd_graph.specs.Internal.Seen.{seen, seen_one};
 ghost use Rattle.rd_graph.specs.Graphs.{IsInOrder, nodes as nodes_of};
 ghost use Rattle.rd_graph.specs.Gathered.{gathered};
-ghost use Rattle.rd_graph.specs.Names.{is_in, place_of, same_entry};
+ghost use Rattle.rd_graph.specs.Names.{is_in, same_entry};
 ghost use Rattle.rd_graph.specs.Orders.{Once};
-ghost use Rattle.rd_graph.specs.Internal.Chains.{just_before};
+ghost use Rattle.rd_graph.specs.Internal.Chains.{before_place};
 ghost use Rattle.rd_graph.specs.Internal.Patching.{lists_seen};
-ghost use Rattle.rd_graph.specs.Internal.Relisting.{AreMarked, GoesAlong, GoesAlongAt, Relists, has_all, is_late, joined, keeps, mark_of, relinked, some_gone};
-ghost use Rattle.rd_graph.specs.Internal.Tables.{at, fits_list, has_it};
+ghost use Rattle.rd_graph.specs.Internal.Relisting.{AreMarked, AreNoted, GoesAlong, GoesAlongAt, Relists, has_all, is_late, joined, keeps, listed, mark_of, own, relinked, some_gone};
+ghost use Rattle.rd_graph.specs.Internal.Tables.{fits_list, has_it};
 ghost use Rattle.rd_graph.specs.Internal.Words.{NotesIf, resolved_once};
 
-use crate::chain::linked;
 use crate::graph::Node;
 use crate::stitch::resolve;
-use crate::tables::{find, has, places, put};
+use crate::tables::{has, put};
 use indexmap::IndexMap;
 use rd_keys::EntryKey;
 use std::alloc::{AllocError, Global};
@@ -27,15 +26,15 @@ struct Gone {
     marks: Vec<bool>,
 }
 
-/// A chain with the places of its names.
+/// What one pass over the nodes gives: notes of those that go, and new lists of late ones.
 #[derive(Drop)]
-struct Chained<'a> {
-    names: &'a [EntryKey],
-    places: IndexMap<EntryKey, usize>,
+struct Passed {
+    notes: IndexMap<EntryKey, Vec<EntryKey>>,
+    lists: Vec<(usize, Vec<EntryKey>)>,
 }
 
 /// Where a name has its mark.
-fn mark_of(key: &EntryKey) -> usize
+pub(crate) fn mark_of(key: &EntryKey) -> usize
     ensures { result ≡ mark_of key.now }
 {
     match key {
@@ -143,58 +142,19 @@ fn is_among(keys: &[EntryKey], name: EntryKey) -> bool
     false
 }
 
-/// Is the name before a node in the chain in its list? So it is too where there is none.
-fn has_edge(chain: &Chained, node: &Node) -> bool
-    requires { (k : _) → at chain.now.places k ≡ place_of same_entry chain.now.names.now k }
-    ensures { result ≡ has_all same_entry node.now.before.items
-        (just_before same_entry chain.now.names.now node.now.key) }
-{
-    if let Some(place) = find(&chain.places, node.key) {
-        let place = *place;
-        if 0 < place && place <= chain.names.len() {
-            return is_among(&node.before, chain.names[place - 1]);
-        }
-    }
-    true
-}
-
-/// The list of a node with the edge of the chain, which it may have already.
-fn with_edge(chain: &Chained, node: Node) -> Result<Vec<EntryKey>, AllocError>
-    requires { (k : _) → at chain.now.places k ≡ place_of same_entry chain.now.names.now k }
-    ensures { IfOk result (λ v. v.items ≡ joined same_entry node.before.items
-        (just_before same_entry chain.now.names.now node.key)) }
-{
-    if has_edge(chain, &node) {
-        return Ok(node.before);
-    }
-    let node = linked(node, chain.names, &chain.places)?;
-    Ok(node.before)
-}
-
-/// A late node gets a new list, with the edge of the chain.
+/// A late node gets a new list.
 fn relist(
     alloc: Global,
     gone: &Gone,
-    chain: &Chained,
     notes: &IndexMap<EntryKey, Vec<EntryKey>>,
     lists: &mut Vec<(usize, Vec<EntryKey>)>,
     place: usize,
     node: &Node,
 ) -> Result<(), AllocError>
-    requires { (k : _) → at chain.now.places k ≡ place_of same_entry chain.now.names.now k }
     ensures { OnOk result (lists_seen lists.new.items ≡ lists_seen lists.old.items
-        ++ (
-          place,
-          joined same_entry (resolved_once gone.now.names notes.now node.now.before.items)
-              (just_before same_entry chain.now.names.now node.now.key),
-        ) ∷ []) }
+        ++ (place, resolved_once gone.now.names notes.now node.now.before.items) ∷ []) }
 {
     let before = resolve(alloc, &gone.names, notes, &node.before)?;
-    let node = Node {
-        key: node.key,
-        before,
-    };
-    let before = with_edge(chain, node)?;
     lists.push((place, before))?;
     Ok(())
 }
@@ -203,23 +163,17 @@ fn relist(
 fn pass(
     alloc: Global,
     gone: &Gone,
-    chain: &Chained,
     notes: &mut IndexMap<EntryKey, Vec<EntryKey>>,
     lists: &mut Vec<(usize, Vec<EntryKey>)>,
     place: usize,
     node: &Node,
 ) -> Result<(), AllocError>
-    requires marked { AreMarked gone.now.marks.items gone.now.names }
-    requires placed { (k : _) → at chain.now.places k ≡ place_of same_entry chain.now.names.now k }
+    requires { AreMarked gone.now.marks.items gone.now.names }
     ensures notes { OnOk result (NotesIf (has_it gone.now.names node.now.key) node.now.key
         (resolved_once gone.now.names notes.old node.now.before.items) notes.old notes.new) }
     ensures lists { OnOk result (lists_seen lists.new.items ≡ lists_seen lists.old.items
         ++ (if is_late (has_it gone.now.names) (seen_one node.now)
-        then (
-          place,
-          joined same_entry (resolved_once gone.now.names notes.old node.now.before.items)
-              (just_before same_entry chain.now.names.now node.now.key),
-        ) ∷ []
+        then (place, resolved_once gone.now.names notes.old node.now.before.items) ∷ []
         else [])) }
 {
     if goes(gone, &node.key) {
@@ -229,38 +183,32 @@ fn pass(
     if !some_goes(gone, &node.before) {
         return Ok(());
     }
-    relist(alloc, gone, chain, notes, lists, place, node)?;
+    relist(alloc, gone, notes, lists, place, node)?;
     Ok(())
 }
 
 /// New lists of the nodes that stay, and of which a predecessor goes. Before the first place nothing goes.
-fn pass_all(
-    alloc: Global,
-    nodes: &[Node],
-    first: usize,
-    gone: &Gone,
-    chain: &Chained,
-) -> Result<Vec<(usize, Vec<EntryKey>)>, AllocError>
+fn pass_all(alloc: Global, nodes: &[Node], first: usize, gone: &Gone) -> Result<Passed, AllocError>
     requires sound { IsInOrder (seen nodes.now) }
-    requires once { Once chain.now.names.now }
     requires quiet { (k : EntryKey) → Contains (take first (nodes_of (seen nodes.now))) k
         → has_it gone.now.names k ≡ false }
     requires marked { AreMarked gone.now.marks.items gone.now.names }
-    requires placed { (k : _) → at chain.now.places k ≡ place_of same_entry chain.now.names.now k }
-    ensures { IfOk result (λ v. Relists (has_it gone.now.names) chain.now.names.now
-        (seen nodes.now) (lists_seen v.items)) }
+    ensures noted { IfOk result (λ p. AreNoted (has_it gone.now.names) (resolved_once gone.now.names p.notes)
+        (seen nodes.now)) }
+    ensures relisted { IfOk result (λ p. Relists (has_it gone.now.names) (seen nodes.now)
+        (lists_seen p.lists.items)) }
 {
     let mut notes = IndexMap::new(alloc);
     let mut lists = Vec::new(alloc);
     for place in first..nodes.len() {
         let node = &nodes[place];
-        pass(alloc, gone, chain, &mut notes, &mut lists, place, node)?;
+        pass(alloc, gone, &mut notes, &mut lists, place, node)?;
     }
-    Ok(lists)
+    Ok(Passed { notes, lists })
 }
 
 /// A list once more.
-pub(crate) fn copied(alloc: Global, keys: &[EntryKey]) -> Result<Vec<EntryKey>, AllocError>
+fn copied(alloc: Global, keys: &[EntryKey]) -> Result<Vec<EntryKey>, AllocError>
     ensures { IfOk result (λ v. v.items ≡ keys.now) }
 {
     let mut all = Vec::with_capacity(alloc, keys.len())?;
@@ -270,51 +218,94 @@ pub(crate) fn copied(alloc: Global, keys: &[EntryKey]) -> Result<Vec<EntryKey>, 
     Ok(all)
 }
 
-/// What a node of the chain that does not keep its list has before the edge of the chain: nothing where it goes.
-fn own(alloc: Global, gone: &Gone, node: &Node) -> Result<Vec<EntryKey>, AllocError>
+/// The name right before a place of a chain.
+fn name_before(chain: &[EntryKey], i: usize) -> Option<EntryKey>
+    requires { i < length chain.now }
+    ensures { listed result ≡ before_place chain.now (Some i) }
+{
+    if i == 0 {
+        return None;
+    }
+    Some(chain[i - 1])
+}
+
+/// Does a list have the edge from a name? So it does too where there is none.
+fn has_edge(keys: &[EntryKey], name: Option<EntryKey>) -> bool
+    ensures { result ≡ has_all same_entry keys.now (listed name) }
+{
+    match name {
+        Some(name) => is_among(keys, name),
+        None => true,
+    }
+}
+
+/// A list with the edge from a name, which it may have already.
+fn with_edge(keys: Vec<EntryKey>, name: Option<EntryKey>) -> Result<Vec<EntryKey>, AllocError>
+    ensures { IfOk result (λ v. v.items ≡ joined same_entry keys.items (listed name)) }
+{
+    let mut keys = keys;
+    if has_edge(&keys, name) {
+        return Ok(keys);
+    }
+    if let Some(name) = name {
+        keys.push(name)?;
+    }
+    Ok(keys)
+}
+
+/// What a node of the chain has before the edge of the chain: nothing where it goes.
+fn own(
+    alloc: Global,
+    gone: &Gone,
+    notes: &IndexMap<EntryKey, Vec<EntryKey>>,
+    node: &Node,
+) -> Result<Vec<EntryKey>, AllocError>
     requires { AreMarked gone.now.marks.items gone.now.names }
-    ensures { IfOk result (λ v. v.items ≡ (if has_it gone.now.names node.now.key then [] else node.now.before.items)) }
+    ensures { IfOk result (λ v. v.items
+        ≡ own (has_it gone.now.names) (resolved_once gone.now.names notes.now) (seen_one node.now)) }
 {
     if goes(gone, &node.key) {
         return Ok(Vec::new(alloc));
     }
+    if some_goes(gone, &node.before) {
+        return resolve(alloc, &gone.names, notes, &node.before);
+    }
     copied(alloc, &node.before)
 }
 
-/// Does a node of the chain keep the list that it has so far? It stays, and is late or has the edge of the chain.
-fn keeps_list(gone: &Gone, chain: &Chained, node: &Node) -> bool
-    requires marked { AreMarked gone.now.marks.items gone.now.names }
-    requires placed { (k : _) → at chain.now.places k ≡ place_of same_entry chain.now.names.now k }
-    ensures { result ≡ keeps (has_it gone.now.names) same_entry chain.now.names.now (seen_one node.now) }
+/// Does a node of the chain keep its list? It stays with all its predecessors, and has the edge of the chain.
+fn keeps_list(gone: &Gone, node: &Node, name: Option<EntryKey>) -> bool
+    requires { AreMarked gone.now.marks.items gone.now.names }
+    ensures { result ≡ keeps (has_it gone.now.names) same_entry (listed name) (seen_one node.now) }
 {
-    !goes(gone, &node.key) && (some_goes(gone, &node.before) || has_edge(chain, node))
+    !goes(gone, &node.key) && !some_goes(gone, &node.before) && has_edge(&node.before, name)
 }
 
 /// A node of the chain gets a new list, unless it keeps the one that it has.
 fn go_along(
     alloc: Global,
     gone: &Gone,
-    chain: &Chained,
+    notes: &IndexMap<EntryKey, Vec<EntryKey>>,
     lists: &mut Vec<(usize, Vec<EntryKey>)>,
     place: usize,
     node: &Node,
+    name: Option<EntryKey>,
 ) -> Result<(), AllocError>
-    requires marked { AreMarked gone.now.marks.items gone.now.names }
-    requires placed { (k : _) → at chain.now.places k ≡ place_of same_entry chain.now.names.now k }
+    requires { AreMarked gone.now.marks.items gone.now.names }
     ensures { OnOk result (lists_seen lists.new.items ≡ lists_seen lists.old.items
-        ++ (if keeps (has_it gone.now.names) same_entry chain.now.names.now (seen_one node.now) then []
-        else (place, relinked (has_it gone.now.names) same_entry chain.now.names.now (seen_one node.now)) ∷ [])) }
+        ++ (if keeps (has_it gone.now.names) same_entry (listed name) (seen_one node.now) then []
+        else (
+          place,
+          relinked (has_it gone.now.names) same_entry (resolved_once gone.now.names notes.now) (listed name)
+              (seen_one node.now),
+        ) ∷ [])) }
 {
-    if keeps_list(gone, chain, node) {
+    if keeps_list(gone, node, name) {
         return Ok(());
     }
-    let before = own(alloc, gone, node)?;
-    let node = Node {
-        key: node.key,
-        before,
-    };
-    let node = linked(node, chain.names, &chain.places)?;
-    lists.push((place, node.before))?;
+    let before = own(alloc, gone, notes, node)?;
+    let before = with_edge(before, name)?;
+    lists.push((place, before))?;
     Ok(())
 }
 
@@ -323,18 +314,18 @@ fn go_along_at(
     alloc: Global,
     nodes: &[Node],
     gone: &Gone,
-    chain: &Chained,
+    notes: &IndexMap<EntryKey, Vec<EntryKey>>,
     lists: &mut Vec<(usize, Vec<EntryKey>)>,
     place: Option<usize>,
+    name: Option<EntryKey>,
 ) -> Result<(), AllocError>
     requires within { IfSome place (λ p. p < length nodes.now) }
     requires marked { AreMarked gone.now.marks.items gone.now.names }
-    requires placed { (k : _) → at chain.now.places k ≡ place_of same_entry chain.now.names.now k }
-    ensures { OnOk result (GoesAlongAt (has_it gone.now.names) same_entry chain.now.names.now place (seen nodes.now)
-        (lists_seen lists.old.items) (lists_seen lists.new.items)) }
+    ensures { OnOk result (GoesAlongAt (has_it gone.now.names) same_entry (resolved_once gone.now.names notes.now)
+        (listed name) place (seen nodes.now) (lists_seen lists.old.items) (lists_seen lists.new.items)) }
 {
     if let Some(place) = place {
-        go_along(alloc, gone, chain, lists, place, &nodes[place])?;
+        go_along(alloc, gone, notes, lists, place, &nodes[place], name)?;
         return Ok(());
     }
     Ok(())
@@ -345,20 +336,21 @@ fn go_along_all(
     alloc: Global,
     nodes: &[Node],
     gone: &Gone,
-    chain: &Chained,
+    notes: &IndexMap<EntryKey, Vec<EntryKey>>,
+    chain: &[EntryKey],
     found: &[Option<usize>],
     lists: &mut Vec<(usize, Vec<EntryKey>)>,
 ) -> Result<(), AllocError>
     requires sound { IsInOrder (seen nodes.now) }
-    requires once { Once chain.now.names.now }
-    requires found_are { found.now ≡ found_in chain.now.names.now (seen nodes.now) }
+    requires once { Once chain.now }
+    requires found_are { found.now ≡ found_in chain.now (seen nodes.now) }
     requires marked { AreMarked gone.now.marks.items gone.now.names }
-    requires placed { (k : _) → at chain.now.places k ≡ place_of same_entry chain.now.names.now k }
-    ensures { OnOk result (GoesAlong (has_it gone.now.names) same_entry chain.now.names.now chain.now.names.now
-        (seen nodes.now) (lists_seen lists.old.items) (lists_seen lists.new.items)) }
+    ensures { OnOk result (GoesAlong (has_it gone.now.names) same_entry (resolved_once gone.now.names notes.now)
+        chain.now chain.now (seen nodes.now) (lists_seen lists.old.items) (lists_seen lists.new.items)) }
 {
-    for place in found {
-        go_along_at(alloc, nodes, gone, chain, lists, *place)?;
+    for (i, place) in found.iter().enumerate() {
+        let name = name_before(chain, i);
+        go_along_at(alloc, nodes, gone, notes, lists, *place, name)?;
     }
     Ok(())
 }
@@ -388,12 +380,8 @@ pub(crate) fn changed(
 {
     let first = first_of(gone, nodes.len());
     let gone = gone_at(alloc, nodes, gone)?;
-    let places = places(alloc, chain)?;
-    let chain = Chained {
-        names: chain,
-        places,
-    };
-    let mut lists = pass_all(alloc, nodes, first, &gone, &chain)?;
-    go_along_all(alloc, nodes, &gone, &chain, found, &mut lists)?;
+    let passed = pass_all(alloc, nodes, first, &gone)?;
+    let mut lists = passed.lists;
+    go_along_all(alloc, nodes, &gone, &passed.notes, chain, found, &mut lists)?;
     Ok(lists)
 }

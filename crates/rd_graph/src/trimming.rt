@@ -3,39 +3,41 @@ ghost use Rattle.std.specs.Prelude.{◌≡◌, IfOk, OnOk, if◌then◌else◌, 
 ghost use Rattle.rd_graph.specs.Names.{place_of, same_entry};
 ghost use Rattle.rd_graph.specs.Orders.{Once};
 ghost use Rattle.rd_graph.specs.Internal.Patching.{lists_seen};
+ghost use Rattle.rd_graph.specs.Internal.Tables.{at};
 ghost use Rattle.rd_graph.specs.Internal.Trimming.{higher, highest, is_left, trimmed, all_trimmed};
 
-use crate::changing::copied;
-use crate::places::Places;
+use crate::asking::{marks_asked, places_asked};
+use crate::tables::find;
+use indexmap::IndexMap;
 use rd_keys::EntryKey;
 use std::alloc::{AllocError, Global};
 
 /// The higher of a place and that of a name, if it is in the chain.
-fn raised(chain: &Places, top: usize, key: EntryKey) -> usize
-    ensures { result ≡ higher top (place_of same_entry chain.now key) }
+fn raised(places: &IndexMap<EntryKey, usize>, top: usize, key: EntryKey) -> usize
+    ensures { result ≡ higher top (at places.now key) }
 {
-    match chain.find(key) {
+    match find(places, key).copied() {
         Some(place) => top.max(place),
         None => top,
     }
 }
 
 /// The highest place in the chain of these names, or 0.
-fn top_of(chain: &Places, keys: &[EntryKey]) -> usize
-    ensures { result ≡ highest (place_of same_entry chain.now) 0 keys.now }
+fn top_of(places: &IndexMap<EntryKey, usize>, keys: &[EntryKey]) -> usize
+    ensures { result ≡ highest (at places.now) 0 keys.now }
 {
     let mut top = 0;
     for key in keys {
-        top = raised(chain, top, *key);
+        top = raised(places, top, *key);
     }
     top
 }
 
 /// Is a name left in a list? It is not in the chain, or at this place there.
-fn stays(chain: &Places, top: usize, key: EntryKey) -> bool
-    ensures { result ≡ is_left top (place_of same_entry chain.now key) }
+fn stays(places: &IndexMap<EntryKey, usize>, top: usize, key: EntryKey) -> bool
+    ensures { result ≡ is_left top (at places.now key) }
 {
-    match chain.find(key) {
+    match find(places, key).copied() {
         Some(place) => place == top,
         None => true,
     }
@@ -52,40 +54,48 @@ fn push_if(keys: &mut Vec<EntryKey>, stays: bool, key: EntryKey) -> Result<(), A
 }
 
 /// What is left of a list: of the names of the chain only the last.
-fn left_of(alloc: Global, chain: &Places, keys: &[EntryKey]) -> Result<Vec<EntryKey>, AllocError>
-    ensures { IfOk result (λ v. v.items ≡ trimmed (place_of same_entry chain.now) keys.now) }
+fn left_of(
+    alloc: Global,
+    places: &IndexMap<EntryKey, usize>,
+    keys: &[EntryKey],
+) -> Result<Vec<EntryKey>, AllocError>
+    ensures { IfOk result (λ v. v.items ≡ trimmed (at places.now) keys.now) }
 {
-    let top = top_of(chain, keys);
+    let top = top_of(places, keys);
     let mut left = Vec::new(alloc);
     for key in keys {
-        let stays = stays(chain, top, *key);
+        let stays = stays(places, top, *key);
         push_if(&mut left, stays, *key)?;
     }
     Ok(left)
 }
 
 /// The same. A list of one name stays as it is.
-fn trim(alloc: Global, chain: &Places, keys: Vec<EntryKey>) -> Result<Vec<EntryKey>, AllocError>
-    ensures { IfOk result (λ v. v.items ≡ trimmed (place_of same_entry chain.now) keys.items) }
+fn trim(
+    alloc: Global,
+    places: &IndexMap<EntryKey, usize>,
+    keys: Vec<EntryKey>,
+) -> Result<Vec<EntryKey>, AllocError>
+    ensures { IfOk result (λ v. v.items ≡ trimmed (at places.now) keys.items) }
 {
     if keys.len() < 2 {
         return Ok(keys);
     }
-    left_of(alloc, chain, &keys)
+    left_of(alloc, places, &keys)
 }
 
 /// The same of each of these lists.
 fn trim_all(
     alloc: Global,
-    chain: &Places,
+    places: &IndexMap<EntryKey, usize>,
     lists: Vec<(usize, Vec<EntryKey>)>,
 ) -> Result<Vec<(usize, Vec<EntryKey>)>, AllocError>
     ensures { IfOk result (λ v. lists_seen v.items
-        ≡ all_trimmed (place_of same_entry chain.now) (lists_seen lists.items)) }
+        ≡ all_trimmed (at places.now) (lists_seen lists.items)) }
 {
     let mut all = Vec::with_capacity(alloc, lists.len())?;
     for (place, before) in lists {
-        let before = trim(alloc, chain, before)?;
+        let before = trim(alloc, places, before)?;
         all.push((place, before))?;
     }
     Ok(all)
@@ -104,8 +114,8 @@ pub(crate) fn trimmed(
     if lists.is_empty() {
         return Ok(lists);
     }
-    let names = copied(alloc, chain)?;
-    let chain = Places::new(alloc, names)?;
-    let lists = trim_all(alloc, &chain, lists)?;
+    let marks = marks_asked(alloc, &lists)?;
+    let places = places_asked(alloc, chain, &marks)?;
+    let lists = trim_all(alloc, &places, lists)?;
     Ok(lists)
 }

@@ -3,8 +3,7 @@ use Rattle.std.specs.Prelude.{◌≡◌, ℕ, ◌<◌, ◌==◌, ◌%◌, Bool, 
 use Rattle.indexmap.specs.IndexMap.{IndexMap}
 use Rattle.rd_keys.specs.declared.entry.EntryKey.{EntryKey}
 use Rattle.rd_keys.specs.declared.entry.EntryKey.TheVariants as key
-use Rattle.rd_graph.specs.Graphs.{Graph}
-use Rattle.rd_graph.specs.Laws.{Full}
+use Rattle.rd_graph.specs.Graphs.{Graph, Precedes, Stitch}
 use Rattle.rd_graph.specs.Names.{is_in}
 use Rattle.rd_graph.specs.Patches.{AreWithin}
 use Rattle.rd_graph.specs.Internal.Chains.{just_before}
@@ -24,6 +23,11 @@ module _ {E : Type 0} where
   abbrev pub list_at : List (ℕ × List E) → ℕ → List E → List E
   list_at [] k ps = ps
   list_at (l ∷ ls) k ps = list_at ls k (if l.0 == k then l.1 else ps)
+
+  -- a name, if there is one
+  abbrev pub listed : Option E → List E
+  listed None = []
+  listed (Some k) = k ∷ []
 
   -- a graph's node at a place
   abbrev pub IsAt : Graph E → ℕ → E × List E → Type 0
@@ -49,36 +53,47 @@ module _ {E : Type 0} where
     abbrev pub is_late : E × List E → Bool
     is_late x = if gone x.0 then false else some_gone x.1
 
-    -- New lists of the nodes that stay, and of which a predecessor goes: those have the edges of the merge.
-    pub record Relists (chain : List E) (g : Graph E) (lists : List (ℕ × List E)) : Type 0 where
+    -- New lists of the nodes that stay, and of which a predecessor goes: those have the stitches.
+    pub record Relists (g : Graph E) (lists : List (ℕ × List E)) : Type 0 where
       pub within : AreWithin lists g
       pub kept : (k : ℕ) (x : E × List E) → IsAt g k x → is_late x ≡ false → list_at lists k x.1 ≡ x.1
-      pub new : (k : ℕ) (x : E × List E) → IsAt g k x → is_late x ≡ true → (a : E) → Contains (list_at lists k x.1) a ↔ Full g gone chain a x.0
+      pub new : (k : ℕ) (x : E × List E) → IsAt g k x → is_late x ≡ true → (a : E) → Contains (list_at lists k x.1) a ↔ Stitch (Precedes g) gone a x.0
 
-    module _ (same : E → E → Bool) (chain : List E) where
-      -- does a node of the chain keep the list that it has so far? It stays, and is late or has the edge of the chain.
-      abbrev pub keeps : E × List E → Bool
-      keeps x = if gone x.0 then false else (if some_gone x.1 then true else has_all same x.1 (just_before same chain x.0))
+    module _ (resolves : List E → List E) where
+      -- With what is noted, predecessors of a node that stays are resolved to its stitches.
+      abbrev pub AreNoted : Graph E → Type 0
+      AreNoted g = (k : ℕ) (x : E × List E) → IsAt g k x → gone x.0 ≡ false → (a : E) → Contains (resolves x.1) a ↔ Stitch (Precedes g) gone a x.0
 
-      -- a new list: what the node has, and the edge of the chain; one that goes has that edge alone
-      abbrev pub relinked : E × List E → List E
-      relinked x = (if gone x.0 then [] else x.1) ++ just_before same chain x.0
+      -- what a node of the chain has before the edge of the chain: nothing where it goes
+      abbrev pub own : E × List E → List E
+      own x = if gone x.0 then [] else (if some_gone x.1 then resolves x.1 else x.1)
 
-      -- the list of a node of the chain
-      abbrev pub on_chain : E × List E → List E → List E
-      on_chain x ps = if keeps x then ps else relinked x
+    module _ (same : E → E → Bool) where
+      -- does a node of the chain keep its list? It stays with all its predecessors, and has the edge of the chain.
+      abbrev pub keeps : List E → E × List E → Bool
+      keeps edge x = if gone x.0 then false else (if some_gone x.1 then false else has_all same x.1 edge)
 
-      -- the same of each node of some part of the chain
-      abbrev pub along : List E → E × List E → List E → List E
-      along part x ps = if is_in same part x.0 then on_chain x ps else ps
+      module _ (resolves : List E → List E) where
+        -- a new list: what the node has, and the edge of the chain
+        abbrev pub relinked : List E → E × List E → List E
+        relinked edge x = joined same (own resolves x) edge
 
-      -- lists after those of some part of the chain
-      pub record GoesAlong (part : List E) (g : Graph E) (old new : List (ℕ × List E)) : Type 0 where
-        pub within : AreWithin old g → AreWithin new g
-        pub lists : (k : ℕ) (x : E × List E) → IsAt g k x → list_at new k x.1 ≡ along part x (list_at old k x.1)
+        -- one more list, of the node of the chain at this place
+        abbrev pub GoesAlongAt : List E → Option ℕ → Graph E → List (ℕ × List E) → List (ℕ × List E) → Type 0
+        GoesAlongAt edge None g old new = new ≡ old
+        GoesAlongAt edge (Some p) g old new =
+            (x : E × List E) × IsAt g p x × (new ≡ old ++ (if keeps edge x then [] else (p, relinked edge x) ∷ []))
 
-      -- one more list, of the node of the chain at this place
-      abbrev pub GoesAlongAt : Option ℕ → Graph E → List (ℕ × List E) → List (ℕ × List E) → Type 0
-      GoesAlongAt None g old new = new ≡ old
-      GoesAlongAt (Some p) g old new =
-          (x : E × List E) × IsAt g p x × (new ≡ old ++ (if keeps x then [] else (p, relinked x) ∷ []))
+        module _ (chain : List E) where
+          -- the list of a node of the chain
+          abbrev pub on_chain : E × List E → List E → List E
+          on_chain x ps = if keeps (just_before same chain x.0) x then ps else relinked (just_before same chain x.0) x
+
+          -- the same of each node of some part of the chain
+          abbrev pub along : List E → E × List E → List E → List E
+          along part x ps = if is_in same part x.0 then on_chain x ps else ps
+
+          -- lists after those of some part of the chain
+          pub record GoesAlong (part : List E) (g : Graph E) (old new : List (ℕ × List E)) : Type 0 where
+            pub within : AreWithin old g → AreWithin new g
+            pub lists : (k : ℕ) (x : E × List E) → IsAt g k x → list_at new k x.1 ≡ along part x (list_at old k x.1)

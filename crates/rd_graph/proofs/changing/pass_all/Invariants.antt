@@ -6,5 +6,5 @@ use Rattle.rd_graph.proofs.changing.pass_all.Given as goal
 
 abbrev pub invariant-loop-place : goal.invariant-loop-place
 invariant-loop-place l = record {
-  so_far : SoFar (has_it l.gone.names) l.chain.names.now (seen l.nodes) (noted_in l.notes) (lists_seen l.lists.items) l.place;
+  so_far : SoFar (has_it l.gone.names) (seen l.nodes) (noted_in l.notes) (lists_seen l.lists.items) l.place;
 }
