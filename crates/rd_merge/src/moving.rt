@@ -1,16 +1,18 @@
 //! Entries of a level are moved to their places, and nothing takes memory.
-ghost use Rattle.std.specs.Prelude.{◌≡◌, ◌<◌, ◌≤◌, ◌+◌, ◌∷◌, ◌++◌, [], slice_index_or, vec_len, vec_capacity, length, option_map};
+ghost use Rattle.std.specs.Prelude.{◌≡◌, ◌<◌, ◌≤◌, ◌+◌, ◌∷◌, ◌++◌, [], true, drop, slice_index_or, vec_len, vec_capacity, length, option_map};
+ghost use Rattle.std.specs.Vec.Iter.{into_iter_items};
 ghost use Rattle.rd_graph.specs.Gathered.{gathered, ArePlaces, IsLine};
 ghost use Rattle.rd_list.specs.Entries.{◌▷◌};
 ghost use Rattle.rd_list.specs.KeptView.{kept_entries};
 ghost use Rattle.rd_merge.specs.Plans.{arranged_entries, IsPlace, one_made, put_entry};
-ghost use Rattle.rd_merge.specs.Internal.Moving.{KeepsOthers, NoneMade};
+ghost use Rattle.rd_merge.specs.Internal.Moving.{KeepsOthers, NoneMade, Rises};
 ghost use Rattle.rd_merge.specs.Internal.PlanRoom.{HasLineRoom};
 
 use rd_list::{Entry, Group, Kept};
 use std::alloc::Global;
 use std::mem;
 use std::sync::ledger::Ledger;
+use std::vec::IntoIter;
 
 /// Takes an entry out of its place, and leaves a group without entries there.
 pub(crate) fn take_at<A: Ledger>(alloc: Global, entries: &mut Vec<Entry<A>>, i: usize) -> Entry<A>
@@ -37,9 +39,7 @@ fn push_made<A: Ledger>(made: &mut Vec<Entry<A>>, entry: Entry<A>)
     ensures len { vec_len made.new ≡ vec_len made.old + 1 }
     ensures room { vec_capacity made.old ≤ vec_capacity made.new }
 {
-    if made.push(entry).is_err() {
-        return;
-    }
+    made.push_reserved(entry);
 }
 
 /// Puts an entry at its place, or on top of the ones that are made.
@@ -103,11 +103,109 @@ fn gather<A: Ledger>(
     }
 }
 
-/// The entries as they are, or old and made ones in a line.
-pub(crate) fn in_line<A: Ledger>(
+/// Do the places of old entries rise, and those of made ones, which are counted on from this many old ones?
+fn is_rising(line: &[usize], old: usize, made: usize) -> bool
+    requires { ArePlaces line.now (old + made) }
+    ensures { result ≡ true → Rises old 0 0 line.now }
+{
+    let mut next_old = 0;
+    let mut next_made = 0;
+    for p in line {
+        if *p < old {
+            if *p < next_old {
+                return false;
+            }
+            next_old = *p + 1;
+        } else {
+            let place = *p - old;
+            if place < next_made {
+                return false;
+            }
+            next_made = place + 1;
+        }
+    }
+    true
+}
+
+/// Drops the next so many entries.
+#[inline(always)]
+fn pass_over<A: Ledger>(rest: &mut IntoIter<Entry<A>, Global>, passed: usize)
+    ensures { into_iter_items rest.new ≡ drop passed (into_iter_items rest.old) }
+{
+    for _ in 0..passed {
+        let _passed = rest.next();
+    }
+}
+
+/// Takes the next entry after so many, which are dropped.
+#[inline(always)]
+fn take_after<A: Ledger>(rest: &mut IntoIter<Entry<A>, Global>, passed: usize) -> Entry<A>
+    requires { passed < length (into_iter_items rest.old) }
+    ensures taken { result ≡ slice_index_or (into_iter_items rest.old) passed result }
+    ensures left { into_iter_items rest.new ≡ drop (passed + 1) (into_iter_items rest.old) }
+{
+    pass_over(rest, passed);
+    match rest.next() {
+        Some(entry) => entry,
+        None => unreachable!(),
+    }
+}
+
+/// Moves old and made entries, each in rising order, to the end of `room`, which has capacity for them.
+fn gather_rising<A: Ledger>(
+    entries: Vec<Entry<A>>,
+    made: Vec<Entry<A>>,
+    line: &[usize],
+    room: &mut Vec<Entry<A>>,
+)
+    requires rising { Rises (vec_len entries) 0 0 line.now }
+    requires places { ArePlaces line.now (vec_len entries + vec_len made) }
+    requires room { vec_len room.old + length line.now ≤ vec_capacity room.old }
+    ensures { room.new.items ≡ room.old.items ++ gathered line.now (entries.items ++ made.items) }
+{
+    let old = entries.len();
+    let mut old_rest = entries.into_iter();
+    let mut made_rest = made.into_iter();
+    let mut next_old = 0;
+    let mut next_made = 0;
+    for p in line {
+        if *p < old {
+            let entry = take_after(&mut old_rest, *p - next_old);
+            next_old = *p + 1;
+            push_made(room, entry);
+        } else {
+            let place = *p - old;
+            let entry = take_after(&mut made_rest, place - next_made);
+            next_made = place + 1;
+            push_made(room, entry);
+        }
+    }
+}
+
+/// Moves old and made entries to the end of `room`, which has capacity for them. In one pass where each rise.
+fn line_up<A: Ledger>(
     alloc: Global,
     mut entries: Vec<Entry<A>>,
     mut made: Vec<Entry<A>>,
+    line: &[usize],
+    room: &mut Vec<Entry<A>>,
+)
+    requires places { ArePlaces line.now (vec_len entries + vec_len made) }
+    requires room { vec_len room.old + length line.now ≤ vec_capacity room.old }
+    ensures { room.new.items ≡ room.old.items ++ gathered line.now (entries.items ++ made.items) }
+{
+    if is_rising(line, entries.len(), made.len()) {
+        gather_rising(entries, made, line, room);
+        return;
+    }
+    gather(alloc, &mut entries, &mut made, line, room);
+}
+
+/// The entries as they are, or old and made ones in a line.
+pub(crate) fn in_line<A: Ledger>(
+    alloc: Global,
+    entries: Vec<Entry<A>>,
+    made: Vec<Entry<A>>,
     line: Option<&[usize]>,
     mut room: Vec<Entry<A>>,
 ) -> Vec<Entry<A>>
@@ -120,7 +218,7 @@ pub(crate) fn in_line<A: Ledger>(
     match line {
         None => entries,
         Some(line) => {
-            gather(alloc, &mut entries, &mut made, line, &mut room);
+            line_up(alloc, entries, made, line, &mut room);
             room
         }
     }

@@ -11,4 +11,4 @@ returns-in-None g c =
 pub returns-in-Some : goal.returns-in-Some
 returns-in-Some g c =
     let ok = c.args.room.ok in
-    lined (option_map (λ l. l.now) c.args.line) c.in-Some.line.now c.args.entries.items c.args.made.items c.args.room.items c.gather.new.room.items c.args.room (ap (option_map (λ l. l.now)) c.in-Some.is) c.requires.room (omega (arith, ok.0)) c.gather.ensures
+    lined (option_map (λ l. l.now) c.args.line) c.in-Some.line.now c.args.entries.items c.args.made.items c.args.room.items c.line_up.new.room.items c.args.room (ap (option_map (λ l. l.now)) c.in-Some.is) c.requires.room (omega (arith, ok.0)) c.line_up.ensures
