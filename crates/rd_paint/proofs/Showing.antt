@@ -1,11 +1,12 @@
 -- Entries that show nothing at some pixels, and picks that show the same.
 use Rattle.std.proofs.Common.{◌≡◌, refl, ◌∙◌, sym, ap, ℤ, ℕ, ◌+◌, ◌+ℤ◌, ◌≤◌, ◌≤ℤ◌, ◌<ℤ◌, Bool, true, false, not, ◌&&◌, List, [], ◌∷◌, ◌++◌, length, take, drop, arith, subst}
-use Rattle.std.specs.Prelude.{int_lt, Option, Some, None, IfSome}
+use Rattle.std.specs.Prelude.{int_le, int_lt, IsTrue, Option, Some, None, IfSome}
 use Rattle.std.proofs.lemmas.Int.{ints}
 use Rattle.std.proofs.lemmas.List.{drop_all}
 use Rattle.rd_geom.specs.Colors.{laid_over, scaled, clear}
 use Rattle.rd_geom.specs.Areas.{Region, meets_area}
 use Rattle.rd_geom.specs.Plane.{Rectangle, holds_pixel, is_among}
+use Rattle.rd_geom.specs.declared.span.Span.{Span}
 use Rattle.rd_geom.proofs.Areas.{shares-meets_area}
 use Rattle.rd_item.specs.declared.leaf.Leaf as item
 use Rattle.rd_list.specs.Entries.{Entries, nil, leaf, group, ◌▷◌}
@@ -13,7 +14,7 @@ use Rattle.rd_list.specs.Lists.{composed}
 use Rattle.rd_list.specs.Wrappers.{Wrapper}
 use Rattle.rd_list.proofs.Composing.{composed-join}
 use Rattle.rd_list.proofs.Joins.{join_assoc, join-nil}
-use Rattle.rd_paint.specs.Internal.Picks.{InArea, InRows, IsClosed, SameWhere, ShowsFor, picked}
+use Rattle.rd_paint.specs.Internal.Picks.{InArea, InRows, InSpans, IsClosed, SameWhere, ShowsFor, picked}
 use Rattle.rd_paint.specs.declared.picks.Pick.{Pick}
 use Rattle.rd_paint.proofs.Depths.{scaled_clear}
 use Rattle.rd_paint.proofs.Picking.{picked-none, picked_one, closed_append, put_taken, entry_at-leaf, entry_at-group}
@@ -65,6 +66,13 @@ module _ (p : ℤ → ℤ → Type 0) where
       (same_then (picked done es ▷ (picked new es ▷ rest)) (picked done es ▷ (one ▷ rest)) whole
       (same_join (picked done es) (picked done es) (picked new es ▷ rest) (one ▷ rest) (λ x y d h. refl) (same_join (picked new es) one rest rest t (λ x y d h. refl))) s)
 
+  -- one more shows nothing
+  pub same_without : (done one rest left whole : Entries Wrapper item.Leaf) → left ≡ one ▷ rest → SameWhere p nil one → SameWhere p (done ▷ left) whole → SameWhere p (done ▷ rest) whole
+  same_without done one rest left whole e s t = same_then (done ▷ rest) (done ▷ left) whole (same_join done done rest left (λ x y d h. refl) unseen) t
+    where
+      unseen : SameWhere p rest left
+      unseen x y d h = ap (λ q. composed x y q rest) (s x y d h) ∙ sym (composed-join x y d one rest) ∙ ap (composed x y d) (sym e)
+
   -- none is left to be looked at
   pub same_last : (es whole : Entries Wrapper item.Leaf) (done ps : List Pick) (i : ℕ) → length ps ≤ i → SameWhere p (picked done es ▷ picked (drop i ps) es) whole → SameWhere p (picked done es) whole
   same_last es whole done ps i h s =
@@ -97,6 +105,19 @@ last_false true true v h = h
 last_false true false v h = refl
 last_false false b v h = refl
 
+first_false : (a b : Bool) → a ≡ false → (a && b) ≡ false
+first_false a b h = rw h refl
+
+second_false : (a b : Bool) → b ≡ false → (a && b) ≡ false
+second_false true b h = h
+second_false false b h = refl
+
+past : (a b l n v : ℤ) → b ≤ℤ l → IsTrue (int_le a v && int_lt v b) → is_among l n v ≡ false
+past a b l n v h k = grind (arith, ints)
+
+before : (a b l n v : ℤ) → (l +ℤ n) ≤ℤ a → IsTrue (int_le a v && int_lt v b) → is_among l n v ≡ false
+before a b l n v h k = grind (arith, ints)
+
 -- a leaf that may be seen in no pixel of an area
 pub leaf_outside : (l : item.Leaf) (v : Rectangle) (a : Region) → v ≡ l.visible → meets_area a v ≡ false → SameWhere (InArea a) nil (leaf l nil)
 leaf_outside l v a e f x y d h = sym (rw (last_false (holds_pixel l.shape.outer x y) (not (holds_pixel l.shape.inner x y)) (holds_pixel l.visible x y) (ap (λ q. holds_pixel q x y) (sym e) ∙ go (holds_pixel v x y) refl)) refl)
@@ -104,6 +125,23 @@ leaf_outside l v a e f x y d h = sym (rw (last_false (holds_pixel l.shape.outer 
     go : (t : Bool) → holds_pixel v x y ≡ t → holds_pixel v x y ≡ false
     go false k = k
     go true k = let m = shares-meets_area a v (record { x = x; y = y; first = h; second = k }) in cc
+
+-- a leaf that may be seen in no pixel of some columns of some rows
+pub leaf_beside : (l : item.Leaf) (v : Rectangle) (columns rows : Span) → v ≡ l.visible → ((x y : ℤ) → InSpans columns rows x y → holds_pixel v x y ≡ false) → SameWhere (InSpans columns rows) nil (leaf l nil)
+leaf_beside l v columns rows e f x y d h = sym (rw (last_false (holds_pixel l.shape.outer x y) (not (holds_pixel l.shape.inner x y)) (holds_pixel l.visible x y) (ap (λ q. holds_pixel q x y) (sym e) ∙ f x y h)) refl)
+
+-- a rectangle right of some columns, below some rows, left of the columns, or above the rows
+pub right_of : (r : Rectangle) (columns rows : Span) → columns.x1 ≤ℤ r.x → (x y : ℤ) → InSpans columns rows x y → holds_pixel r x y ≡ false
+right_of r columns rows l x y h = first_false (is_among r.x r.w x) (is_among r.y r.h y) (past columns.x0 columns.x1 r.x r.w x l h.0)
+
+pub left_of : (r : Rectangle) (columns rows : Span) → (r.x +ℤ r.w) ≤ℤ columns.x0 → (x y : ℤ) → InSpans columns rows x y → holds_pixel r x y ≡ false
+left_of r columns rows l x y h = first_false (is_among r.x r.w x) (is_among r.y r.h y) (before columns.x0 columns.x1 r.x r.w x l h.0)
+
+pub below : (r : Rectangle) (columns rows : Span) → rows.x1 ≤ℤ r.y → (x y : ℤ) → InSpans columns rows x y → holds_pixel r x y ≡ false
+below r columns rows l x y h = second_false (is_among r.x r.w x) (is_among r.y r.h y) (past rows.x0 rows.x1 r.y r.h y l h.1)
+
+pub above : (r : Rectangle) (columns rows : Span) → (r.y +ℤ r.h) ≤ℤ rows.x0 → (x y : ℤ) → InSpans columns rows x y → holds_pixel r x y ≡ false
+above r columns rows l x y h = second_false (is_among r.x r.w x) (is_among r.y r.h y) (before rows.x0 rows.x1 r.y r.h y l h.1)
 
 module _ (p : ℤ → ℤ → Type 0) where
   -- no entry of a list may show

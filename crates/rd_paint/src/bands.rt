@@ -199,7 +199,7 @@ pub(crate) fn paint_all<A: Ledger>(
 {
     let size = canvas.size();
     let frame = frame_of(area, size.w as usize, size.h as usize);
-    let Some(count) = gather(entries, area, room) else {
+    let Some(count) = gather(entries, area, frame.columns(), frame.rows(), room) else {
         return false;
     };
     let (own, rest) = room.split_at_mut(count);

@@ -5,7 +5,7 @@ ghost use Rattle.rd_geom.specs.Areas.{in_area};
 ghost use Rattle.rd_paint.specs.Internal.Frames.{IsFramed};
 
 use rd_area::Area;
-use rd_geom::Rect;
+use rd_geom::{Rect, Span};
 
 /// The columns from `left` up to `right` of the rows from `top` up to `bottom`.
 #[derive(Clone, Copy)]
@@ -14,6 +14,32 @@ pub(crate) struct Frame {
     pub(crate) right: usize,
     pub(crate) top: usize,
     pub(crate) bottom: usize,
+}
+
+impl Frame {
+    /// Its columns.
+    pub(crate) fn columns(&self) -> Span
+        requires across { self.now.left ≤ self.now.right }
+        requires wide { self.now.right ≤ 4096 }
+        ensures { result ≡ record { x0 = pos self.now.left; x1 = pos self.now.right } }
+    {
+        Span {
+            x0: self.left as i32,
+            x1: self.right as i32,
+        }
+    }
+
+    /// Its rows.
+    pub(crate) fn rows(&self) -> Span
+        requires down { self.now.top ≤ self.now.bottom }
+        requires high { self.now.bottom ≤ 4096 }
+        ensures { result ≡ record { x0 = pos self.now.top; x1 = pos self.now.bottom } }
+    {
+        Span {
+            x0: self.top as i32,
+            x1: self.bottom as i32,
+        }
+    }
 }
 
 /// Is a pixel of the area in the columns `left` up to `right` of the rows `top` up to `bottom`?

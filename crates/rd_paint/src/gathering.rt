@@ -1,36 +1,72 @@
 //! Picks of all entries of a list that may show in an area.
 
-ghost use Rattle.std.specs.Prelude.{◌≡◌, ◌+◌, ◌^◌, ◌≤◌, ◌<◌, ◌∷◌, [], IfSome, length, take};
+ghost use Rattle.std.specs.Prelude.{◌≡◌, ℤ, ◌+◌, ◌^◌, ◌≤◌, ◌<◌, ◌∷◌, [], IfSome, IsTrue, false, length, take};
+ghost use Rattle.rd_geom.specs.Plane.{holds_pixel};
 ghost use Rattle.rd_list.specs.Displayed.{shown};
 ghost use Rattle.rd_list.specs.Entries as list;
 ghost use Rattle.rd_list.specs.EntryNames.{kept_leaves};
 ghost use Rattle.rd_list.specs.Wrappers.{Wrapper};
-ghost use Rattle.rd_paint.specs.Internal.Picks.{InArea, IsClosed, SameWhere, ShowsFor, picked};
+ghost use Rattle.rd_paint.specs.Internal.Picks.{InAreaWithin, InSpans, IsClosed, SameWhere, ShowsFor, picked};
 
 use crate::picks::{MOST, Pick, put};
 use rd_area::Area;
+use rd_geom::{Rect, Span};
 use rd_item::Item;
 use rd_list::{Entry, Kept};
 use std::sync::ledger::Ledger;
 
-/// Writes picks of the entries that may show in the area, and says how many; None where there is too little room.
+/// Writes picks of the entries that may show in the area, as far as it is in these columns of these rows, and says how
+/// many; None where there is too little room. A leaf outside of them costs no more than to see that.
 #[cycle(gathering)]
 pub(crate) fn gather<A: Ledger>(
     entries: &[Entry<A>],
     area: &Area,
+    columns: Span,
+    rows: Span,
     room: &mut [Pick],
 ) -> Option<usize>
     requires few { length room.old < 2 ^ 32 }
     ensures within { IfSome result (λ n. n ≤ length room.old) }
-    ensures same { IfSome result (λ n. SameWhere (InArea area.now)
+    ensures same { IfSome result (λ n. SameWhere (InAreaWithin area.now columns rows)
         (picked (take n room.new) (shown entries.now)) (shown entries.now)) }
 {
     let mut count = 0;
     for (i, entry) in entries.iter().enumerate() {
-        let more = gather_one(entry, i, area, &mut room[count..])?;
+        if lies_outside(entry, columns, rows) {
+            continue;
+        }
+        let more = gather_one(entry, i, area, columns, rows, &mut room[count..])?;
         count += more;
     }
     Some(count)
+}
+
+/// Has the rectangle no pixel in these columns of these rows?
+#[inline(always)]
+fn misses(r: Rect, columns: Span, rows: Span) -> bool
+    ensures { IsTrue result → (x y : ℤ) → InSpans columns rows x y → holds_pixel r x y ≡ false }
+{
+    if columns.x1 <= r.x() {
+        return true;
+    }
+    if rows.x1 <= r.y() {
+        return true;
+    }
+    if r.right() <= columns.x0 {
+        return true;
+    }
+    r.bottom() <= rows.x0
+}
+
+/// Is the entry a leaf that has no pixel in these columns of these rows?
+#[inline(always)]
+fn lies_outside<A: Ledger>(entry: &Entry<A>, columns: Span, rows: Span) -> bool
+    ensures { IsTrue result → SameWhere (InSpans columns rows) list.nil (shown (entry.now ∷ [])) }
+{
+    match entry {
+        Entry::Leaf(item) => misses(item.visible(), columns, rows),
+        Entry::Group(_) => false,
+    }
 }
 
 /// Writes picks of the entry at a place.
@@ -40,17 +76,19 @@ fn gather_one<A: Ledger>(
     entry: &Entry<A>,
     place: usize,
     area: &Area,
+    columns: Span,
+    rows: Span,
     room: &mut [Pick],
 ) -> Option<usize>
     requires few { length room.old < 2 ^ 32 }
     ensures within { IfSome result (λ n. n ≤ length room.old) }
     ensures closed { IfSome result (λ n. IsClosed (take n room.new)) }
-    ensures same { IfSome result (λ n. ShowsFor (InArea area.now) place
+    ensures same { IfSome result (λ n. ShowsFor (InAreaWithin area.now columns rows) place
         (shown (entry.now ∷ [])) (shown (entry.now ∷ [])) (take n room.new)) }
 {
     match entry {
-        Entry::Leaf(item) => gather_item(item, place, area, room),
-        Entry::Group(group) => gather_group(&group.inner, place, area, room),
+        Entry::Leaf(item) => gather_item(item, place, area, columns, rows, room),
+        Entry::Group(group) => gather_group(&group.inner, place, area, columns, rows, room),
     }
 }
 
@@ -59,11 +97,13 @@ fn gather_item<A: Ledger>(
     item: &Item<A>,
     place: usize,
     area: &Area,
+    columns: Span,
+    rows: Span,
     room: &mut [Pick],
 ) -> Option<usize>
     ensures within { IfSome result (λ n. n ≤ length room.old) }
     ensures closed { IfSome result (λ n. IsClosed (take n room.new)) }
-    ensures same { IfSome result (λ n. ShowsFor (InArea area.now) place (list.leaf item.now.leaf list.nil)
+    ensures same { IfSome result (λ n. ShowsFor (InAreaWithin area.now columns rows) place (list.leaf item.now.leaf list.nil)
         (list.leaf item.now.leaf list.nil) (take n room.new)) }
 {
     if !area.meets(item.visible()) {
@@ -81,19 +121,21 @@ fn gather_group<A: Ledger>(
     inner: &Kept<A>,
     place: usize,
     area: &Area,
+    columns: Span,
+    rows: Span,
     room: &mut [Pick],
 ) -> Option<usize>
     requires few { length room.old < 2 ^ 32 }
     ensures within { IfSome result (λ n. n ≤ length room.old) }
     ensures closed { IfSome result (λ n. IsClosed (take n room.new)) }
-    ensures same { IfSome result (λ n. (w : Wrapper) → ShowsFor (InArea area.now) place
+    ensures same { IfSome result (λ n. (w : Wrapper) → ShowsFor (InAreaWithin area.now columns rows) place
         (list.group w (kept_leaves inner.now.entries) list.nil)
         (list.group w (kept_leaves inner.now.entries) list.nil) (take n room.new)) }
 {
     if room.is_empty() || place > MOST {
         return None;
     }
-    let inside = gather(&inner.entries, area, &mut room[1..])?;
+    let inside = gather(&inner.entries, area, columns, rows, &mut room[1..])?;
     if inside == 0 {
         return Some(0);
     }

@@ -56,6 +56,14 @@ InRows y0 y1 x y = (y0 ≤ℤ y) × (y <ℤ y1)
 abbrev pub InArea : Region → ℤ → ℤ → Type 0
 InArea a x y = IsTrue (in_area a x y)
 
+-- in the columns of one span and the rows of another
+abbrev pub InSpans : Span → Span → ℤ → ℤ → Type 0
+InSpans columns rows x y = IsTrue (in_span columns x) × IsTrue (in_span rows y)
+
+-- in an area, in these columns of these rows
+abbrev pub InAreaWithin : Region → Span → Span → ℤ → ℤ → Type 0
+InAreaWithin a columns rows x y = InArea a x y × InSpans columns rows x y
+
 -- in row y, outside the columns of a span
 abbrev pub OffSpan : Span → ℤ → ℤ → ℤ → Type 0
 OffSpan s y x row = (row ≡ y) × (in_span s x ≡ false)

@@ -14,9 +14,9 @@ use Rattle.rd_list.proofs.Displaying.{shown_from}
 use Rattle.rd_list.specs.declared.kept.Entry.{Entry}
 use Rattle.rd_list.proofs.Joins.{join-nil}
 use Rattle.rd_list.proofs.Viewing.{size_at}
-use Rattle.rd_paint.specs.Internal.Picks.{InArea, SameWhere, picked}
+use Rattle.rd_paint.specs.Internal.Picks.{InAreaWithin, SameWhere, picked}
 use Rattle.rd_paint.proofs.Picking.{closed_none, closed_by, put_first, put_fits, picked-none, entry_at-shown}
-use Rattle.rd_paint.proofs.Showing.{written_more, none_named, group_named, group_unseen, nothing_left, some_group}
+use Rattle.rd_paint.proofs.Showing.{written_more, none_named, group_named, group_unseen, nothing_left, same_without, some_group}
 use Rattle.rd_paint.proofs.gathering.+gathering.Goals as goal
 
 pub gather-loop-i-init : goal.gather-loop-i-init
@@ -37,7 +37,7 @@ pub gather-loop-i-preserved : goal.gather-loop-i-preserved
 gather-loop-i-preserved g t c =
     let fits : c.in_ok-more.more ≤ length c.gather_one.new.room = omega (arith, c.in_ok-more.ensures.within, c.gather_one.auto.room) in
     let at = λ (f : Entries Wrapper item.Leaf → Entries Wrapper item.Leaf). entry_at-shown f c.args.entries.now c.loop-i.i c.index-entries-i.result c.loop-i-test.true c.index-entries-i.is in
-    let written = written_more (InArea c.args.area.now) (shown c.args.entries.now) (shown c.args.entries.now) (shown (c.index-entries-i.result ∷ [])) (shown (drop (c.loop-i.i + 1) c.args.entries.now)) (shown (drop c.loop-i.i c.args.entries.now))
+    let written = written_more (InAreaWithin c.args.area.now c.args.columns c.args.rows) (shown c.args.entries.now) (shown c.args.entries.now) (shown (c.index-entries-i.result ∷ [])) (shown (drop (c.loop-i.i + 1) c.args.entries.now)) (shown (drop c.loop-i.i c.args.entries.now))
     c.loop-i.room c.gather_one.new.room c.loop-i.count c.in_ok-more.more (length c.loop-i.room - c.loop-i.count) c.loop-i.invariant.within fits (shown_from c.args.entries.now c.loop-i.i c.index-entries-i.result c.loop-i-test.true c.index-entries-i.is)
     c.loop-i.invariant.closed c.in_ok-more.ensures.closed c.loop-i.invariant.same (c.in_ok-more.ensures.same (shown c.args.entries.now) at) in
     record {
@@ -45,6 +45,15 @@ gather-loop-i-preserved g t c =
       closed = written.0;
       same = written.1;
     }
+
+pub gather-loop-i-preserved-then-lies_outside : goal.gather-loop-i-preserved-then-lies_outside
+gather-loop-i-preserved-then-lies_outside g t c = record {
+  within = c.loop-i.invariant.within;
+  closed = c.loop-i.invariant.closed;
+  same =
+      same_without (InAreaWithin c.args.area.now c.args.columns c.args.rows) (picked (take c.loop-i.count c.loop-i.room) (shown c.args.entries.now)) (shown (c.index-entries-i.result ∷ [])) (shown (drop (c.loop-i.i + 1) c.args.entries.now)) (shown (drop c.loop-i.i c.args.entries.now)) (shown c.args.entries.now)
+      (shown_from c.args.entries.now c.loop-i.i c.index-entries-i.result c.loop-i-test.true c.index-entries-i.is) (λ x y d h. c.lies_outside.ensures c.if-lies_outside.true x y d h.1) c.loop-i.invariant.same;
+}
 
 pub gather-returns-clause-same : goal.gather-returns-clause-same
 gather-returns-clause-same g t c = λ x y d h.
@@ -60,8 +69,8 @@ gather_group-returns-then-inside-eq0-clause-closed g t c = closed_none
 pub gather_group-returns-then-inside-eq0-clause-same : goal.gather_group-returns-then-inside-eq0-clause-same
 gather_group-returns-then-inside-eq0-clause-same g t c = λ w.
     let e : shown c.deref.result.now ≡ kept_leaves c.args.inner.now.entries = ap kept_leaves (ap kept_entries c.deref.ensures.value ∙ ap entries_of c.inner.view_is) in
-    none_named (InArea c.args.area.now) c.args.place (group w (kept_leaves c.args.inner.now.entries) nil) (group w (kept_leaves c.args.inner.now.entries) nil)
-    (group_unseen (InArea c.args.area.now) w (kept_leaves c.args.inner.now.entries) (nothing_left (InArea c.args.area.now) c.in_ok-inside.inside c.gather.new.room (shown c.deref.result.now) (shown c.deref.result.now) (kept_leaves c.args.inner.now.entries) c.if-inside-eq0.true e c.in_ok-inside.ensures.same))
+    none_named (InAreaWithin c.args.area.now c.args.columns c.args.rows) c.args.place (group w (kept_leaves c.args.inner.now.entries) nil) (group w (kept_leaves c.args.inner.now.entries) nil)
+    (group_unseen (InAreaWithin c.args.area.now c.args.columns c.args.rows) w (kept_leaves c.args.inner.now.entries) (nothing_left (InAreaWithin c.args.area.now c.args.columns c.args.rows) c.in_ok-inside.inside c.gather.new.room (shown c.deref.result.now) (shown c.deref.result.now) (kept_leaves c.args.inner.now.entries) c.if-inside-eq0.true e c.in_ok-inside.ensures.same))
 
 pub gather_group-returns-clause-closed : goal.gather_group-returns-clause-closed
 gather_group-returns-clause-closed g t c =
@@ -76,10 +85,10 @@ gather_group-returns-clause-same g t c = λ w.
     let fits : c.in_ok-inside.inside ≤ length c.gather.new.room = omega (arith, c.in_ok-inside.ensures.within, c.gather.auto.room) in
     let some : 1 ≤ length c.args.room.now = search rules in
     let q = put_first c.args.place c.in_ok-inside.inside _ c.args.room.now c.gather.new.room _ some fits c.put.ensures.written in
-    group_named (InArea c.args.area.now) c.args.place w (kept_leaves c.args.inner.now.entries) (kept_leaves c.args.inner.now.entries) c.in_ok-inside.inside (take c.in_ok-inside.inside c.gather.new.room) _ (length-take-le c.in_ok-inside.inside c.gather.new.room fits) q
-    (subst (λ (xs : Entries Wrapper item.Leaf). SameWhere (InArea c.args.area.now) (picked (take c.in_ok-inside.inside c.gather.new.room) xs) xs) e c.in_ok-inside.ensures.same)
+    group_named (InAreaWithin c.args.area.now c.args.columns c.args.rows) c.args.place w (kept_leaves c.args.inner.now.entries) (kept_leaves c.args.inner.now.entries) c.in_ok-inside.inside (take c.in_ok-inside.inside c.gather.new.room) _ (length-take-le c.in_ok-inside.inside c.gather.new.room fits) q
+    (subst (λ (xs : Entries Wrapper item.Leaf). SameWhere (InAreaWithin c.args.area.now c.args.columns c.args.rows) (picked (take c.in_ok-inside.inside c.gather.new.room) xs) xs) e c.in_ok-inside.ensures.same)
 
 pub gather_one-returns-in-Group-clause-same : goal.gather_one-returns-in-Group-clause-same
 gather_one-returns-in-Group-clause-same g t c =
     rw c.in-Group.is
-    (some_group (InArea c.args.area.now) c.args.place (kept_leaves c.in-Group.group.inner.entries) (λ n. take n c.gather_group.new.room) c.gather_group.result c.gather_group.ensures.same (record { key = c.in-Group.group.key; opacity = c.in-Group.group.opacity }))
+    (some_group (InAreaWithin c.args.area.now c.args.columns c.args.rows) c.args.place (kept_leaves c.in-Group.group.inner.entries) (λ n. take n c.gather_group.new.room) c.gather_group.result c.gather_group.ensures.same (record { key = c.in-Group.group.key; opacity = c.in-Group.group.opacity }))

@@ -2,14 +2,14 @@ use Rattle.std.proofs.Common.{◌≤◌, ◌+◌, ◌*◌, ◌∷◌, [], length
 use Rattle.rd_list.specs.Displayed.{shown}
 use Rattle.rd_list.specs.Entries.{list_size, ◌▷◌}
 use Rattle.rd_list.specs.KeptView.{kept_entries}
-use Rattle.rd_paint.specs.Internal.Picks.{InArea, IsClosed, SameWhere, picked}
+use Rattle.rd_paint.specs.Internal.Picks.{InAreaWithin, IsClosed, SameWhere, picked}
 use Rattle.rd_paint.proofs.gathering.+gathering.Given as goal
 
 abbrev pub invariant-gather-loop-i : goal.invariant-gather-loop-i
 invariant-gather-loop-i g l = record {
   within : l.count ≤ length l.room;
   closed : IsClosed (take l.count l.room);
-  same : SameWhere (InArea l.area) (picked (take l.count l.room) (shown l.entries) ▷ shown (drop l.i l.entries)) (shown l.entries);
+  same : SameWhere (InAreaWithin l.area l.columns l.rows) (picked (take l.count l.room) (shown l.entries) ▷ shown (drop l.i l.entries)) (shown l.entries);
 }
 
 abbrev pub decreases-gather : goal.decreases-gather
