@@ -27,6 +27,32 @@ fn same(p: Px, q: Px) -> bool
     (p.r() == q.r()) & (p.g() == q.g()) & (p.b() == q.b()) & (p.a() == q.a())
 }
 
+/// Are the four pixels from place `at` on all the same as this one?
+fn four_same(out: &[Px], at: usize, px: Px) -> bool
+    requires { at + 4 ≤ length out.now }
+    ensures first { IsTrue result → get_or out.now at clear ≡ px }
+    ensures second { IsTrue result → get_or out.now (at + 1) clear ≡ px }
+    ensures third { IsTrue result → get_or out.now (at + 2) clear ≡ px }
+    ensures fourth { IsTrue result → get_or out.now (at + 3) clear ≡ px }
+{
+    same(out[at], px) & same(out[at + 1], px) & same(out[at + 2], px) & same(out[at + 3], px)
+}
+
+/// Up to where, by fours, the pixels from `from` on are the same.
+fn fours_until(out: &[Px], from: usize) -> usize
+    requires { from < length out.now }
+    ensures more { from < result }
+    ensures within { result ≤ length out.now }
+    ensures same { (k : ℕ) → from ≤ k → k < result → get_or out.now k clear ≡ get_or out.now from clear }
+{
+    let px = out[from];
+    let mut end = from + 1;
+    while out.len() - end >= 4 && four_same(out, end, px) {
+        end += 4;
+    }
+    end
+}
+
 /// Up to where the pixels from `from` on are the same.
 fn same_until(out: &[Px], from: usize) -> usize
     requires { from < length out.now }
@@ -35,7 +61,7 @@ fn same_until(out: &[Px], from: usize) -> usize
     ensures same { (k : ℕ) → from ≤ k → k < result → get_or out.now k clear ≡ get_or out.now from clear }
 {
     let px = out[from];
-    let mut end = from + 1;
+    let mut end = fours_until(out, from);
     while end < out.len() && same(out[end], px) {
         end += 1;
     }
@@ -43,6 +69,7 @@ fn same_until(out: &[Px], from: usize) -> usize
 }
 
 /// Lays one pixel over each of the pixels.
+#[inline(never)]
 fn tint(out: &mut [Px], px: Px)
     ensures { out.new ≡ tinted px out.old }
 {
