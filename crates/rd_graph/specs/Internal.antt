@@ -7,6 +7,7 @@ pub mod Ranks
 pub mod Seen
 pub mod Tables
 pub mod Taking
+pub mod Thinning
 pub mod Trimming
 pub mod Walks
 pub mod Words

@@ -131,7 +131,7 @@ fn is_same(key: &EntryKey, name: &EntryKey) -> bool
 }
 
 /// Is the name one of these?
-fn is_among(keys: &[EntryKey], name: EntryKey) -> bool
+pub(crate) fn is_among(keys: &[EntryKey], name: EntryKey) -> bool
     ensures { result ≡ is_in same_entry keys.now name }
 {
     for key in keys {
@@ -208,7 +208,7 @@ fn pass_all(alloc: Global, nodes: &[Node], first: usize, gone: &Gone) -> Result<
 }
 
 /// A list once more.
-fn copied(alloc: Global, keys: &[EntryKey]) -> Result<Vec<EntryKey>, AllocError>
+pub(crate) fn copied(alloc: Global, keys: &[EntryKey]) -> Result<Vec<EntryKey>, AllocError>
     ensures { IfOk result (λ v. v.items ≡ keys.now) }
 {
     let mut all = Vec::with_capacity(alloc, keys.len())?;

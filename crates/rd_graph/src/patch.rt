@@ -7,6 +7,7 @@ use crate::arranging::arrange;
 use crate::changing::changed;
 use crate::graph::{Node, OrderGraph};
 use crate::making::{make, room};
+use crate::thinning::{joined, thinned};
 use crate::trimming::trimmed;
 use rd_keys::EntryKey;
 use std::alloc::{AllocError, Global};
@@ -50,9 +51,13 @@ impl Patch {
 }
 
 impl OrderGraph {
-    /// The patch of a merge: without the nodes at some places, which rise, and with the nodes and the edges of a chain, whose names stand
-    /// at the places `found`. It only reads the graph, and takes all memory that the change will need.
-    pub fn patch(
+    /// Is it time to take away the edges that others imply? The larger a graph, the less often, since it takes longer.
+    fn is_due(&self) -> bool {
+        64 <= self.patches && self.nodes.len() / 64 <= self.patches
+    }
+
+    /// The patch of a merge, over the edges of the graph as they are.
+    fn patch_as_is(
         &self,
         alloc: Global,
         gone: &[usize],
@@ -77,15 +82,53 @@ impl OrderGraph {
         })
     }
 
+    /// The patch of a merge: without the nodes at some places, which rise, and with the nodes and the edges of a chain, whose names stand
+    /// at the places `found`. It only reads the graph, and takes all memory that the change will need.
+    pub fn patch(
+        &self,
+        alloc: Global,
+        gone: &[usize],
+        chain: &[EntryKey],
+        found: &[Option<usize>],
+    ) -> Result<Patch, AllocError>
+        requires { CanBePatched gone.now chain.now found.now self.now }
+        ensures fits { IfOk result (λ p. FitsPatch p self.now) }
+        ensures patched { IfOk result (λ p. IsPatched gone.now chain.now found.now self.now p) }
+    {
+        if !self.is_due() {
+            return self.patch_as_is(alloc, gone, chain, found);
+        }
+        let thin = thinned(alloc, &self.nodes)?;
+        let graph = OrderGraph {
+            nodes: thin.nodes,
+            patches: 0,
+        };
+        let patch = graph.patch_as_is(alloc, gone, chain, found)?;
+        let lists = joined(thin.lists, patch.lists)?;
+        Ok(Patch {
+            alloc,
+            lists,
+            made: patch.made,
+            line: patch.line,
+            room: patch.room,
+        })
+    }
+
     /// The graph with its patch. It takes no memory.
     pub fn apply(self, patch: Patch) -> OrderGraph
         requires { FitsPatch patch self }
         ensures { result ≡ patched patch self }
     {
+        let patches = if self.is_due() {
+            0
+        } else {
+            self.patches.wrapping_add(1)
+        };
         let mut nodes = self.nodes;
         put_lists(&mut nodes, patch.lists);
         OrderGraph {
             nodes: in_line(patch.alloc, nodes, patch.made, patch.line, patch.room),
+            patches,
         }
     }
 }

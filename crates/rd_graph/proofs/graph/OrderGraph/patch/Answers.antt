@@ -1,20 +1,27 @@
+use Rattle.std.proofs.Common.{ap}
 use Rattle.std.specs.Prelude.{option_map}
 use Rattle.rd_graph.specs.Internal.Patching.{lists_seen}
 use Rattle.rd_graph.specs.Internal.Seen.{seen}
-use Rattle.rd_graph.proofs.Merged.{patched_by}
-use Rattle.rd_graph.proofs.Trimmings.{short_by}
+use Rattle.rd_graph.proofs.Thinnings.{thin_ordered, thin_can, thin_back}
 use Rattle.rd_graph.proofs.graph.OrderGraph.patch.Goals as goal
+
+pub invariant_of-graph : goal.invariant_of-graph
+invariant_of-graph c =
+    thin_ordered (seen c.self.inside.nodes.items) (seen c.deref.result.now) (seen c.in_ok-thin.thin.nodes.items) (lists_seen c.in_ok-thin.thin.lists.items) (ap seen c.deref.ensures.value) c.self.invariant c.in_ok-thin.ensures
+
+pub patch_as_is-requires-2 : goal.patch_as_is-requires-2
+patch_as_is-requires-2 c =
+    thin_can (seen c.self.inside.nodes.items) (seen c.deref.result.now) (seen c.in_ok-thin.thin.nodes.items) c.args.self.now (lists_seen c.in_ok-thin.thin.lists.items) c.args.gone.now c.args.chain.now c.args.found.now
+    (ap seen c.deref.ensures.value) c.self.view_is c.self.invariant c.in_ok-thin.ensures c.requires
 
 pub returns-clause-fits : goal.returns-clause-fits
 returns-clause-fits c =
-    (short_by c.args.gone.now c.args.chain.now c.args.found.now c.args.self.now (seen c.in_ok-made.made.items) (lists_seen c.in_ok-relisted.relisted.items) (lists_seen c.in_ok-lists.lists.items) (option_map (λ v. v.items) c.in_ok-line.line)
-    c.in_ok-lists.ensures
-    (patched_by c.args.gone.now c.args.chain.now c.args.found.now c.args.self.now c.deref.result.now c.self.inside.nodes.items (lists_seen c.in_ok-relisted.relisted.items) (seen c.in_ok-made.made.items) (option_map (λ v. v.items) c.in_ok-line.line)
-    c.requires c.self.invariant c.self.view_is c.deref.ensures.value c.in_ok-relisted.ensures c.in_ok-line.ensures c.in_ok-made.ensures)).0
+    (thin_back (seen c.self.inside.nodes.items) (seen c.deref.result.now) (seen c.in_ok-thin.thin.nodes.items) c.args.self.now (lists_seen c.in_ok-thin.thin.lists.items) (lists_seen c.patch.inside.lists.items)
+    (lists_seen c.in_ok-lists.lists.items) (seen c.patch.inside.made.items) (option_map (λ l. l.items) c.patch.inside.line) c.in_ok-patch.patch c.args.gone.now c.args.chain.now c.args.found.now
+    (ap seen c.deref.ensures.value) c.self.view_is c.self.invariant c.in_ok-thin.ensures c.patch.view_is c.in_ok-lists.ensures c.in_ok-patch.ensures.fits c.in_ok-patch.ensures.patched).0
 
 pub returns-clause-patched : goal.returns-clause-patched
 returns-clause-patched c =
-    (short_by c.args.gone.now c.args.chain.now c.args.found.now c.args.self.now (seen c.in_ok-made.made.items) (lists_seen c.in_ok-relisted.relisted.items) (lists_seen c.in_ok-lists.lists.items) (option_map (λ v. v.items) c.in_ok-line.line)
-    c.in_ok-lists.ensures
-    (patched_by c.args.gone.now c.args.chain.now c.args.found.now c.args.self.now c.deref.result.now c.self.inside.nodes.items (lists_seen c.in_ok-relisted.relisted.items) (seen c.in_ok-made.made.items) (option_map (λ v. v.items) c.in_ok-line.line)
-    c.requires c.self.invariant c.self.view_is c.deref.ensures.value c.in_ok-relisted.ensures c.in_ok-line.ensures c.in_ok-made.ensures)).1
+    (thin_back (seen c.self.inside.nodes.items) (seen c.deref.result.now) (seen c.in_ok-thin.thin.nodes.items) c.args.self.now (lists_seen c.in_ok-thin.thin.lists.items) (lists_seen c.patch.inside.lists.items)
+    (lists_seen c.in_ok-lists.lists.items) (seen c.patch.inside.made.items) (option_map (λ l. l.items) c.patch.inside.line) c.in_ok-patch.patch c.args.gone.now c.args.chain.now c.args.found.now
+    (ap seen c.deref.ensures.value) c.self.view_is c.self.invariant c.in_ok-thin.ensures c.patch.view_is c.in_ok-lists.ensures c.in_ok-patch.ensures.fits c.in_ok-patch.ensures.patched).1

@@ -1,0 +1,11 @@
+use Rattle.rd_graph.proofs.Climbings.{adds_none, adds_next}
+use Rattle.rd_graph.proofs.climbing.sort_out.Goals as goal
+
+pub loop-key-init : goal.loop-key-init
+loop-key-init c = record { left = adds_none c.args.before.now c.args.left.now.items; found = adds_none c.args.before.now c.args.found.now.items }
+
+pub loop-key-preserved : goal.loop-key-preserved
+loop-key-preserved c = record {
+  left = adds_next c.args.before.now c.args.left.now.items c.loop-key.left.items _ c.loop-key.key-index _ c.loop-key-test.true c.loop-key.invariant.left c.in_ok-sort_one.ensures.left;
+  found = adds_next c.args.before.now c.args.found.now.items c.loop-key.found.items _ c.loop-key.key-index _ c.loop-key-test.true c.loop-key.invariant.found c.in_ok-sort_one.ensures.found;
+}
