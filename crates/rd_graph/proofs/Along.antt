@@ -11,7 +11,7 @@ use Rattle.rd_graph.specs.Gathered.{gathered}
 use Rattle.rd_graph.specs.Patches.{AreWithin, with_lists, is_gone, IsRelisted}
 use Rattle.rd_graph.specs.Internal.Chains.{before_place, just_before}
 use Rattle.rd_graph.specs.Internal.Relisting.{list_at, IsAt, has_all, some_gone, is_late, keeps, own, relinked, on_chain, along, AreNoted, Relists, GoesAlong, GoesAlongAt}
-use Rattle.rd_graph.proofs.Listing.{Has, Once, cases, never, has_from, contains_from, has_left, has_right, has_either}
+use Rattle.rd_graph.proofs.Listing.{Has, Once, cases, never, has_from, contains_from, has_either}
 use Rattle.rd_graph.proofs.Calls.{once_of}
 use Rattle.rd_graph.proofs.Entries.{same_entry-sound, same_entry-refl, not_yet, is_in-more, in_has, has_in, has_get, place_some, place_none, place_has}
 use Rattle.rd_graph.proofs.Adding.{before_next, next_before, next_in}

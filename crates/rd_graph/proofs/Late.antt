@@ -4,7 +4,6 @@ use Rattle.std.specs.Prelude.{Contains, ◌↔◌}
 use Rattle.std.proofs.lemmas.Bool.{cases_lt}
 use Rattle.std.proofs.lemmas.List.{take_more, append-nil}
 use Rattle.rd_keys.specs.declared.entry.EntryKey.{EntryKey}
-use Rattle.rd_graph.specs.Orders as order
 use Rattle.rd_graph.specs.Orders.{Before}
 use Rattle.rd_graph.specs.Graphs.{Graph, nodes, Precedes, Hop, here, Stitch, IsInOrder}
 use Rattle.rd_graph.specs.Names.{same_entry}

@@ -53,7 +53,7 @@ impl Patch {
 impl OrderGraph {
     /// Is it time to take away the edges that others imply? The larger a graph, the less often, since it takes longer.
     fn is_due(&self) -> bool {
-        64 <= self.patches && self.nodes.len() / 64 <= self.patches
+        256 <= self.patches && self.nodes.len() / 64 <= self.patches
     }
 
     /// The patch of a merge, over the edges of the graph as they are.

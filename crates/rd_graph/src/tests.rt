@@ -1,5 +1,12 @@
-//! A small graph with each of its calls, worked out by hand.
+//! A small graph with each of its calls, worked out by hand, and graphs beside a matrix.
+
+mod agreeing;
+mod checked;
+mod drawing;
+mod matrix;
+
 use crate::{OrderGraph, Places};
+use agreeing::{CHANGES, LEVELS, compare_all};
 use rd_keys::{Arena, BoxKey, BoxMark, EntryKey, Part};
 use std::alloc::{AllocError, Global};
 use std::test::Fail;
@@ -38,6 +45,35 @@ fn a_chain_joins_a_line(rt: HostRuntime) -> Result<(), Fail> {
             assert!(rt; placed(rt.alloc(), owner)?);
         }
         Err(_) => assert!(rt; false),
+    }
+    Ok(())
+}
+
+// The names of the entries of two boxes.
+fn ten_names(alloc: Global, one: BoxKey, other: BoxKey) -> Result<Vec<EntryKey>, AllocError> {
+    let mut names = Vec::with_capacity(alloc, 10)?;
+    for owner in [one, other] {
+        for part in [Part::Back, Part::Border, Part::Content, Part::Outline] {
+            names.push(EntryKey::Leaf(owner, part))?;
+        }
+        names.push(EntryKey::Group(owner))?;
+    }
+    Ok(names)
+}
+
+// Many changes, each by calls one after the other and by a patch, reach the same as by brute force.
+#[test]
+fn drawn_changes_agree(rt: HostRuntime) -> Result<(), Fail> {
+    let mut boxes = Arena::<u8, BoxMark>::starting_at(rt.alloc(), 2, 0);
+    match (boxes.insert(0), boxes.insert(0)) {
+        (Ok(one), Ok(other)) => {
+            let names = ten_names(rt.alloc(), one, other)?;
+            let tally = compare_all(rt.alloc(), &names)?;
+            assert_eq!(rt; tally.agreed, LEVELS * CHANGES);
+            assert!(rt; tally.moved > 0);
+            assert!(rt; tally.moved < tally.agreed);
+        }
+        (_, _) => assert!(rt; false),
     }
     Ok(())
 }

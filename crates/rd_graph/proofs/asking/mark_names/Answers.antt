@@ -1,5 +1,5 @@
-use Rattle.std.proofs.Common.{◌≡◌, ◌∙◌, sym, subst, List}
-use Rattle.std.specs.Prelude.{vec_len, Contains}
+use Rattle.std.proofs.Common.{◌∙◌, sym, subst, List}
+use Rattle.std.specs.Prelude.{Contains}
 use Rattle.rd_keys.specs.declared.entry.EntryKey.{EntryKey}
 use Rattle.rd_graph.proofs.Listing.{has_from}
 use Rattle.rd_graph.proofs.AskedPlaces.{mark_fits, mark_next}

@@ -1,4 +1,3 @@
-use Rattle.std.proofs.Common.{sym, subst, List}
 use Rattle.rd_graph.specs.Internal.Tables.{at}
 use Rattle.rd_graph.proofs.AskedPlaces.{asked_next}
 use Rattle.rd_graph.proofs.asking.places_asked.Goals as goal

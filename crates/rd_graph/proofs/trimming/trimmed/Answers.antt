@@ -1,6 +1,4 @@
-use Rattle.std.proofs.Common.{◌∙◌, sym, subst, ℕ, Bool, List}
-use Rattle.std.specs.declared.vec.Vec.{Vec}
-use Rattle.rd_keys.specs.declared.entry.EntryKey.{EntryKey}
+use Rattle.std.proofs.Common.{◌∙◌, sym, subst, Bool, List}
 use Rattle.rd_graph.specs.Names.{place_of, same_entry}
 use Rattle.rd_graph.specs.Internal.Patching.{lists_seen}
 use Rattle.rd_graph.specs.Internal.Tables.{at}
