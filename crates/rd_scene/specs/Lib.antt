@@ -1,4 +1,5 @@
 pub mod Boxes
+pub mod Canonical
 pub mod Checked
 pub mod Colors
 pub mod Commands

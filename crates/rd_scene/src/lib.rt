@@ -10,12 +10,14 @@ mod commands;
 mod differing;
 mod edits;
 mod fault;
+pub mod laws;
 mod members;
 mod planting;
 mod reader;
 mod rects;
 mod script;
 mod styles;
+mod types;
 mod writing;
 
 pub use fault::{Place, SceneFault, Why};

@@ -6,7 +6,7 @@ ghost use Rattle.serde_json.specs.Data.{string, number, unsigned};
 ghost use Rattle.serde_json.specs.Written.{compact_text};
 ghost use Rattle.serde_json.specs.View.{view, items_view, items_of, members_view};
 ghost use Rattle.rd_edits.specs.declared.edit.Edit.TheVariants.{Insert, Remove, Move, SetStyle, SetRect, Shift};
-ghost use Rattle.rd_scene.specs.Reading.{Reads};
+ghost use Rattle.rd_scene.specs.Reading.{Reads, IsScriptText};
 ghost use Rattle.rd_scene.specs.Writing as spec;
 
 use crate::differing::{
@@ -14,6 +14,7 @@ use crate::differing::{
     visibility_word,
 };
 use crate::script::{Command, SceneBox, Script};
+use crate::types;
 use rd_edits::Edit;
 use rd_geom::{Color, NoMemory, Rect, Sides, Size};
 use rd_style::{Display, Floating, Overflow, Pointer, Position, Style, StyleChange, Visibility};
@@ -500,13 +501,23 @@ fn scene_value(alloc: Global, script: &Script) -> Result<Value, AllocError>
     json!(in alloc; {"version": 1u32, "canvas": canvas, "boxes": boxes, "script": commands})
 }
 
-/// The canonical text of a script: the compact text of its JSON value, each object's members in the byte order of their
-/// names. Only want of memory refuses it. The script stays.
+/// The compact text of a script's value.
 #[tactic(auto, using(crate::proofs::Written::written))]
-pub fn write_scene(alloc: Global, script: &Script) -> Result<Vec<u8>, NoMemory>
+fn text_of(alloc: Global, script: &Script) -> Result<Vec<u8>, NoMemory>
     ensures text { IfOk result (λ v. v.items ≡ compact_text (spec.scene_value script.now)) }
     ensures value { IfOk result (λ v. Reads v.items (spec.scene_value script.now)) }
 {
     let value = scene_value(alloc, script)?;
     Ok(value.to_vec(alloc)?)
+}
+
+/// The canonical text of a script: the compact text of its JSON value, each object's members in the byte order of their
+/// names. It reads as that script again. Only want of memory refuses it. The script stays.
+pub fn write_scene(alloc: Global, script: &Script) -> Result<Vec<u8>, NoMemory>
+    ensures text { IfOk result (λ v. v.items ≡ compact_text (spec.scene_value script.now)) }
+    ensures value { IfOk result (λ v. Reads v.items (spec.scene_value script.now)) }
+    ensures read { IfOk result (λ v. IsScriptText v.items script.now) }
+{
+    types::of_script(script);
+    text_of(alloc, script)
 }

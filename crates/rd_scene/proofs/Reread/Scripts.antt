@@ -1,0 +1,89 @@
+-- A script is read as it is written.
+use Rattle.std.proofs.Common.{◌≡◌, ◌≤◌, ℕ, nat_le, true, ◌&&◌, List, [], ◌∷◌, map, length, Result, Ok, Err, refl, ap, ◌∙◌, arith}
+use Rattle.std.specs.Prelude.{⊤, IfOk, ℤ, pos, ◌≤ℤ◌}
+use Rattle.std.proofs.lemmas.Bool.Decides.{nat_tests}
+use Rattle.std.proofs.lemmas.Int.{ints}
+use Rattle.serde_json.specs.Data.{Data}
+use Rattle.serde_json.specs.View.{items_of}
+use Rattle.rd_geom.specs.Canvas.{IsCanvas}
+use Rattle.rd_geom.specs.declared.rect.Size.{Size}
+use Rattle.rd_geom.specs.declared.rect.TheConstants.{MAX_CANVAS_SIDE}
+use Rattle.rd_tree.specs.declared.limits.TheConstants.{MAX_BOXES}
+use Rattle.rd_scene.specs.declared.fault.Why.TheVariants as why
+use Rattle.rd_scene.specs.declared.fault.Place.TheVariants as place
+use Rattle.rd_scene.specs.declared.script.SceneBox.{SceneBox}
+use Rattle.rd_scene.specs.declared.script.Command.{Command}
+use Rattle.rd_scene.specs.declared.script.TheConstants.{MAX_COMMANDS}
+use Rattle.rd_scene.specs.Canonical.{HasItsTypes, CanonicalLaw}
+use Rattle.rd_scene.specs.Checked.{faults, value, good}
+use Rattle.rd_scene.specs.Members.{holds, counted, count, whole_number, number as number_from}
+use Rattle.rd_scene.specs.Places.{at}
+use Rattle.rd_scene.specs.Reading.{Reads, IsScriptText}
+use Rattle.rd_scene.specs.Rects.{canvas_of}
+use Rattle.rd_scene.specs.Scripts.{Script, IsScript, known_at, version_at, canvas_at, boxes_at, commands_at, reading_of}
+use Rattle.rd_scene.specs.Writing.{number_value, box_value, command_value, canvas_value, scene_value}
+use Rattle.rd_scene.proofs.Reread.Values.{start, ◌⊗◌, names_read, number_read}
+use Rattle.rd_scene.proofs.Reread.Boxes.{boxes_read}
+use Rattle.rd_scene.proofs.Reread.Commands.{commands_read}
+
+count_read : {X : Type 0} (f : X → Data) (xs : List X) → count (items_of (map f xs)) ≡ length xs
+count_read f [] = refl
+count_read f (x ∷ xs) = let more : count (items_of (map f xs)) ≡ length xs = count_read f xs in omega arith
+
+few : (low high n : ℕ) → low ≤ n → n ≤ high → (nat_le low n && nat_le n high) ≡ true
+few low high n p q = grind (arith, nat_tests)
+
+counted_read : {X : Type 0} (f : X → Data) (low high : ℕ) (xs : List X) → low ≤ length xs → length xs ≤ high
+    → counted low high (count (items_of (map f xs))) ≡ good tt
+counted_read f low high xs p q = ap (counted low high) (count_read f xs)
+    ∙ ap (holds why.Count) (few low high (length xs) p q)
+
+side_read : (z : ℤ) → pos 1 ≤ℤ z → z ≤ℤ MAX_CANVAS_SIDE → number_from (pos 1) MAX_CANVAS_SIDE (number_value z) ≡ good z
+side_read z p q = number_read (pos 1) MAX_CANVAS_SIDE z (omega (arith, ints)) (grind (arith, ints, nat_tests))
+
+canvas_read : (s : Size) → IsCanvas s → canvas_of (canvas_value s) ≡ good s
+unfolding canvas_of
+canvas_read s c =
+    names_read (λ _ w h. record { w = w; h = h }) ⊗ side_read s.w c.some_wide c.wide ⊗ side_read s.h c.some_high c.high
+
+boxes_at_read : (s : Script) → IsScript s → HasItsTypes s → boxes_at (scene_value s) ≡ good s.boxes
+unfolding scene_value
+boxes_at_read s i t =
+    start (λ (_ : ⊤) (boxes : List SceneBox). boxes)
+    ⊗ ap (at place.Top) (counted_read box_value 1 MAX_BOXES s.boxes i.some i.most)
+    ⊗ boxes_read 0 [] s.boxes t.boxes i.boxes i.order
+
+commands_at_read : (s : Script) → IsScript s → HasItsTypes s → commands_at (scene_value s) ≡ good s.commands
+unfolding scene_value
+commands_at_read s i t =
+    start (λ (_ : ⊤) (commands : List Command). commands)
+    ⊗ ap (at place.Top) (counted_read command_value 0 MAX_COMMANDS s.commands (omega arith) i.few)
+    ⊗ commands_read 0 s.commands t.commands i.commands
+
+canvas_at_read : (s : Script) → IsScript s → canvas_at (scene_value s) ≡ good s.canvas
+unfolding scene_value
+canvas_at_read s i = ap (at place.Canvas) (canvas_read s.canvas i.canvas)
+
+version_at_read : (s : Script) → version_at (scene_value s) ≡ good (pos 1)
+unfolding scene_value whole_number
+version_at_read s = refl
+
+known_at_read : (s : Script) → known_at (scene_value s) ≡ good tt
+unfolding scene_value
+known_at_read s = refl
+
+pub script_read : CanonicalLaw
+unfolding reading_of
+script_read s i t =
+    start (λ _ _ canvas boxes commands. record { canvas = canvas; boxes = boxes; commands = commands })
+    ⊗ known_at_read s ⊗ version_at_read s ⊗ canvas_at_read s i ⊗ boxes_at_read s i t ⊗ commands_at_read s i t
+
+-- a text with that value is a text of the script
+text_read : (bytes : List ℕ) (s : Script) → IsScript s → HasItsTypes s → Reads bytes (scene_value s)
+    → IsScriptText bytes s
+text_read bytes s i t r = (scene_value s, r, ap faults (script_read s i t), ap value (script_read s i t))
+
+pub text_if_ok : {X E : Type 0} (bytes : X → List ℕ) (s : Script) (r : Result X E) → IsScript s → HasItsTypes s
+    → IfOk r (λ x. Reads (bytes x) (scene_value s)) → IfOk r (λ x. IsScriptText (bytes x) s)
+text_if_ok bytes s (Ok x) i t h = text_read (bytes x) s i t h
+text_if_ok bytes s (Err e) i t h = tt
