@@ -32,9 +32,6 @@ over_known a b c d h k = h ∙ ap (λ z. z ▷ c) k
 pub two_joined : (j2 j f1 f0 l1 l0 w1 w0 : Nested Wrapper Made) → laid_out j2 ≡ laid_out j ▷ laid_out w1 → laid_out j ≡ laid_out f1 ▷ laid_out l1 → f1 ≡ f0 → l1 ≡ l0 → w1 ≡ w0 → laid_out j2 ≡ (laid_out f0 ▷ laid_out l0) ▷ laid_out w0
 two_joined j2 j f1 f0 l1 l0 w1 w0 h k e f g = h ∙ ap (λ z. z ▷ laid_out w1) k ∙ ap (λ z. (laid_out z ▷ laid_out l1) ▷ laid_out w1) e ∙ ap (λ z. (laid_out f0 ▷ laid_out z) ▷ laid_out w1) f ∙ ap (λ z. (laid_out f0 ▷ laid_out l0) ▷ laid_out z) g
 
-pub with_below : (a b : Bands Made) (f : Standing → Bands Made) (s t : Standing) → a ≡ b ⊕ f s → s ≡ t → a ≡ b ⊕ f t
-with_below a b f s t h k = h ∙ ap (λ z. b ⊕ f z) k
-
 module _ (wants : Rectangle → Bool) (n : ℕ) (s : Standing) (b : BoxData) (inner : Bands Made) where
   abbrev Bk : Entries Wrapper Made
   Bk = gives wants n s b Back

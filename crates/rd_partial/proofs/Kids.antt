@@ -1,6 +1,6 @@
 -- One sibling more.
 use Rattle.std.proofs.Common.{◌≡◌, refl, ap, ◌∙◌, sym, subst, Bool, true, false, cond, append_assoc, ℕ, ◌+◌, ◌≤◌, arith}
-use Rattle.std.specs.Prelude.{Option, Some, IsTrue}
+use Rattle.std.specs.Prelude.{Option, Some, None, IsTrue}
 use Rattle.std.proofs.lemmas.List.{append-nil}
 use Rattle.rd_geom.specs.Plane.{Rectangle, IsWithin}
 use Rattle.rd_keys.specs.Keys.{BoxKey, same_key}
@@ -54,6 +54,13 @@ module _ (wants : Rectangle → Bool) (n : ℕ) (s : Standing) where
   pub cost_empty : cost wants n s empty ≡ 0
   unfolding cost
   cost_empty = refl
+
+  -- where there are none, nothing is dropped
+  pub passes_none : (o : Option BoxKey) (f : BoxForest) (a : Bands Made) → o ≡ None → a ≡ a ⊕ passes wants n s (from_some same_key o f)
+  passes_none o f a e = sym (ap (λ z. a ⊕ passes wants n s (from_some same_key z f)) e ∙ ap (λ z. a ⊕ z) passes_empty ∙ plus_none a)
+
+  pub cost_none_below : (o : Option BoxKey) (f : BoxForest) (made : ℕ) → o ≡ None → made ≡ made + cost wants n s (from_some same_key o f)
+  cost_none_below o f made e = let h : cost wants n s (from_some same_key o f) ≡ 0 = ap (λ z. cost wants n s (from_some same_key z f)) e ∙ cost_empty in omega (arith, h)
 
   module _ (f : BoxForest) (k : BoxKey) (here : BoxData) (c nx : Option BoxKey) (hull : Rectangle) (w : Onward f k here c nx hull) where
     pub passes_more : passes wants n s (starting_at same_key k f) ≡ boxed wants n s here (passes wants n (below s here) (from_some same_key c f)) ⊕ passes wants n s (from_some same_key nx f)
@@ -156,6 +163,10 @@ live_child f k here c nx hull w = w.child_first ∙ ap head (sym w.child)
 
 pub live_next : (f : BoxForest) (k : BoxKey) (here : BoxData) (c nx : Option BoxKey) (hull : Rectangle) → Onward f k here c nx hull → nx ≡ head (from_some same_key nx f)
 live_next f k here c nx hull w = w.next_first ∙ ap head (sym w.next)
+
+-- what a look tells of a box it tells of what is made of it
+pub onward_as : {f : BoxForest} {k : BoxKey} {here b : BoxData} {c nx : Option BoxKey} {hull : Rectangle} → b ≡ here → Onward f k here c nx hull → Onward f k b c nx hull
+onward_as e w = record { item = w.item; below = w.below; rest = w.rest; is = w.is; data_is = e ∙ w.data_is; child = w.child; next = w.next; child_first = w.child_first; next_first = w.next_first; hull_is = w.hull_is }
 
 -- so a look at it finds it
 pub dead_end : (f : BoxForest) (k : BoxKey) (o : Option BoxKey) → o ≡ Some k → o ≡ head (from_some same_key o f) → starting_at same_key k f ≡ empty → ⊥

@@ -10,7 +10,7 @@ use Rattle.rd_tree.specs.Hulls.{any_touched}
 use Rattle.rd_tree.specs.Shown.{Shown, shown}
 use Rattle.rd_stack.specs.Fresh.{box_data}
 use Rattle.rd_partial.specs.Internal.Counting.{looks_below}
-use Rattle.rd_partial.specs.Internal.Looked.{Onward}
+use Rattle.rd_partial.specs.Internal.Looked.{Onward, here_of}
 use Rattle.rd_partial.specs.Internal.Standing.{Standing, below}
 use Rattle.rd_partial.specs.Internal.Touched.{Joins, HasMarks, box_shows, touched_shows, own_shows, shows_below, leads_to_touched, looks_under}
 use Rattle.rd_partial.specs.declared.look.Looked.{Looked}
@@ -43,21 +43,31 @@ pub record Added (s : Standing) (first next : BoxForest) (before now : Region) (
   pub then : (c : Region) → Joins (touched_shows s next) now c → Joins (touched_shows s first) before c
   pub looks_is : looks + looks_below leads_to_touched next ≤ looks0 + looks_below leads_to_touched first
 
-module _ (s : Standing) (t : Document) (k : BoxKey) (v : Looked) (w : Onward t.boxes k v.here v.first_child v.next_sibling v.hull) (m : HasMarks (starting_at same_key k t.boxes) v.touched v.touched_below) where
+module _ (s : Standing) (t : Document) (k : BoxKey) (v : Looked) (w : Onward t.boxes k (here_of v) v.first_child v.next_sibling v.hull) (m : HasMarks (starting_at same_key k t.boxes) v.touched v.touched_below) where
   marks : (v.touched ≡ w.item.touched) × (v.touched_below ≡ any_touched w.below)
   marks = subst (λ z. HasMarks z v.touched v.touched_below) w.is m
 
   below_is : (x y : ℤ) → shows_below s v t x y ≡ touched_shows (below s (box_data k w.item)) w.below x y
-  below_is x y = rw (w.data_is, w.child, marks.1) (by (any_touched w.below) refl)
+  below_is x y =
+      ap (λ b. v.touched_below && touched_shows (below s b) (from_some same_key v.first_child t.boxes) x y) w.data_is
+      ∙ ap (λ z. v.touched_below && touched_shows (below s (box_data k w.item)) z x y) w.child
+      ∙ ap (λ z. z && touched_shows (below s (box_data k w.item)) w.below x y) marks.1
+      ∙ by (any_touched w.below) refl
     where
       by : (b : Bool) → any_touched w.below ≡ b → (b && touched_shows (below s (box_data k w.item)) w.below x y) ≡ touched_shows (below s (box_data k w.item)) w.below x y
       by true e = refl
       by false e = sym (none_shows (below s (box_data k w.item)) w.below x y e)
 
+  own_is : (x y : ℤ) → own_shows s v x y ≡ (w.item.touched && box_shows s (box_data k w.item) x y)
+  own_is x y = ap (λ b. v.touched && box_shows s b x y) w.data_is ∙ ap (λ z. z && box_shows s (box_data k w.item) x y) marks.0
+
   here_shows : (x y : ℤ) → ((own_shows s v x y || shows_below s v t x y) || touched_shows s (from_some same_key v.next_sibling t.boxes) x y) ≡ touched_shows s (starting_at same_key k t.boxes) x y
   here_shows x y =
       three (own_shows s v x y) (shows_below s v t x y) (touched_shows s (from_some same_key v.next_sibling t.boxes) x y)
-      ∙ rw (below_is x y, marks.0, w.data_is, w.next, w.is) refl
+      ∙ ap (λ z. z || (shows_below s v t x y || touched_shows s (from_some same_key v.next_sibling t.boxes) x y)) (own_is x y)
+      ∙ ap (λ z. (w.item.touched && box_shows s (box_data k w.item) x y) || (z || touched_shows s (from_some same_key v.next_sibling t.boxes) x y)) (below_is x y)
+      ∙ ap (λ z. (w.item.touched && box_shows s (box_data k w.item) x y) || (touched_shows (below s (box_data k w.item)) w.below x y || touched_shows s z x y)) w.next
+      ∙ ap (λ z. touched_shows s z x y) (sym w.is)
 
   looks_more : looks_below leads_to_touched (starting_at same_key k t.boxes) ≡ 1 + looks_under v t + looks_below leads_to_touched (from_some same_key v.next_sibling t.boxes)
   looks_more = rw (w.is, marks.1, w.child, w.next) refl

@@ -7,7 +7,7 @@ ghost use Rattle.rd_partial.specs.Internal.Picking.{made_if};
 ghost use Rattle.rd_partial.specs.Internal.Given.{gives};
 ghost use Rattle.rd_partial.specs.Internal.Counting.{leaves_in};
 
-use crate::standing::Standing;
+use crate::standing::{Standing, has_part};
 use crate::wanted::Wanted;
 use rd_geom::{NoMemory, Steps};
 use rd_item::{Item, Leaf};
@@ -50,9 +50,9 @@ fn show<A: Ledger, W: Wanted>(
     out.push_item(item)
 }
 
-/// Puts the item of a part of a box on top, where it has that part, shows it and it is wanted.
+/// Puts the item of a part of a box on top, where it shows that part and it is wanted.
 #[tactic(auto, using(crate::proofs::Joining::joins))]
-pub fn give<A: Ledger, W: Wanted>(
+pub fn give_leaf<A: Ledger, W: Wanted>(
     out: &mut Pieces<A>,
     wanted: &W,
     number: u64,
@@ -69,5 +69,29 @@ pub fn give<A: Ledger, W: Wanted>(
     match s.leaf(b, part) {
         Some(leaf) => show(out, wanted, number, &leaf, made),
         None => Ok(()),
+    }
+}
+
+/// Puts the item of a part of a box on top, where it has that part, shows it and it is wanted.
+#[inline(always)]
+#[tactic(auto, using(crate::proofs::Joining::joins))]
+pub fn give<A: Ledger, W: Wanted>(
+    out: &mut Pieces<A>,
+    wanted: &W,
+    number: u64,
+    s: &Standing,
+    b: &BoxData,
+    part: Part,
+    made: &mut Steps<A>,
+) -> Result<(), NoMemory>
+    ensures list { OnOk result (laid_out out.new ≡ laid_out out.old
+        ▷ gives (W.wants wanted.now) number s.now b.now part) }
+    ensures made { OnOk result (made.new ≡ made.old + leaves_in (gives (W.wants wanted.now) number s.now b.now part)) }
+    ensures most { made.new ≤ made.old + leaves_in (gives (W.wants wanted.now) number s.now b.now part) }
+{
+    if has_part(b, part) {
+        give_leaf(out, wanted, number, s, b, part, made)
+    } else {
+        Ok(())
     }
 }

@@ -11,7 +11,7 @@ ghost use Rattle.rd_partial.specs.Internal.Given.{gives, gives_back_border, back
 ghost use Rattle.rd_partial.specs.Internal.Work.{own_cost};
 
 use crate::bands::{Layers, Local, Stacked};
-use crate::give::give;
+use crate::give::{give, give_leaf};
 use crate::standing::Standing;
 use crate::wanted::Wanted;
 use rd_geom::{NoMemory, Steps};
@@ -37,7 +37,7 @@ pub fn back_border<A: Ledger, W: Wanted>(
     ensures made { OnOk result (made.new ≡ made.old + back_border_cost (W.wants wanted.now) number s.now b.now) }
     ensures most { made.new ≤ made.old + back_border_cost (W.wants wanted.now) number s.now b.now }
 {
-    give(out, wanted, number, s, b, Part::Back, made)?;
+    give_leaf(out, wanted, number, s, b, Part::Back, made)?;
     give(out, wanted, number, s, b, Part::Border, made)
 }
 

@@ -4,15 +4,17 @@ ghost use Rattle.rd_geom.specs.Areas.{in_area};
 ghost use Rattle.rd_list.specs.EntryNames.{kept_leaves};
 ghost use Rattle.rd_list.specs.KeptView.{kept_entries};
 ghost use Rattle.rd_stack.specs.Internal.Looks.{IsFirst};
+ghost use Rattle.rd_stack.specs.Paths.{OutlineFits};
 ghost use Rattle.rd_partial.specs.Looks.{holds_touched, looks_bound};
 ghost use Rattle.rd_partial.specs.Invalid.{any_shows, is_invalid};
+ghost use Rattle.rd_partial.specs.Internal.Standing.{leaf_in};
+ghost use Rattle.rd_partial.specs.Internal.Looked.{here_of};
 ghost use Rattle.rd_partial.specs.Internal.Touched.{Joins, leaf_shows, box_shows, own_shows, shows_below, shows_from, touched_looks, looks_under};
 
 use crate::look::{Looked, look_at};
 use crate::standing::Standing;
 use rd_area::Area;
 use rd_geom::{NoMemory, Steps};
-use rd_item::Leaf;
 use rd_keys::{BoxKey, Part};
 use rd_list::{Entry, ListView};
 use rd_stack::BoxData;
@@ -20,10 +22,11 @@ use rd_tree::Tree;
 use std::alloc::Global;
 use std::sync::ledger::Ledger;
 
-fn add_leaf(area: &mut Area, leaf: Option<Leaf>) -> Result<(), NoMemory>
-    ensures { OnOk result (Joins (leaf_shows leaf) area.old area.new) }
+/// Adds what may be seen of a part of a box.
+fn add_part(area: &mut Area, s: &Standing, b: &BoxData, part: Part) -> Result<(), NoMemory>
+    ensures { OnOk result (Joins (leaf_shows (leaf_in s.now b.now part)) area.old area.new) }
 {
-    match leaf {
+    match s.leaf(b, part) {
         Some(leaf) => {
             area.add(leaf.visible)?;
             Ok(())
@@ -36,20 +39,21 @@ fn add_leaf(area: &mut Area, leaf: Option<Leaf>) -> Result<(), NoMemory>
 fn add_box(area: &mut Area, s: &Standing, b: &BoxData) -> Result<(), NoMemory>
     ensures { OnOk result (Joins (box_shows s.now b.now) area.old area.new) }
 {
-    add_leaf(area, s.leaf(b, Part::Back))?;
-    add_leaf(area, s.leaf(b, Part::Border))?;
-    add_leaf(area, s.leaf(b, Part::Content))?;
-    add_leaf(area, s.leaf(b, Part::Outline))?;
+    add_part(area, s, b, Part::Back)?;
+    add_part(area, s, b, Part::Border)?;
+    add_part(area, s, b, Part::Content)?;
+    add_part(area, s, b, Part::Outline)?;
     Ok(())
 }
 
 /// Adds what may be seen of a box, if it is touched.
 #[inline(always)]
-fn add_if_touched(area: &mut Area, s: &Standing, looked: &Looked) -> Result<(), NoMemory>
+fn add_if_touched(area: &mut Area, s: &Standing, looked: &Looked<'_>) -> Result<(), NoMemory>
+    requires fits { OutlineFits (here_of looked.now) }
     ensures { OnOk result (Joins (own_shows s.now looked.now) area.old area.new) }
 {
     if looked.touched {
-        add_box(area, s, &looked.here)
+        add_box(area, s, &looked.here())
     } else {
         Ok(())
     }
@@ -62,10 +66,11 @@ fn add_below<B: Ledger>(
     tree: &Tree<B>,
     area: &mut Area,
     s: &Standing,
-    looked: &Looked,
+    looked: &Looked<'_>,
     looks: &mut Steps<B>,
 ) -> Result<(), NoMemory>
     requires live { IsFirst looked.now.first_child tree.now }
+    requires fits { OutlineFits (here_of looked.now) }
     ensures area { OnOk result (Joins (shows_below s.now looked.now tree.now) area.old area.new) }
     ensures looks { looks.new ≤ looks.old + looks_under looked.now tree.now }
 {
@@ -73,7 +78,7 @@ fn add_below<B: Ledger>(
         add_siblings(
             tree,
             area,
-            &s.below(&looked.here),
+            &s.below(&looked.here()),
             looked.first_child,
             looks,
         )

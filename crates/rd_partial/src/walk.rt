@@ -12,6 +12,7 @@ ghost use Rattle.rd_stack.specs.Internal.Looks.{IsFirst};
 ghost use Rattle.rd_partial.specs.Numbered.{numbered};
 ghost use Rattle.rd_partial.specs.Internal.Bands.{◌⊕◌};
 ghost use Rattle.rd_partial.specs.Internal.Pass as pass;
+ghost use Rattle.rd_partial.specs.Internal.Standing as standing;
 ghost use Rattle.rd_partial.specs.Internal.Held.{held};
 ghost use Rattle.rd_partial.specs.Internal.Given.{gives, gives_back_border};
 ghost use Rattle.rd_partial.specs.Internal.Counting.{leaves_in, root_visits};
@@ -19,7 +20,7 @@ ghost use Rattle.rd_partial.specs.Internal.Work.{layer_bands, layers_of, held_la
 
 use crate::bands::{Layers, Local, Stacked};
 use crate::give::give;
-use crate::look::{Looked, look_at};
+use crate::look::look_at;
 use crate::order::{Begun, as_group, back_border, begin, finish};
 use crate::standing::Standing;
 use crate::wanted::Wanted;
@@ -80,13 +81,13 @@ fn context<A: Ledger, B: Ledger, W: Wanted>(
         zeros: Pieces::empty(alloc),
         positives: Vec::new(alloc),
     };
-    let inner = s.below(b);
-    children(
+    those_below(
         alloc,
         tree,
         wanted,
         number,
-        &inner,
+        s,
+        b,
         first,
         &mut local,
         &mut layers,
@@ -133,9 +134,8 @@ fn aside<A: Ledger, B: Ledger, W: Wanted>(
         contents: Pieces::empty(alloc),
         outlines,
     };
-    let inner = s.below(b);
-    children(
-        alloc, tree, wanted, number, &inner, first, &mut local, layers, made, looks,
+    those_below(
+        alloc, tree, wanted, number, s, b, first, &mut local, layers, made, looks,
     )?;
     let none = Layers {
         negatives: Vec::new(alloc),
@@ -246,9 +246,8 @@ fn inline<A: Ledger, B: Ledger, W: Wanted>(
         Part::Outline,
         made,
     )?;
-    let inner = s.below(b);
-    children(
-        alloc, tree, wanted, number, &inner, first, local, layers, made, looks,
+    those_below(
+        alloc, tree, wanted, number, s, b, first, local, layers, made, looks,
     )?;
     Ok(())
 }
@@ -341,9 +340,8 @@ fn block<A: Ledger, B: Ledger, W: Wanted>(
     ensures looks { looks.new ≤ looks.old + visits_from (W.wants wanted.now) first tree.now }
 {
     let outer = open_block(alloc, wanted, number, s, b, local, made)?;
-    let inner = s.below(b);
-    children(
-        alloc, tree, wanted, number, &inner, first, local, layers, made, looks,
+    those_below(
+        alloc, tree, wanted, number, s, b, first, local, layers, made, looks,
     )?;
     close_block(local, outer)?;
     Ok(())
@@ -539,6 +537,42 @@ fn layer<A: Ledger, B: Ledger, W: Wanted>(
     }
 }
 
+/// Drops those below a box, where there are any.
+#[cycle(build)]
+#[inline(always)]
+fn those_below<A: Ledger, B: Ledger, W: Wanted>(
+    alloc: Global,
+    tree: &Tree<B>,
+    wanted: &W,
+    number: u64,
+    s: &Standing,
+    b: &BoxData,
+    first: Option<BoxKey>,
+    local: &mut Local<A>,
+    layers: &mut Layers<A>,
+    made: &mut Steps<A>,
+    looks: &mut Steps<B>,
+) -> Result<(), NoMemory>
+    requires live { IsFirst first tree.now }
+    ensures list { OnOk result (held local.new layers.new ≡ held local.old layers.old
+        ⊕ passes_below (W.wants wanted.now) number s.now b.now first tree.now) }
+    ensures made { OnOk result (made.new ≡ made.old + siblings_cost
+        (W.wants wanted.now) number (standing.below s.now b.now) first tree.now) }
+    ensures most { made.new ≤ made.old + siblings_cost
+        (W.wants wanted.now) number (standing.below s.now b.now) first tree.now }
+    ensures looks { looks.new ≤ looks.old + visits_from (W.wants wanted.now) first tree.now }
+{
+    match first {
+        Some(_) => {
+            let inner = s.below(b);
+            children(
+                alloc, tree, wanted, number, &inner, first, local, layers, made, looks,
+            )
+        }
+        None => Ok(()),
+    }
+}
+
 /// Drops some siblings and those below them; those of which nothing is wanted are looked at, and no box below them is.
 #[cycle(build)]
 fn children<A: Ledger, B: Ledger, W: Wanted>(
@@ -563,17 +597,12 @@ fn children<A: Ledger, B: Ledger, W: Wanted>(
 {
     let mut next = first;
     while let Some(key) = next {
-        let Looked {
-            here,
-            first_child,
-            next_sibling,
-            hull,
-            ..
-        } = match look_at(tree, key, looks) {
+        let looked = match look_at(tree, key, looks) {
             Some(looked) => looked,
             None => break,
         };
-        if wanted.meets(hull) {
+        if wanted.meets(looked.hull) {
+            let here = looked.here();
             one(
                 alloc,
                 tree,
@@ -581,14 +610,14 @@ fn children<A: Ledger, B: Ledger, W: Wanted>(
                 number,
                 s,
                 &here,
-                first_child,
+                looked.first_child,
                 local,
                 layers,
                 made,
                 looks,
             )?;
         }
-        next = next_sibling;
+        next = looked.next_sibling;
     }
     Ok(())
 }
@@ -611,14 +640,11 @@ pub fn build_wanted<A: Ledger, B: Ledger, W: Wanted>(
     ensures apart { IsApart same_key tree.now.boxes }
 {
     let s = Standing::at_root(tree.canvas());
-    let Looked {
-        here,
-        first_child,
-        ..
-    } = match look_at(tree, tree.root(), looks) {
+    let looked = match look_at(tree, tree.root(), looks) {
         Some(looked) => looked,
         None => return Ok(NewList::empty(alloc)),
     };
+    let here = looked.here();
     let order = context(
         alloc,
         tree,
@@ -626,7 +652,7 @@ pub fn build_wanted<A: Ledger, B: Ledger, W: Wanted>(
         number,
         &s,
         &here,
-        first_child,
+        looked.first_child,
         made,
         looks,
     )?;

@@ -8,6 +8,11 @@ use Rattle.rd_tree.specs.Document.{BoxForest}
 use Rattle.rd_stack.specs.Paths.{BoxData}
 use Rattle.rd_stack.specs.Fresh.{box_data}
 use Rattle.rd_partial.specs.Looks.{hull_at}
+use Rattle.rd_partial.specs.declared.look.Looked.{Looked}
+
+-- the box that a look shows
+abbrev pub here_of : Looked → BoxData
+here_of v = record { key = v.key; rect = v.rect; style = v.style.now }
 
 -- The boxes from k on begin with this box; then come those from its first child on, and those from its next sibling on.
 pub record Onward (f : BoxForest) (k : BoxKey) (here : BoxData) (first_child next_sibling : Option BoxKey) (hull : Rectangle) : Type 0 where

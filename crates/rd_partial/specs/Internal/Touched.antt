@@ -17,6 +17,7 @@ use Rattle.rd_partial.specs.Internal.Counting.{looks_below}
 use Rattle.rd_partial.specs.Internal.Standing.{Standing, leaf_in}
 use Rattle.rd_partial.specs.Internal.Standing as standing
 use Rattle.rd_partial.specs.declared.look.Looked.{Looked}
+use Rattle.rd_partial.specs.Internal.Looked.{here_of}
 
 -- the new area is the old one with the pixels of its canvas that pass a test
 pub record Joins (shows : ℤ → ℤ → Bool) (old new : Region) : Type 0 where
@@ -52,11 +53,11 @@ leads_to_touched d below = any_touched below
 
 -- what a box that was looked at shows, if it is touched
 abbrev pub own_shows : Standing → Looked → ℤ → ℤ → Bool
-own_shows s v x y = v.touched && box_shows s v.here x y
+own_shows s v x y = v.touched && box_shows s (here_of v) x y
 
 -- what the touched boxes below it show
 abbrev pub shows_below : Standing → Looked → Document → ℤ → ℤ → Bool
-shows_below s v t x y = v.touched_below && touched_shows (standing.below s v.here) (from_some same_key v.first_child t.boxes) x y
+shows_below s v t x y = v.touched_below && touched_shows (standing.below s (here_of v)) (from_some same_key v.first_child t.boxes) x y
 
 -- what the touched ones of some siblings show, and those below them, from one on
 abbrev pub shows_from : Standing → Option BoxKey → Document → ℤ → ℤ → Bool

@@ -1,10 +1,11 @@
+use Rattle.std.proofs.Common.{refl}
 use Rattle.rd_tree.specs.Shown.{told}
 use Rattle.rd_stack.proofs.Walk.Going as below
 use Rattle.rd_partial.proofs.Going as going
 use Rattle.rd_partial.proofs.look.look_at.Goals as goal
 
-pub new-requires : goal.new-requires
-new-requires g c = below.placed c.args.tree.now.root c.args.tree.now.boxes c.args.key (told c.in-Some.view) c.in-Some.ensures.apart c.in-Some.ensures.limits c.in-Some.ensures.seen
+pub returns-in-Some-clause-fits : goal.returns-in-Some-clause-fits
+returns-in-Some-clause-fits g c = below.placed c.args.tree.now.root c.args.tree.now.boxes c.args.key (told c.in-Some.view) c.in-Some.ensures.apart c.in-Some.ensures.limits c.in-Some.ensures.seen
 
 pub returns-in-Some-clause-told : goal.returns-in-Some-clause-told
-returns-in-Some-clause-told g c = going.onward c.args.tree.now.root c.args.tree.now.boxes c.args.key (told c.in-Some.view) _ c.in-Some.ensures.apart c.in-Some.ensures.seen c.new.ensures
+returns-in-Some-clause-told g c = going.onward c.args.tree.now.root c.args.tree.now.boxes c.args.key (told c.in-Some.view) _ c.in-Some.ensures.apart c.in-Some.ensures.seen refl

@@ -1,5 +1,5 @@
-use Rattle.std.proofs.Common.{refl, ◌∙◌, sym, ap, ℕ, Bool}
-use Rattle.std.specs.Prelude.{Option}
+use Rattle.std.proofs.Common.{◌≡◌, refl, ◌∙◌, sym, ap, subst, ℕ, Bool}
+use Rattle.std.specs.Prelude.{Option, OnOk}
 use Rattle.rd_geom.specs.Plane.{Rectangle}
 use Rattle.rd_keys.specs.Keys.{BoxKey, same_key}
 use Rattle.rd_keys.specs.declared.entry.Part.TheVariants.{Back, Border, Content}
@@ -10,14 +10,15 @@ use Rattle.rd_tree.specs.Document.{BoxForest}
 use Rattle.rd_stack.specs.Paths.{BoxData}
 use Rattle.rd_list.specs.Nested.{laid_out}
 use Rattle.rd_partial.specs.Internal.Standing.{Standing}
-use Rattle.rd_partial.specs.Internal.Bands.{Bands}
+use Rattle.rd_partial.specs.Internal.Bands.{Bands, ◌⊕◌}
 use Rattle.rd_partial.specs.Internal.Standing as standing
 use Rattle.rd_partial.specs.Internal.Pass.{level_in}
 use Rattle.rd_partial.specs.Internal.Given.{gives}
 use Rattle.rd_partial.specs.Internal.Held.{held}
+use Rattle.rd_partial.specs.Internal.Looked.{here_of}
 use Rattle.rd_partial.specs.Internal.Work.{passes}
-use Rattle.rd_partial.proofs.Arms.{over_known, two_joined, with_below, context_order, aside_order, float_arm, atom_arm, inline_arm, block_arm, auto_arm, real_arm}
-use Rattle.rd_partial.proofs.Kids.{kept_one, kept_none, kept_end, kept_most, live_next, dead_end}
+use Rattle.rd_partial.proofs.Arms.{over_known, two_joined, context_order, aside_order, float_arm, atom_arm, inline_arm, block_arm, auto_arm, real_arm}
+use Rattle.rd_partial.proofs.Kids.{kept_one, kept_none, kept_end, kept_most, live_next, dead_end, onward_as, passes_none, cost_none_below}
 use Rattle.rd_partial.proofs.Filled.{filled}
 use Rattle.rd_partial.proofs.walk.+build.Goals as goal
 
@@ -46,16 +47,16 @@ atom-returns-clause-list g t c =
 
 pub inline-returns-clause-list : goal.inline-returns-clause-list
 inline-returns-clause-list g t c =
-    inline_arm (g.W.Wanted.wants c.args.wanted.now) c.args.number c.args.s.now c.args.b.now (inner (g.W.Wanted.wants c.args.wanted.now) c.args.number c.args.s.now c.args.b.now c.args.first c.args.tree.now.boxes) c.args.local.now c.args.layers.now c.give.new.out c.give-2.new.out (held c.children.new.local c.children.new.layers) c.requires.class
-    (with_below (held c.children.new.local c.children.new.layers) (held (record c.args.local.now { line = c.give.new.out; outlines = c.give-2.new.out }) c.args.layers.now) (λ z. passes (g.W.Wanted.wants c.args.wanted.now) c.args.number z (from_some same_key c.args.first c.args.tree.now.boxes)) c.below-inner.result (standing.below c.args.s.now c.args.b.now) c.in_ok-children.ensures.list c.below-inner.ensures)
+    inline_arm (g.W.Wanted.wants c.args.wanted.now) c.args.number c.args.s.now c.args.b.now (inner (g.W.Wanted.wants c.args.wanted.now) c.args.number c.args.s.now c.args.b.now c.args.first c.args.tree.now.boxes) c.args.local.now c.args.layers.now c.give.new.out c.give-2.new.out (held c.those_below.new.local c.those_below.new.layers) c.requires.class
+    c.in_ok-those_below.ensures.list
     (over_known (laid_out c.give.new.out) (laid_out c.back_border.new.out) (gives (g.W.Wanted.wants c.args.wanted.now) c.args.number c.args.s.now c.args.b.now Content) (laid_out c.args.local.now.line ▷ ((gives (g.W.Wanted.wants c.args.wanted.now) c.args.number c.args.s.now c.args.b.now Back) ▷ (gives (g.W.Wanted.wants c.args.wanted.now) c.args.number c.args.s.now c.args.b.now Border))) c.in_ok-give.ensures.list c.in_ok-back_border.ensures.list)
     c.in_ok-give-2.ensures.list
 
 pub block-returns-clause-list : goal.block-returns-clause-list
 block-returns-clause-list g t c =
-    block_arm (g.W.Wanted.wants c.args.wanted.now) c.args.number c.args.s.now c.args.b.now (inner (g.W.Wanted.wants c.args.wanted.now) c.args.number c.args.s.now c.args.b.now c.args.first c.args.tree.now.boxes) c.args.local.now c.args.layers.now c.open_block.new.local c.children.new.local c.close_block.new.local c.children.new.layers c.in_ok-outer.outer.line c.in_ok-outer.outer.contents c.requires.class c.in_ok-outer.ensures.outer.0 c.in_ok-outer.ensures.outer.1
+    block_arm (g.W.Wanted.wants c.args.wanted.now) c.args.number c.args.s.now c.args.b.now (inner (g.W.Wanted.wants c.args.wanted.now) c.args.number c.args.s.now c.args.b.now c.args.first c.args.tree.now.boxes) c.args.local.now c.args.layers.now c.open_block.new.local c.those_below.new.local c.close_block.new.local c.those_below.new.layers c.in_ok-outer.outer.line c.in_ok-outer.outer.contents c.requires.class c.in_ok-outer.ensures.outer.0 c.in_ok-outer.ensures.outer.1
     c.in_ok-outer.ensures.floats c.in_ok-outer.ensures.backgrounds c.in_ok-outer.ensures.line c.in_ok-outer.ensures.contents c.in_ok-outer.ensures.outlines
-    (with_below (held c.children.new.local c.children.new.layers) (held c.open_block.new.local c.args.layers.now) (λ z. passes (g.W.Wanted.wants c.args.wanted.now) c.args.number z (from_some same_key c.args.first c.args.tree.now.boxes)) c.below-inner.result (standing.below c.args.s.now c.args.b.now) c.in_ok-children.ensures.list c.below-inner.ensures)
+    c.in_ok-those_below.ensures.list
     c.in_ok-close_block.ensures.backgrounds c.in_ok-close_block.ensures.floats c.in_ok-close_block.ensures.line c.in_ok-close_block.ensures.contents c.in_ok-close_block.ensures.outlines
 
 pub auto_layer-returns-clause-list : goal.auto_layer-returns-clause-list
@@ -74,27 +75,27 @@ real_layer-returns-clause-list g t c =
 
 pub context-returns-clause-list : goal.context-returns-clause-list
 context-returns-clause-list g t c =
-    c.in_ok-order.ensures ∙ context_order (g.W.Wanted.wants c.args.wanted.now) c.args.number c.args.s.now c.args.b.now (inner (g.W.Wanted.wants c.args.wanted.now) c.args.number c.args.s.now c.args.b.now c.args.first c.args.tree.now.boxes) (laid_out c.in_ok-out.field-0.out) (held {A = g.row.A.Denot} (record { backgrounds = c.empty.result; floats = c.empty-2.result; line = c.in_ok-out.field-0.line; contents = c.empty-3.result; outlines = c.in_ok-out.field-0.outlines }) (record { negatives = c.new.result; zeros = c.empty-4.result; positives = c.new-2.result })) (held c.children.new.local c.children.new.layers) c.requires.real c.in_ok-out.ensures.out
+    c.in_ok-order.ensures ∙ context_order (g.W.Wanted.wants c.args.wanted.now) c.args.number c.args.s.now c.args.b.now (inner (g.W.Wanted.wants c.args.wanted.now) c.args.number c.args.s.now c.args.b.now c.args.first c.args.tree.now.boxes) (laid_out c.in_ok-out.field-0.out) (held {A = g.row.A.Denot} (record { backgrounds = c.empty.result; floats = c.empty-2.result; line = c.in_ok-out.field-0.line; contents = c.empty-3.result; outlines = c.in_ok-out.field-0.outlines }) (record { negatives = c.new.result; zeros = c.empty-4.result; positives = c.new-2.result })) (held c.those_below.new.local c.those_below.new.layers) c.requires.real c.in_ok-out.ensures.out
     (rw (c.empty.ensures, c.empty-2.ensures, c.empty-3.ensures, c.new.ensures.items, c.empty-4.ensures, c.new-2.ensures.items, c.in_ok-out.ensures.line, c.in_ok-out.ensures.outlines) refl)
-    (with_below (held c.children.new.local c.children.new.layers) (held {A = g.row.A.Denot} (record { backgrounds = c.empty.result; floats = c.empty-2.result; line = c.in_ok-out.field-0.line; contents = c.empty-3.result; outlines = c.in_ok-out.field-0.outlines }) (record { negatives = c.new.result; zeros = c.empty-4.result; positives = c.new-2.result })) (λ z. passes (g.W.Wanted.wants c.args.wanted.now) c.args.number z (from_some same_key c.args.first c.args.tree.now.boxes)) c.below-inner.result (standing.below c.args.s.now c.args.b.now) c.in_ok-children.ensures.list c.below-inner.ensures)
+    c.in_ok-those_below.ensures.list
 
 pub aside-returns-clause-list : goal.aside-returns-clause-list
 aside-returns-clause-list g t c =
-    c.in_ok-order.ensures ∙ rw (c.new.ensures.items, c.empty-4.ensures, c.new-2.ensures.items) (aside_order (g.W.Wanted.wants c.args.wanted.now) c.args.number c.args.s.now c.args.b.now (inner (g.W.Wanted.wants c.args.wanted.now) c.args.number c.args.s.now c.args.b.now c.args.first c.args.tree.now.boxes) (laid_out c.in_ok-out.field-0.out) (held {A = g.row.A.Denot} (record { backgrounds = c.empty.result; floats = c.empty-2.result; line = c.in_ok-out.field-0.line; contents = c.empty-3.result; outlines = c.in_ok-out.field-0.outlines }) c.args.layers.now) (held c.children.new.local c.children.new.layers) c.requires.unreal c.in_ok-out.ensures.out
+    c.in_ok-order.ensures ∙ rw (c.new.ensures.items, c.empty-4.ensures, c.new-2.ensures.items) (aside_order (g.W.Wanted.wants c.args.wanted.now) c.args.number c.args.s.now c.args.b.now (inner (g.W.Wanted.wants c.args.wanted.now) c.args.number c.args.s.now c.args.b.now c.args.first c.args.tree.now.boxes) (laid_out c.in_ok-out.field-0.out) (held {A = g.row.A.Denot} (record { backgrounds = c.empty.result; floats = c.empty-2.result; line = c.in_ok-out.field-0.line; contents = c.empty-3.result; outlines = c.in_ok-out.field-0.outlines }) c.args.layers.now) (held c.those_below.new.local c.those_below.new.layers) c.requires.unreal c.in_ok-out.ensures.out
     (rw (c.empty.ensures, c.empty-2.ensures, c.empty-3.ensures, c.in_ok-out.ensures.line, c.in_ok-out.ensures.outlines) refl)
-    (with_below (held c.children.new.local c.children.new.layers) (held {A = g.row.A.Denot} (record { backgrounds = c.empty.result; floats = c.empty-2.result; line = c.in_ok-out.field-0.line; contents = c.empty-3.result; outlines = c.in_ok-out.field-0.outlines }) c.args.layers.now) (λ z. passes (g.W.Wanted.wants c.args.wanted.now) c.args.number z (from_some same_key c.args.first c.args.tree.now.boxes)) c.below-inner.result (standing.below c.args.s.now c.args.b.now) c.in_ok-children.ensures.list c.below-inner.ensures))
+    c.in_ok-those_below.ensures.list)
 
 pub children-loop-next-preserved-in_ok-one : goal.children-loop-next-preserved-in_ok-one
 children-loop-next-preserved-in_ok-one g t c =
-    (live_next c.args.tree.now.boxes c.in-Some.key c.in-Some-look_at.looked.here c.in-Some-look_at.looked.first_child c.in-Some-look_at.looked.next_sibling c.in-Some-look_at.looked.hull c.in-Some-look_at.ensures.told, kept_one (g.W.Wanted.wants c.args.wanted.now) c.args.number c.args.s.now c.args.tree.now.boxes (from_some same_key c.args.first c.args.tree.now.boxes) c.in-Some.key c.in-Some-look_at.looked.here c.in-Some-look_at.looked.first_child c.in-Some-look_at.looked.next_sibling c.in-Some-look_at.looked.hull c.in-Some-look_at.ensures.told (held c.args.local.now c.args.layers.now) (held c.loop-next.local c.loop-next.layers) c.args.made.now c.loop-next.made c.args.looks.now c.loop-next.looks c.loop-next.next (held c.one.new.local c.one.new.layers) c.one.new.made c.look_at.new.looks c.one.new.looks c.in-Some.is c.loop-next.invariant.1 (sym c.meets.ensures ∙ c.if-meets.true) c.in_ok-one.ensures.list c.in_ok-one.ensures.made c.look_at.ensures.cost c.one.ensures.looks)
+    (live_next c.args.tree.now.boxes c.in-Some.key (here_of c.in-Some-look_at.looked) c.in-Some-look_at.looked.first_child c.in-Some-look_at.looked.next_sibling c.in-Some-look_at.looked.hull c.in-Some-look_at.ensures.told, kept_one (g.W.Wanted.wants c.args.wanted.now) c.args.number c.args.s.now c.args.tree.now.boxes (from_some same_key c.args.first c.args.tree.now.boxes) c.in-Some.key c.here-here.result c.in-Some-look_at.looked.first_child c.in-Some-look_at.looked.next_sibling c.in-Some-look_at.looked.hull (onward_as c.here-here.ensures c.in-Some-look_at.ensures.told) (held c.args.local.now c.args.layers.now) (held c.loop-next.local c.loop-next.layers) c.args.made.now c.loop-next.made c.args.looks.now c.loop-next.looks c.loop-next.next (held c.one.new.local c.one.new.layers) c.one.new.made c.look_at.new.looks c.one.new.looks c.in-Some.is c.loop-next.invariant.1 (sym c.meets.ensures ∙ c.if-meets.true) c.in_ok-one.ensures.list c.in_ok-one.ensures.made c.look_at.ensures.cost c.one.ensures.looks)
 
 pub children-loop-next-preserved : goal.children-loop-next-preserved
 children-loop-next-preserved g t c =
-    (live_next c.args.tree.now.boxes c.in-Some.key c.in-Some-look_at.looked.here c.in-Some-look_at.looked.first_child c.in-Some-look_at.looked.next_sibling c.in-Some-look_at.looked.hull c.in-Some-look_at.ensures.told, kept_none (g.W.Wanted.wants c.args.wanted.now) c.args.number c.args.s.now c.args.tree.now.boxes (from_some same_key c.args.first c.args.tree.now.boxes) c.in-Some.key c.in-Some-look_at.looked.here c.in-Some-look_at.looked.first_child c.in-Some-look_at.looked.next_sibling c.in-Some-look_at.looked.hull c.in-Some-look_at.ensures.told (held c.args.local.now c.args.layers.now) (held c.loop-next.local c.loop-next.layers) c.args.made.now c.loop-next.made c.args.looks.now c.loop-next.looks c.loop-next.next c.look_at.new.looks c.in-Some.is c.loop-next.invariant.1 (sym c.meets.ensures ∙ c.if-meets.false) (g.met.W.Wanted.grows c.args.wanted.now) c.requires.root c.look_at.ensures.cost)
+    (live_next c.args.tree.now.boxes c.in-Some.key (here_of c.in-Some-look_at.looked) c.in-Some-look_at.looked.first_child c.in-Some-look_at.looked.next_sibling c.in-Some-look_at.looked.hull c.in-Some-look_at.ensures.told, kept_none (g.W.Wanted.wants c.args.wanted.now) c.args.number c.args.s.now c.args.tree.now.boxes (from_some same_key c.args.first c.args.tree.now.boxes) c.in-Some.key (here_of c.in-Some-look_at.looked) c.in-Some-look_at.looked.first_child c.in-Some-look_at.looked.next_sibling c.in-Some-look_at.looked.hull c.in-Some-look_at.ensures.told (held c.args.local.now c.args.layers.now) (held c.loop-next.local c.loop-next.layers) c.args.made.now c.loop-next.made c.args.looks.now c.loop-next.looks c.loop-next.next c.look_at.new.looks c.in-Some.is c.loop-next.invariant.1 (sym c.meets.ensures ∙ c.if-meets.false) (g.met.W.Wanted.grows c.args.wanted.now) c.requires.root c.look_at.ensures.cost)
 
 pub children-returns-in_err-one-clause-most : goal.children-returns-in_err-one-clause-most
 children-returns-in_err-one-clause-most g t c =
-    kept_most (g.W.Wanted.wants c.args.wanted.now) c.args.number c.args.s.now c.args.tree.now.boxes (from_some same_key c.args.first c.args.tree.now.boxes) c.in-Some.key c.in-Some-look_at.looked.here c.in-Some-look_at.looked.first_child c.in-Some-look_at.looked.next_sibling c.in-Some-look_at.looked.hull c.in-Some-look_at.ensures.told (held c.args.local.now c.args.layers.now) (held c.loop-next.local c.loop-next.layers) c.args.made.now c.loop-next.made c.args.looks.now c.loop-next.looks c.loop-next.next c.one.new.made c.in-Some.is c.loop-next.invariant.1 c.one.ensures.most
+    kept_most (g.W.Wanted.wants c.args.wanted.now) c.args.number c.args.s.now c.args.tree.now.boxes (from_some same_key c.args.first c.args.tree.now.boxes) c.in-Some.key c.here-here.result c.in-Some-look_at.looked.first_child c.in-Some-look_at.looked.next_sibling c.in-Some-look_at.looked.hull (onward_as c.here-here.ensures c.in-Some-look_at.ensures.told) (held c.args.local.now c.args.layers.now) (held c.loop-next.local c.loop-next.layers) c.args.made.now c.loop-next.made c.args.looks.now c.loop-next.looks c.loop-next.next c.one.new.made c.in-Some.is c.loop-next.invariant.1 c.one.ensures.most
 
 pub children-returns-in_default-clause-list : goal.children-returns-in_default-clause-list
 children-returns-in_default-clause-list g t c =
@@ -112,3 +113,15 @@ children-returns-in-None-clause-made g t c = absurd (dead_end c.args.tree.now.bo
 
 pub children-returns-in-None-clause-looks : goal.children-returns-in-None-clause-looks
 children-returns-in-None-clause-looks g t c = absurd (dead_end c.args.tree.now.boxes c.in-Some.key c.loop-next.next c.in-Some.is c.loop-next.invariant.0 c.in-None.ensures.told)
+
+pub those_below-returns-in-Some-clause-list : goal.those_below-returns-in-Some-clause-list
+those_below-returns-in-Some-clause-list g t c =
+    subst (λ (z : Standing). OnOk c.children.result (held c.children.new.local c.children.new.layers ≡ held c.args.local.now c.args.layers.now ⊕ passes (g.W.Wanted.wants c.args.wanted.now) c.args.number z (from_some same_key c.args.first c.args.tree.now.boxes))) c.below-inner.ensures c.children.ensures.list
+
+pub those_below-returns-in-None-clause-list : goal.those_below-returns-in-None-clause-list
+those_below-returns-in-None-clause-list g t c =
+    passes_none (g.W.Wanted.wants c.args.wanted.now) c.args.number (standing.below c.args.s.now c.args.b.now) c.args.first c.args.tree.now.boxes (held c.args.local.now c.args.layers.now) c.in-None.is
+
+pub those_below-returns-in-None-clause-made : goal.those_below-returns-in-None-clause-made
+those_below-returns-in-None-clause-made g t c =
+    cost_none_below (g.W.Wanted.wants c.args.wanted.now) c.args.number (standing.below c.args.s.now c.args.b.now) c.args.first c.args.tree.now.boxes c.args.made.now c.in-None.is

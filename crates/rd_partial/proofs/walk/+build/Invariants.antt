@@ -6,34 +6,37 @@ use Rattle.rd_partial.proofs.Kids.{Kept}
 use Rattle.rd_partial.proofs.walk.+build.Given as goal
 
 abbrev pub decreases-context : goal.decreases-context
-decreases-context g l = 6 * size (from_some same_key l.first l.tree.now.boxes) + 1
+decreases-context g l = 6 * size (from_some same_key l.first l.tree.now.boxes) + 2
+
+abbrev pub decreases-those_below : goal.decreases-those_below
+decreases-those_below g l = 6 * size (from_some same_key l.first l.tree.now.boxes) + 1
 
 abbrev pub decreases-aside : goal.decreases-aside
-decreases-aside g l = 6 * size (from_some same_key l.first l.tree.now.boxes) + 1
+decreases-aside g l = 6 * size (from_some same_key l.first l.tree.now.boxes) + 2
 
 abbrev pub decreases-float : goal.decreases-float
-decreases-float g l = 6 * size (from_some same_key l.first l.tree.now.boxes) + 2
+decreases-float g l = 6 * size (from_some same_key l.first l.tree.now.boxes) + 3
 
 abbrev pub decreases-atom : goal.decreases-atom
-decreases-atom g l = 6 * size (from_some same_key l.first l.tree.now.boxes) + 2
+decreases-atom g l = 6 * size (from_some same_key l.first l.tree.now.boxes) + 3
 
 abbrev pub decreases-inline : goal.decreases-inline
-decreases-inline g l = 6 * size (from_some same_key l.first l.tree.now.boxes) + 2
+decreases-inline g l = 6 * size (from_some same_key l.first l.tree.now.boxes) + 3
 
 abbrev pub decreases-block : goal.decreases-block
-decreases-block g l = 6 * size (from_some same_key l.first l.tree.now.boxes) + 2
+decreases-block g l = 6 * size (from_some same_key l.first l.tree.now.boxes) + 3
 
 abbrev pub decreases-real_layer : goal.decreases-real_layer
-decreases-real_layer g l = 6 * size (from_some same_key l.first l.tree.now.boxes) + 2
+decreases-real_layer g l = 6 * size (from_some same_key l.first l.tree.now.boxes) + 3
 
 abbrev pub decreases-auto_layer : goal.decreases-auto_layer
-decreases-auto_layer g l = 6 * size (from_some same_key l.first l.tree.now.boxes) + 2
+decreases-auto_layer g l = 6 * size (from_some same_key l.first l.tree.now.boxes) + 3
 
 abbrev pub decreases-layer : goal.decreases-layer
-decreases-layer g l = 6 * size (from_some same_key l.first l.tree.now.boxes) + 3
+decreases-layer g l = 6 * size (from_some same_key l.first l.tree.now.boxes) + 4
 
 abbrev pub decreases-one : goal.decreases-one
-decreases-one g l = 6 * size (from_some same_key l.first l.tree.now.boxes) + 4
+decreases-one g l = 6 * size (from_some same_key l.first l.tree.now.boxes) + 5
 
 abbrev pub decreases-children : goal.decreases-children
 decreases-children g l = 6 * size (from_some same_key l.first l.tree.now.boxes)
