@@ -1,5 +1,5 @@
 -- A pass over a kept level, entry by entry.
-use Rattle.std.proofs.Common.{◌≡◌, refl, ap, ◌∙◌, sym, subst, ℕ, zero, suc, ◌+◌, ◌<◌, Bool, true, false, not, cond, ◌&&◌, List, [], ◌∷◌, ◌++◌, length, map, take, get_or, arith, inl, inr, Option, Some, None, is_some, append_assoc}
+use Rattle.std.proofs.Common.{◌≡◌, refl, ap, ◌∙◌, sym, subst, ℕ, zero, suc, ◌+◌, ◌<◌, Bool, true, false, not, cond, ◌&&◌, List, [], ◌∷◌, ◌++◌, length, map, take, get_or, arith, inl, inr, Option, Some, None, is_some, append_assoc, append-nil, ◌==◌}
 use Rattle.std.specs.Prelude.{IfSome}
 use Rattle.std.proofs.lemmas.List.{take_more, length-take-le}
 use Rattle.rd_keys.specs.Keys.{BoxKey}
@@ -17,7 +17,9 @@ use Rattle.rd_list.specs.declared.kept.Entry.{Entry}
 use Rattle.rd_list.specs.declared.kept.Entry.TheVariants as kept
 use Rattle.rd_merge.specs.Going.{any_stays, is_untouched}
 use Rattle.rd_merge.specs.Looking.{any_goes, gone_places, inner_places, kept_names}
-use Rattle.rd_merge.specs.Internal.Looks.{gone_at, goes_inside, inner_at, name_of, noted}
+use Rattle.rd_merge.specs.Internal.Looks.{gone_at, goes_inside, inner_at, is_passed, name_of, noted}
+use Rattle.rd_merge.specs.Internal.Sought.{AreChained, mark_of}
+use Rattle.rd_merge.proofs.Chained.{unmarked}
 
 -- what is found entry by entry
 module _ {A B : Type 0} (all : ℕ → List A → List B) (none : (i : ℕ) → all i [] ≡ []) (step : (i : ℕ) (x : A) (xs : List A) → all i (x ∷ xs) ≡ all i (x ∷ []) ++ all (suc i) xs) where
@@ -76,10 +78,10 @@ module _ {A : Type 0} (touched : BoxKey → Bool) where
         elim (any_stays entry_names (is_untouched touched) (kept_leaves g.inner.entries) && not (is_in same_entry names (key.Group g.key)) && any_goes entry_names (is_untouched touched) (kept_leaves g.inner.entries))
         as (λ b. cond b (i ∷ all_inner (suc i) xs) (all_inner (suc i) xs) ≡ cond b (i ∷ []) [] ++ all_inner (suc i) xs) [ true ↦ refl | false ↦ refl ]
 
-    pub inner_next : (sought : List EntryKey) (es : List (Entry A)) (i : ℕ) (x : Entry A) (now then : List ℕ) → sought ≡ names → i < length es → x ≡ get_or es i x
+    pub inner_next : (es : List (Entry A)) (i : ℕ) (x : Entry A) (now then : List ℕ) → i < length es → x ≡ get_or es i x
         → now ≡ inner_places entry_names (is_untouched touched) names 0 (kept_leaves (kept_entries (take i es)))
-        → then ≡ now ++ inner_at touched sought i x → then ≡ inner_places entry_names (is_untouched touched) names 0 (kept_leaves (kept_entries (take (i + 1) es)))
-    inner_next sought es i x now then same l is was new = found_next all_inner (λ i. refl) inner_step es i x now then l is was (new ∙ ap (λ ns. now ++ inner_at touched ns i x) same)
+        → then ≡ now ++ inner_at touched names i x → then ≡ inner_places entry_names (is_untouched touched) names 0 (kept_leaves (kept_entries (take (i + 1) es)))
+    inner_next es i x now then l is was new = found_next all_inner (λ i. refl) inner_step es i x now then l is was new
 
     pub inner_one : (x : Entry A) (i : ℕ) (s n w : Bool) → s ≡ any_stays entry_names (is_untouched touched) (kept_leaves (kept_entries (x ∷ []))) → n ≡ is_some (place_of same_entry names (name_of x))
         → w ≡ (s && not n && goes_inside touched x) → cond w (i ∷ []) [] ≡ inner_at touched names i x
@@ -154,12 +156,36 @@ module _ {A : Type 0} (es : List (Entry A)) (names : List EntryKey) where
   abbrev places_of : ℕ → EntryKey → Option ℕ
   places_of i k = place_of same_entry (take i (kept_names (kept_entries es))) k
 
-  pub named_next : (sought : List EntryKey) (i : ℕ) (x : Entry A) (now then : List (Option ℕ)) → sought ≡ names → spec.Once names → spec.Once (kept_names (kept_entries es)) → i < length es → x ≡ get_or es i x
-      → now ≡ map (λ k. place_of same_entry (take i (kept_names (kept_entries es))) k) names → then ≡ noted (place_of same_entry sought (name_of x)) i now
+  pub named_next : (i : ℕ) (x : Entry A) (now then : List (Option ℕ)) → spec.Once names → spec.Once (kept_names (kept_entries es)) → i < length es → x ≡ get_or es i x
+      → now ≡ map (λ k. place_of same_entry (take i (kept_names (kept_entries es))) k) names → then ≡ noted (place_of same_entry names (name_of x)) i now
       → then ≡ map (λ k. place_of same_entry (take (i + 1) (kept_names (kept_entries es))) k) names
-  named_next sought i x now then same o ok l e was new =
-      new ∙ ap (λ ns. noted (place_of same_entry ns (name_of x)) i now) same ∙ ap (noted (place_of same_entry names (name_of x)) i) was
+  named_next i x now then o ok l e was new =
+      new ∙ ap (noted (place_of same_entry names (name_of x)) i) was
       ∙ noted-map (name_of x) i (places_of i) (places_of (i + 1))
       (λ k. sym (place_next (kept_names (kept_entries es)) i (name_of x) (places_of i) (λ j. cond (same_entry (get_or (kept_names (kept_entries es)) i (name_of x)) j) (Some i) (places_of i j)) ok (subst (λ n. i < n) (sym (names_length es)) l) (λ j. refl) (λ j. refl) k)
       ∙ ap (λ z. cond (same_entry z k) (Some i) (places_of i k)) (name_at es i x (name_of x) l e))
       names (once_of names o)
+
+-- ---- entries of which nothing is noted
+
+both : (a b : Bool) → (a && b) ≡ true → (a ≡ true) × (b ≡ true)
+both true true e = (refl, refl)
+both true false e = absurd (cc)
+both false b e = absurd (cc)
+
+add_none : {B : Type 0} (xs ys : List B) → ys ≡ [] → xs ≡ xs ++ ys
+add_none xs ys e = sym (append-nil xs) ∙ ap (λ zs. xs ++ zs) (sym e)
+
+module _ {A : Type 0} (touched : BoxKey → Bool) (wide : Bool) (names : List EntryKey) (lasts befores : List ℕ) (chained : AreChained wide names lasts befores) where
+  pub passed_gone : (x : Entry A) (i : ℕ) (now : List ℕ) → is_passed touched wide lasts x ≡ true → now ≡ now ++ gone_at touched i x
+  passed_gone (kept.Leaf m) i now p = add_none now (gone_at {A = A} touched i (kept.Leaf m)) (let u = (both (get_or lasts (mark_of wide (name_of {A = A} (kept.Leaf m))) 0 == 0) (is_untouched touched m.leaf) p).1 in rw u refl)
+  passed_gone (kept.Group g) i now p = absurd (let no : false ≡ true = p in cc)
+
+  pub passed_found : (x : Entry A) (i : ℕ) (now : List (Option ℕ)) → is_passed touched wide lasts x ≡ true → now ≡ noted (place_of same_entry names (name_of x)) i now
+  passed_found (kept.Leaf m) i now p =
+      ap (λ o. noted o i now) (sym (unmarked wide names lasts befores chained (name_of {A = A} (kept.Leaf m)) ((both (get_or lasts (mark_of wide (name_of {A = A} (kept.Leaf m))) 0 == 0) (is_untouched touched m.leaf) p).0)))
+  passed_found (kept.Group g) i now p = absurd (let no : false ≡ true = p in cc)
+
+  pub passed_inner : (x : Entry A) (i : ℕ) (now : List ℕ) → is_passed touched wide lasts x ≡ true → now ≡ now ++ inner_at touched names i x
+  passed_inner (kept.Leaf m) i now p = add_none now [] refl
+  passed_inner (kept.Group g) i now p = absurd (let no : false ≡ true = p in cc)

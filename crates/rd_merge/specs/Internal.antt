@@ -6,3 +6,4 @@ pub mod PlanFalls
 pub mod Planning
 pub mod PlanRoom
 pub mod Sample
+pub mod Sought

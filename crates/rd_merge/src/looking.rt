@@ -1,11 +1,12 @@
 //! A look at a kept level: which entries go, where the names of the new level stand, and in which groups something goes.
-ghost use Rattle.std.specs.Prelude.{◌≡◌, ◌<◌, ◌&&◌, not, if◌then◌else◌, [], ◌∷◌, ◌++◌, length, map, None, IfOk, IfSome, OnOk};
+ghost use Rattle.std.specs.Prelude.{◌≡◌, ◌<◌, ◌≤◌, ◌&&◌, not, if◌then◌else◌, [], ◌∷◌, ◌++◌, length, map, None, IfOk, IfSome, OnOk};
 ghost use Rattle.rd_graph.specs.Names.{place_of, same_entry};
 ghost use Rattle.rd_graph.specs.Orders.{Once};
 ghost use Rattle.rd_list.specs.Entries.{is_empty};
 ghost use Rattle.rd_list.specs.EntryNames.{kept_leaves};
 ghost use Rattle.rd_list.specs.KeptView.{kept_entries};
-ghost use Rattle.rd_merge.specs.Internal.Looks.{gone_at, goes_inside, has_touched, inner_at, name_of, noted};
+ghost use Rattle.rd_merge.specs.Internal.Looks.{found_before, gone_at, gone_before, goes_inside, has_touched, inner_at, inner_before, is_passed, name_of, noted};
+ghost use Rattle.rd_merge.specs.Internal.Sought.{AreChained};
 ghost use Rattle.rd_merge.specs.Looking.{IsLooked, kept_names};
 
 use crate::going::{Touches, key_of, stays_at};
@@ -94,15 +95,57 @@ fn push_if(places: &mut Vec<usize>, is_wanted: bool, place: usize) -> Result<(),
     Ok(())
 }
 
+/// Is it a leaf of an untouched box, at whose mark no name stands? Nothing is noted of it.
+#[inline(always)]
+fn is_passed<A: Ledger, T: Touches>(entry: &Entry<A>, sought: &Sought, tree: &T) -> bool
+    ensures { result ≡ is_passed (T.is_touched tree.now) sought.now.is_wide sought.now.lasts.items entry.now }
+{
+    match entry {
+        Entry::Leaf(item) => !sought.is_marked(item.key()) && !tree.touches(item.owner()),
+        Entry::Group(_) => false,
+    }
+}
+
+/// The first place, from this one on, of which something may be noted. No place where there is none.
+#[inline(never)]
+fn next_noted<A: Ledger, T: Touches>(
+    entries: &[Entry<A>],
+    from: usize,
+    sought: &Sought,
+    names: &[EntryKey],
+    tree: &T,
+) -> usize
+    requires sought { AreChained sought.now.is_wide names.now sought.now.lasts.items sought.now.befores.items }
+    requires names { Once names.now }
+    requires entries { Once (kept_names (kept_entries entries.now)) }
+    requires within { from ≤ length entries.now }
+    ensures after { from ≤ result }
+    ensures within { result ≤ length entries.now }
+    ensures gone { gone_before (T.is_touched tree.now) entries.now result
+        ≡ gone_before (T.is_touched tree.now) entries.now from }
+    ensures found { found_before entries.now names.now result ≡ found_before entries.now names.now from }
+    ensures inner { inner_before (T.is_touched tree.now) names.now entries.now result
+        ≡ inner_before (T.is_touched tree.now) names.now entries.now from }
+{
+    let mut place = from;
+    while place < entries.len() && is_passed(&entries[place], sought, tree) {
+        place += 1;
+    }
+    place
+}
+
 /// Notes what is found at one entry.
 fn look_at<A: Ledger, T: Touches>(
     looked: &mut Looked,
-    names: &Sought,
+    sought: &Sought,
+    names: &[EntryKey],
     place: usize,
     entry: &Entry<A>,
     tree: &T,
 ) -> Result<(), AllocError>
-    requires { length looked.old.found.items ≡ length names.now }
+    requires sought { AreChained sought.now.is_wide names.now sought.now.lasts.items sought.now.befores.items }
+    requires once { Once names.now }
+    requires found { length looked.old.found.items ≡ length names.now }
     ensures gone { OnOk result (looked.new.gone.items
         ≡ looked.old.gone.items ++ gone_at (T.is_touched tree.now) place entry.now) }
     ensures found { OnOk result (looked.new.found.items
@@ -110,7 +153,7 @@ fn look_at<A: Ledger, T: Touches>(
     ensures inner { OnOk result (looked.new.inner.items
         ≡ looked.old.inner.items ++ inner_at (T.is_touched tree.now) names.now place entry.now) }
 {
-    let name = names.find(key_of(entry));
+    let name = sought.find(names, key_of(entry));
     note(&mut looked.found, name, place);
     let stays = stays_at(entry, tree);
     push_if(&mut looked.gone, !stays, place)?;
@@ -153,8 +196,10 @@ pub(crate) fn look<A: Ledger, T: Touches>(
         return Ok(looked);
     }
     let sought = Sought::new(alloc, names)?;
-    for (place, entry) in entries.iter().enumerate() {
-        look_at(&mut looked, &sought, place, entry, tree)?;
+    let mut place = next_noted(entries, 0, &sought, names, tree);
+    while place < entries.len() {
+        look_at(&mut looked, &sought, names, place, &entries[place], tree)?;
+        place = next_noted(entries, place + 1, &sought, names, tree);
     }
     Ok(looked)
 }

@@ -1,96 +1,112 @@
 //! Names that are sought in a kept level.
-ghost use Rattle.std.specs.Prelude.{◌≡◌, IfOk, false, slice_index_or};
+ghost use Rattle.std.specs.Prelude.{◌≡◌, ◌<◌, IfOk, not, ◌==◌, [], slice_index_or};
 ghost use Rattle.rd_graph.specs.Names.{place_of, same_entry};
 ghost use Rattle.rd_graph.specs.Orders.{Once};
-ghost use Rattle.rd_merge.specs.Internal.Looks.{AreMarked, mark_of};
+ghost use Rattle.rd_merge.specs.Internal.Sought.{AreChained, mark_count, mark_of};
 
-use rd_graph::Places;
 use rd_keys::EntryKey;
 use std::alloc::{AllocError, Global};
-use std::marker::Model;
 
-/// Names that differ, each with its place. A name whose mark is not set is none of them.
+/// Names by their marks, of which there are more where there are many names. At each mark the number of the last name
+/// there, and for each name that of the one before it at its mark. Names are numbered from one, and zero is none.
 #[derive(Drop)]
 pub(crate) struct Sought {
-    marks: Vec<bool>,
-    places: Places,
-}
-
-impl Model for Sought {
-    ghost use Rattle.std.specs.Prelude.{List};
-    ghost use Rattle.rd_keys.specs.declared.entry.EntryKey.{EntryKey};
-    ghost use Rattle.rd_merge.specs.Internal.Looks.{AreMarked};
-
-    ghost Value = { List EntryKey };
-
-    ghost view = { λ s. s.places };
-
-    ghost invariant = { λ s. AreMarked s.places s.marks.items };
+    is_wide: bool,
+    lasts: Vec<usize>,
+    befores: Vec<usize>,
 }
 
 /// Where a name has its mark.
-fn mark_of(key: EntryKey) -> usize
-    ensures { result ≡ mark_of key }
+fn mark_of(is_wide: bool, key: EntryKey) -> usize
+    ensures value { result ≡ mark_of is_wide key }
+    ensures within { result < mark_count is_wide }
 {
-    match key {
-        EntryKey::Leaf(name, _) => name.slot() as usize % 1024,
-        EntryKey::Group(name) => name.slot() as usize % 1024,
-    }
+    let slot = match key {
+        EntryKey::Leaf(name, _) => name.slot() as usize,
+        EntryKey::Group(name) => name.slot() as usize,
+    };
+    if is_wide { slot % 8192 } else { slot % 1024 }
 }
 
-/// The marks of these names. None are made where there is no name.
-fn marks_of(alloc: Global, names: &[EntryKey]) -> Result<Vec<bool>, AllocError>
-    ensures { IfOk result (λ v. AreMarked names.now v.items) }
+/// How many marks there are.
+fn mark_count(is_wide: bool) -> usize
+    ensures { result ≡ mark_count is_wide }
 {
-    if names.is_empty() {
-        return Ok(Vec::new(alloc));
-    }
-    let mut marks = vec![in alloc; false; 1024]?;
-    for name in names {
-        marks[mark_of(*name)] = true;
-    }
-    Ok(marks)
+    if is_wide { 8192 } else { 1024 }
 }
 
-/// Is the mark of this name set?
-fn is_marked(marks: &[bool], name: EntryKey) -> bool
-    ensures { result ≡ slice_index_or marks.now (mark_of name) false }
+/// Are they the same name?
+fn is_same(key: EntryKey, name: EntryKey) -> bool
+    ensures { result ≡ same_entry key name }
 {
-    match marks.get(mark_of(name)) {
-        Some(mark) => *mark,
-        None => false,
-    }
+    key == name
 }
 
-/// The names once more.
-fn copied(alloc: Global, names: &[EntryKey]) -> Result<Vec<EntryKey>, AllocError>
-    ensures { IfOk result (λ v. v.items ≡ names.now) }
+/// No names.
+fn none_sought(alloc: Global) -> Sought
+    ensures { AreChained result.is_wide [] result.lasts.items result.befores.items }
 {
-    let mut all = Vec::with_capacity(alloc, names.len())?;
-    for name in names {
-        all.push(*name)?;
+    Sought {
+        is_wide: false,
+        lasts: Vec::new(alloc),
+        befores: Vec::new(alloc),
     }
-    Ok(all)
 }
 
 impl Sought {
+    /// These names by their marks.
     pub(crate) fn new(alloc: Global, names: &[EntryKey]) -> Result<Sought, AllocError>
-        requires { Once names.now }
-        ensures { IfOk result (λ s. s ≡ names.now) }
+        ensures { IfOk result (λ s. AreChained s.is_wide names.now s.lasts.items s.befores.items) }
     {
-        let marks = marks_of(alloc, names)?;
-        let names = copied(alloc, names)?;
-        let places = Places::new(alloc, names)?;
-        Ok(Sought { marks, places })
+        if names.is_empty() {
+            return Ok(none_sought(alloc));
+        }
+        let is_wide = names.len() > 256;
+        let mut lasts = vec![in alloc; 0; mark_count(is_wide)]?;
+        let mut befores = Vec::with_capacity(alloc, names.len())?;
+        for name in names {
+            let mark = mark_of(is_wide, *name);
+            befores.push(lasts[mark])?;
+            lasts[mark] = befores.len();
+        }
+        Ok(Sought {
+            is_wide,
+            lasts,
+            befores,
+        })
     }
 
-    /// The place of a name. None exactly where it is not sought.
-    pub(crate) fn find(&self, name: EntryKey) -> Option<usize>
-        ensures { result ≡ place_of same_entry self.now name }
+    /// The number of the last name at the mark of this one.
+    fn last(&self, name: EntryKey) -> usize
+        ensures { result ≡ slice_index_or self.now.lasts.items (mark_of self.now.is_wide name) 0 }
     {
-        if !is_marked(&self.marks, name) {
-            return None;
+        match self.lasts.get(mark_of(self.is_wide, name)) {
+            Some(last) => *last,
+            None => 0,
         }
-        self.places.find(name)
+    }
+
+    /// Does a name that is sought stand at the mark of this one?
+    pub(crate) fn is_marked(&self, name: EntryKey) -> bool
+        ensures { result ≡ not (slice_index_or self.now.lasts.items (mark_of self.now.is_wide name) 0 == 0) }
+    {
+        self.last(name) != 0
+    }
+
+    /// The place of a name among those that are sought. None exactly where it is not one of them.
+    pub(crate) fn find(&self, names: &[EntryKey], name: EntryKey) -> Option<usize>
+        requires chained { AreChained self.now.is_wide names.now self.now.lasts.items self.now.befores.items }
+        requires once { Once names.now }
+        ensures { result ≡ place_of same_entry names.now name }
+    {
+        let mut number = self.last(name);
+        while number > 0 {
+            let place = number - 1;
+            if is_same(names[place], name) {
+                return Some(place);
+            }
+            number = self.befores[place];
+        }
+        None
     }
 }

@@ -1,9 +1,10 @@
 -- What a look at one entry of a kept level finds.
-use Rattle.std.specs.Prelude.{◌≡◌, ℕ, ◌%◌, Bool, true, false, List, [], ◌∷◌, slice_index_or, slice_set, Contains, Option, Some, None}
+use Rattle.std.specs.Prelude.{ℕ, ◌&&◌, ◌==◌, Bool, false, List, [], ◌∷◌, map, take, slice_index_or, slice_set, Option, Some, None}
 use Rattle.rd_keys.specs.Keys.{BoxKey}
 use Rattle.rd_keys.specs.declared.entry.EntryKey.{EntryKey}
 use Rattle.rd_keys.specs.declared.entry.EntryKey.TheVariants as key
 use Rattle.rd_item.specs.Items.{Made}
+use Rattle.rd_graph.specs.Names.{place_of, same_entry}
 use Rattle.rd_list.specs.Wrappers.{Wrapper}
 use Rattle.rd_list.specs.Entries.{Entries}
 use Rattle.rd_list.specs.Kept.{Ordered}
@@ -12,16 +13,8 @@ use Rattle.rd_list.specs.KeptView.{kept_entries}
 use Rattle.rd_list.specs.declared.kept.Entry.{Entry}
 use Rattle.rd_list.specs.declared.kept.Entry.TheVariants.{Leaf, Group}
 use Rattle.rd_merge.specs.Going.{is_untouched}
-use Rattle.rd_merge.specs.Looking.{any_goes, gone_places, inner_places}
-
--- where a name has its mark, which other names may share
-abbrev pub mark_of : EntryKey → ℕ
-mark_of (key.Leaf k p) = k.slot % 1024
-mark_of (key.Group k) = k.slot % 1024
-
--- each of these names has its mark
-abbrev pub AreMarked : List EntryKey → List Bool → Type 0
-AreMarked names marks = (k : EntryKey) → Contains names k → slice_index_or marks (mark_of k) false ≡ true
+use Rattle.rd_merge.specs.Internal.Sought.{mark_of}
+use Rattle.rd_merge.specs.Looking.{any_goes, gone_places, inner_places, kept_names}
 
 -- a place noted where there is a number
 abbrev pub noted : Option ℕ → ℕ → List (Option ℕ) → List (Option ℕ)
@@ -37,6 +30,11 @@ module _ {A : Type 0} where
   name_of (Leaf i) = key.Leaf i.leaf.owner i.leaf.part
   name_of (Group g) = key.Group g.key
 
+  -- is it a leaf of an untouched box, at whose mark no name stands?
+  abbrev pub is_passed : (BoxKey → Bool) → Bool → List ℕ → Entry A → Bool
+  is_passed touched wide lasts (Leaf i) = (slice_index_or lasts (mark_of wide (key.Leaf i.leaf.owner i.leaf.part)) 0 == 0) && is_untouched touched i.leaf
+  is_passed touched wide lasts (Group g) = false
+
   -- is it a group of which something goes?
   abbrev pub goes_inside : (BoxKey → Bool) → Entry A → Bool
   goes_inside touched (Leaf i) = false
@@ -49,3 +47,13 @@ module _ {A : Type 0} where
   -- the place of an entry, if it is a group to go into
   abbrev pub inner_at : (BoxKey → Bool) → List EntryKey → ℕ → Entry A → List ℕ
   inner_at touched names place x = inner_places entry_names (is_untouched touched) names place (kept_leaves (kept_entries (x ∷ [])))
+
+  -- what is found of the first so many entries of a level: places of entries that go, places of names, and places of groups to go into
+  abbrev pub gone_before : (BoxKey → Bool) → List (Entry A) → ℕ → List ℕ
+  gone_before touched es n = gone_places entry_names (is_untouched touched) 0 (kept_leaves (kept_entries (take n es)))
+
+  abbrev pub found_before : List (Entry A) → List EntryKey → ℕ → List (Option ℕ)
+  found_before es names n = map (λ k. place_of same_entry (take n (kept_names (kept_entries es))) k) names
+
+  abbrev pub inner_before : (BoxKey → Bool) → List EntryKey → List (Entry A) → ℕ → List ℕ
+  inner_before touched names es n = inner_places entry_names (is_untouched touched) names 0 (kept_leaves (kept_entries (take n es)))

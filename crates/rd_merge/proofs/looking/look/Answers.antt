@@ -12,22 +12,26 @@ pub loop-place-preserved : goal.loop-place-preserved
 loop-place-preserved g c =
     let t = g.T.Touches.is_touched c.args.tree.now in
     let es = c.args.entries.now in
+    let ns = c.args.names.now in
     let i = c.loop-place.place in
     let x = c.index-entries-place.result in
+    let inv = c.loop-place.invariant in
+    let next = c.next_noted-place-in-loop-place.ensures in
     record {
-      gone = gone_next t es i x c.loop-place.looked.gone.items _ c.loop-place-test.true c.index-entries-place.is c.loop-place.invariant.gone c.in_ok-look_at.ensures.gone;
-      found = named_next es c.args.names.now c.in_ok-sought.sought i x c.loop-place.looked.found.items _ c.in_ok-sought.ensures c.requires.names c.requires.entries c.loop-place-test.true c.index-entries-place.is c.loop-place.invariant.found
-          c.in_ok-look_at.ensures.found;
-      inner = inner_next t c.args.names.now c.in_ok-sought.sought es i x c.loop-place.looked.inner.items _ c.in_ok-sought.ensures c.loop-place-test.true c.index-entries-place.is c.loop-place.invariant.inner c.in_ok-look_at.ensures.inner;
+      within = next.within;
+      gone = gone_next t es i x c.loop-place.looked.gone.items _ c.loop-place-test.true c.index-entries-place.is inv.gone c.in_ok-look_at.ensures.gone ∙ sym next.gone;
+      found = named_next es ns i x c.loop-place.looked.found.items _ c.requires.names c.requires.entries c.loop-place-test.true c.index-entries-place.is inv.found c.in_ok-look_at.ensures.found ∙ sym next.found;
+      inner = inner_next t ns es i x c.loop-place.looked.inner.items _ c.loop-place-test.true c.index-entries-place.is inv.inner c.in_ok-look_at.ensures.inner ∙ sym next.inner;
     }
 
 pub returns : goal.returns
 returns g c =
     let t = g.T.Touches.is_touched c.args.tree.now in
     let es = c.args.entries.now in
+    let inv = c.loop-place.invariant in
     let all = take_whole es c.loop-place.place c.loop-place-test.false in
     record {
-      gone_are = c.loop-place.invariant.gone ∙ ap (λ xs. gone_places entry_names (is_untouched t) 0 (kept_leaves (kept_entries xs))) all;
-      found_are = c.loop-place.invariant.found ∙ ap (λ ks. map (λ k. place_of same_entry ks k) c.args.names.now) (take_whole (kept_names (kept_entries es)) c.loop-place.place (subst (λ (n : ℕ). n ≤ c.loop-place.place) (sym (names_length es)) c.loop-place-test.false));
-      inner_are = c.loop-place.invariant.inner ∙ ap (λ xs. inner_places entry_names (is_untouched t) c.args.names.now 0 (kept_leaves (kept_entries xs))) all;
+      gone_are = inv.gone ∙ ap (λ xs. gone_places entry_names (is_untouched t) 0 (kept_leaves (kept_entries xs))) all;
+      found_are = inv.found ∙ ap (λ ks. map (λ k. place_of same_entry ks k) c.args.names.now) (take_whole (kept_names (kept_entries es)) c.loop-place.place (subst (λ (n : ℕ). n ≤ c.loop-place.place) (sym (names_length es)) c.loop-place-test.false));
+      inner_are = inv.inner ∙ ap (λ xs. inner_places entry_names (is_untouched t) c.args.names.now 0 (kept_leaves (kept_entries xs))) all;
     }

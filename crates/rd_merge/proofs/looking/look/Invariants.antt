@@ -1,14 +1,14 @@
-use Rattle.std.proofs.Common.{◌≡◌, map, take}
-use Rattle.rd_graph.specs.Names.{place_of, same_entry}
-use Rattle.rd_list.specs.EntryNames.{entry_names, kept_leaves}
-use Rattle.rd_list.specs.KeptView.{kept_entries}
-use Rattle.rd_merge.specs.Going.{is_untouched}
-use Rattle.rd_merge.specs.Looking.{gone_places, inner_places, kept_names}
+use Rattle.std.proofs.Common.{◌≡◌, ◌≤◌, ◌-◌, length}
+use Rattle.rd_merge.specs.Internal.Looks.{found_before, gone_before, inner_before}
 use Rattle.rd_merge.proofs.looking.look.Given as goal
+
+abbrev pub decreases-loop-place : goal.decreases-loop-place
+decreases-loop-place g l = length l.entries - l.place
 
 abbrev pub invariant-loop-place : goal.invariant-loop-place
 invariant-loop-place g l = record {
-  gone : l.looked.gone.items ≡ gone_places entry_names (is_untouched (g.T.Touches.is_touched l.tree)) 0 (kept_leaves (kept_entries (take l.place l.entries)));
-  found : l.looked.found.items ≡ map (λ k. place_of same_entry (take l.place (kept_names (kept_entries l.entries))) k) l.names;
-  inner : l.looked.inner.items ≡ inner_places entry_names (is_untouched (g.T.Touches.is_touched l.tree)) l.names 0 (kept_leaves (kept_entries (take l.place l.entries)));
+  within : l.place ≤ length l.entries;
+  gone : l.looked.gone.items ≡ gone_before (g.T.Touches.is_touched l.tree) l.entries l.place;
+  found : l.looked.found.items ≡ found_before l.entries l.names l.place;
+  inner : l.looked.inner.items ≡ inner_before (g.T.Touches.is_touched l.tree) l.names l.entries l.place;
 }

@@ -4,7 +4,7 @@ use Rattle.rd_merge.proofs.Looks.{inner_one, name_is, place_within}
 use Rattle.rd_merge.proofs.looking.look_at.Goals as goal
 
 pub note-requires : goal.note-requires
-note-requires g c = place_within c.find-name.result c.args.names.now c.key_of.result _ c.find-name.ensures c.requires
+note-requires g c = place_within c.find-name.result c.args.names.now c.key_of.result _ c.find-name.ensures c.requires.found
 
 pub returns-clause-inner : goal.returns-clause-inner
 returns-clause-inner g c =

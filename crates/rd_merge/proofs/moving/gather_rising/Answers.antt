@@ -1,10 +1,9 @@
-use Rattle.std.proofs.Common.{◌≡◌, refl, ◌∙◌, sym, ap, subst, arith, get_or, drop, ◌++◌, ◌+◌, ◌-◌}
+use Rattle.std.proofs.Common.{◌≡◌, refl, ◌∙◌, sym, ap, arith, get_or, drop, ◌++◌, ◌-◌}
 use Rattle.std.proofs.lemmas.List.{length-append}
 use Rattle.std.specs.Prelude.{vec_len, vec_capacity}
 use Rattle.std.specs.Vec.Iter.{into_iter_items}
 use Rattle.rd_graph.proofs.ListsAt.{get_same}
 use Rattle.rd_graph.proofs.PutInPlace.{gathered_more}
-use Rattle.rd_merge.specs.Internal.Moving.{Rises}
 use Rattle.rd_merge.proofs.Rising.{left_is, made_is, old_is, taken_is, then_made, then_old}
 use Rattle.rd_merge.proofs.moving.gather_rising.Goals.{then-p-old, else-p-old}
 use Rattle.rd_merge.proofs.moving.gather_rising.Goals as goal

@@ -1,4 +1,4 @@
-use Rattle.std.proofs.Common.{◌≡◌, ◌≤◌, drop}
+use Rattle.std.proofs.Common.{drop}
 use Rattle.rd_merge.specs.Internal.Moving.{Rises}
 use Rattle.rd_merge.proofs.moving.is_rising.Given as goal
 
