@@ -76,6 +76,13 @@ def nested(count, rng):
     ]
 
 
+def chain(count, rng):
+    """A chain of boxes, each in the one before."""
+    return [WIDTH, HEIGHT], [
+        box(f"b{i}", f"b{i - 1}", [i, i, 300, 300], {"background": ink(rng)}) for i in range(1, count)
+    ]
+
+
 def scene(kind, count, edits):
     (w, h), found = kind(count, random.Random(1))
     root = {"id": "b0", "parent": None, "rect": [0, 0, w, h], "style": {"background": "#ffffff"}}
