@@ -39,7 +39,7 @@ module _ {E : Type 0} where
     | inr m ↦ elim m [ inl e ↦ inr e | inr n ↦ absurd n ]
   ]
 
-  nodes-count : (g : Graph E) → length (nodes g) ≡ length g
+  pub nodes-count : (g : Graph E) → length (nodes g) ≡ length g
   nodes-count [] = refl
   nodes-count (x ∷ g) = ap suc (nodes-count g)
 

@@ -26,7 +26,7 @@ module _ {E : Type 0} where
   take_place (x ∷ xs) (suc m) a (inl e) = (0, omega arith, omega arith, e)
   take_place (x ∷ xs) (suc m) a (inr h) = let r = take_place xs m a h in (suc r.0, (let l = r.1 in omega (arith, l)), (let l = r.2 in omega (arith, l)), r.3)
 
-  once_place : (xs : List E) (i j : ℕ) (a : E) → Once xs → i < length xs → j < length xs → get_or xs i a ≡ a → get_or xs j a ≡ a → i ≡ j
+  pub once_place : (xs : List E) (i j : ℕ) (a : E) → Once xs → i < length xs → j < length xs → get_or xs i a ≡ a → get_or xs j a ≡ a → i ≡ j
   once_place [] i j a o l m e f = absurd (omega arith)
   once_place (x ∷ xs) zero zero a o l m e f = refl
   once_place (x ∷ xs) zero (suc j) a o l m e f = absurd (o.0 (subst (λ z. Has xs z) (f ∙ sym e) (has_get xs j a (omega arith))))

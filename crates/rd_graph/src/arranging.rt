@@ -66,7 +66,7 @@ fn rises(places: &[usize], end: usize) -> bool
 }
 
 /// How many are met, of those that are looked for one after another, when a walk comes to a place.
-fn met_after(gone: &[usize], met: usize, place: usize) -> usize
+pub(crate) fn met_after(gone: &[usize], met: usize, place: usize) -> usize
     ensures { IsMet gone.now met place result }
 {
     if gone.len() <= met {

@@ -1,6 +1,6 @@
 //! The lists of predecessors that a merge changes.
-ghost use Rattle.std.specs.Prelude.{◌≡◌, ℕ, ◌<◌, [], ◌∷◌, ◌++◌, IfOk, IfSome, OnOk, true, false, take, if◌then◌else◌, slice_index_or, length, Contains};
-ghost use Rattle.rd_graph.specs.Patches.{CanBePatched, IsRelisted, found_in};
+ghost use Rattle.std.specs.Prelude.{◌≡◌, ℕ, ◌<◌, ◌≤◌, [], ◌∷◌, ◌++◌, IfOk, IfSome, OnOk, true, false, if◌then◌else◌, slice_index_or, length, Contains};
+ghost use Rattle.rd_graph.specs.Patches.{AreRising, CanBePatched, IsRelisted, found_in};
 ghost use Rattle.rd_graph.specs.Internal.Seen.{seen, seen_one};
 ghost use Rattle.rd_graph.specs.Graphs.{IsInOrder, nodes as nodes_of};
 ghost use Rattle.rd_graph.specs.Gathered.{gathered};
@@ -8,10 +8,11 @@ ghost use Rattle.rd_graph.specs.Names.{is_in, same_entry};
 ghost use Rattle.rd_graph.specs.Orders.{Once};
 ghost use Rattle.rd_graph.specs.Internal.Chains.{before_place};
 ghost use Rattle.rd_graph.specs.Internal.Patching.{lists_seen};
-ghost use Rattle.rd_graph.specs.Internal.Relisting.{AreMarked, AreNoted, GoesAlong, GoesAlongAt, Relists, has_all, is_late, joined, keeps, listed, mark_of, own, relinked, some_gone};
+ghost use Rattle.rd_graph.specs.Internal.Relisting.{AreMarked, AreNoted, AreQuiet, GoesAlong, GoesAlongAt, Relists, has_all, has_mark, is_late, joined, keeps, listed, mark_of, own, relinked, some_gone};
 ghost use Rattle.rd_graph.specs.Internal.Tables.{fits_list, has_it};
 ghost use Rattle.rd_graph.specs.Internal.Words.{NotesIf, resolved_once};
 
+use crate::arranging::met_after;
 use crate::graph::Node;
 use crate::stitch::resolve;
 use crate::tables::{has, put};
@@ -62,8 +63,9 @@ fn names_at(
 /// The marks of the names of the nodes at these places. None are made where nothing goes.
 fn marks_at(alloc: Global, nodes: &[Node], gone: &[usize]) -> Result<Vec<bool>, AllocError>
     requires { (k : ℕ) → k < length gone.now → slice_index_or gone.now k 0 < length nodes.now }
-    ensures { IfOk result (λ v. (k : EntryKey)
+    ensures marked { IfOk result (λ v. (k : EntryKey)
         → Contains (gathered gone.now (nodes_of (seen nodes.now))) k → slice_index_or v.items (mark_of k) false ≡ true) }
+    ensures whole { IfOk result (λ v. 0 < length gone.now → length v.items ≡ 4096) }
 {
     if gone.is_empty() {
         return Ok(Vec::new(alloc));
@@ -79,6 +81,7 @@ fn marks_at(alloc: Global, nodes: &[Node], gone: &[usize]) -> Result<Vec<bool>, 
 fn gone_at(alloc: Global, nodes: &[Node], gone: &[usize]) -> Result<Gone, AllocError>
     requires { (k : ℕ) → k < length gone.now → slice_index_or gone.now k 0 < length nodes.now }
     ensures marked { IfOk result (λ g. AreMarked g.marks.items g.names) }
+    ensures whole { IfOk result (λ g. 0 < length gone.now → length g.marks.items ≡ 4096) }
     ensures named { IfOk result (λ g. fits_list g.names (gathered gone.now (nodes_of (seen nodes.now)))) }
 {
     let names = names_at(alloc, nodes, gone)?;
@@ -187,12 +190,100 @@ fn pass(
     Ok(())
 }
 
-/// New lists of the nodes that stay, and of which a predecessor goes. Before the first place nothing goes.
-fn pass_all(alloc: Global, nodes: &[Node], first: usize, gone: &Gone) -> Result<Passed, AllocError>
+/// Has a predecessor of a node the mark of a name that goes?
+#[inline(never)]
+fn some_marked(marks: &[bool], node: &Node) -> bool
+    requires { length marks.now ≡ 4096 }
+    ensures { result ≡ some_gone (has_mark marks.now) node.now.before.items }
+{
+    for key in &node.before {
+        if marks[mark_of(key)] {
+            return true;
+        }
+    }
+    false
+}
+
+/// Has a node one predecessor, without the mark of a name that goes?
+#[inline(always)]
+fn follows_one(marks: &[bool], node: &Node) -> bool
+    requires { length marks.now ≡ 4096 }
+    ensures { result ≡ true → some_gone (has_mark marks.now) node.now.before.items ≡ false }
+{
+    node.before.len() == 1 && !marks[mark_of(&node.before[0])]
+}
+
+/// Has a node two predecessors, both without the mark of a name that goes?
+#[inline(always)]
+fn follows_two(marks: &[bool], node: &Node) -> bool
+    requires { length marks.now ≡ 4096 }
+    ensures { result ≡ true → some_gone (has_mark marks.now) node.now.before.items ≡ false }
+{
+    node.before.len() == 2 && !marks[mark_of(&node.before[0])] && !marks[mark_of(&node.before[1])]
+}
+
+/// The place past a run of nodes that follow one node each, and past a run after it of nodes that follow two. None of
+/// these nodes is late. Most nodes follow one.
+#[inline(always)]
+fn past_runs(nodes: &[Node], from: usize, end: usize, marks: &[bool]) -> usize
+    requires marks { length marks.now ≡ 4096 }
+    requires from { from ≤ end }
+    requires end { end ≤ length nodes.now }
+    ensures after { from ≤ result }
+    ensures within { result ≤ end }
+    ensures quiet { AreQuiet (has_mark marks.now) (seen nodes.now) from result }
+{
+    let mut place = from;
+    while place < end && follows_one(marks, &nodes[place]) {
+        place += 1;
+    }
+    while place < end && follows_two(marks, &nodes[place]) {
+        place += 1;
+    }
+    place
+}
+
+/// The first place of a stretch of places whose node may be late. The end of the stretch where there is none.
+#[inline(never)]
+fn next_late(nodes: &[Node], from: usize, end: usize, marks: &[bool]) -> usize
+    requires marks { length marks.now ≡ 4096 }
+    requires from { from ≤ end }
+    requires end { end ≤ length nodes.now }
+    ensures after { from ≤ result }
+    ensures within { result ≤ end }
+    ensures quiet { AreQuiet (has_mark marks.now) (seen nodes.now) from result }
+{
+    let mut place = past_runs(nodes, from, end, marks);
+    while place < end && !some_marked(marks, &nodes[place]) {
+        place = past_runs(nodes, place + 1, end, marks);
+    }
+    place
+}
+
+/// One of some places, or else the count of all.
+fn place_or(places: &[usize], i: usize, count: usize) -> usize
+    ensures { result ≡ slice_index_or places.now i count }
+{
+    match places.get(i) {
+        Some(place) => *place,
+        None => count,
+    }
+}
+
+/// New lists of the nodes that stay, and of which a predecessor goes. Only the nodes that go, at these places, and
+/// those that may be late are looked at.
+fn pass_all(
+    alloc: Global,
+    nodes: &[Node],
+    places: &[usize],
+    gone: &Gone,
+) -> Result<Passed, AllocError>
     requires sound { IsInOrder (seen nodes.now) }
-    requires quiet { (k : EntryKey) → Contains (take first (nodes_of (seen nodes.now))) k
-        → has_it gone.now.names k ≡ false }
+    requires rising { AreRising places.now }
+    requires within { (k : ℕ) → k < length places.now → slice_index_or places.now k 0 < length nodes.now }
+    requires named { fits_list gone.now.names (gathered places.now (nodes_of (seen nodes.now))) }
     requires marked { AreMarked gone.now.marks.items gone.now.names }
+    requires whole { 0 < length places.now → length gone.now.marks.items ≡ 4096 }
     ensures noted { IfOk result (λ p. AreNoted (has_it gone.now.names) (resolved_once gone.now.names p.notes)
         (seen nodes.now)) }
     ensures relisted { IfOk result (λ p. Relists (has_it gone.now.names) (seen nodes.now)
@@ -200,9 +291,13 @@ fn pass_all(alloc: Global, nodes: &[Node], first: usize, gone: &Gone) -> Result<
 {
     let mut notes = IndexMap::new(alloc);
     let mut lists = Vec::new(alloc);
-    for place in first..nodes.len() {
-        let node = &nodes[place];
-        pass(alloc, gone, &mut notes, &mut lists, place, node)?;
+    let mut place = place_or(places, 0, nodes.len());
+    let mut met = 1;
+    while place < nodes.len() {
+        pass(alloc, gone, &mut notes, &mut lists, place, &nodes[place])?;
+        let stop = place_or(places, met, nodes.len());
+        place = next_late(nodes, place + 1, stop, &gone.marks);
+        met = met_after(places, met, place);
     }
     Ok(Passed { notes, lists })
 }
@@ -355,16 +450,6 @@ fn go_along_all(
     Ok(())
 }
 
-/// The first place that goes, or else the count of all.
-fn first_of(gone: &[usize], count: usize) -> usize
-    ensures { result ≡ slice_index_or gone.now 0 count }
-{
-    match gone.first() {
-        Some(place) => *place,
-        None => count,
-    }
-}
-
 /// New lists of predecessors with the places of their nodes: of the nodes that stand after one that goes, and of those of
 /// the chain.
 pub(crate) fn changed(
@@ -378,9 +463,9 @@ pub(crate) fn changed(
     requires can { CanBePatched gone.now chain.now found.now (seen nodes.now) }
     ensures { IfOk result (λ v. IsRelisted gone.now chain.now (seen nodes.now) (lists_seen v.items)) }
 {
-    let first = first_of(gone, nodes.len());
-    let gone = gone_at(alloc, nodes, gone)?;
-    let passed = pass_all(alloc, nodes, first, &gone)?;
+    let places = gone;
+    let gone = gone_at(alloc, nodes, places)?;
+    let passed = pass_all(alloc, nodes, places, &gone)?;
     let mut lists = passed.lists;
     go_along_all(alloc, nodes, &gone, &passed.notes, chain, found, &mut lists)?;
     Ok(lists)

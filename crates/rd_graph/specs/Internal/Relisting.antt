@@ -1,5 +1,5 @@
 -- Lists of predecessors that change, by the places of their nodes.
-use Rattle.std.specs.Prelude.{◌≡◌, ℕ, ◌<◌, ◌==◌, ◌%◌, Bool, true, false, if◌then◌else◌, ◌↔◌, List, [], ◌∷◌, ◌++◌, length, slice_index_or, Contains, Option, Some, None}
+use Rattle.std.specs.Prelude.{◌≡◌, ℕ, ◌<◌, ◌≤◌, ◌==◌, ◌%◌, Bool, true, false, if◌then◌else◌, ◌↔◌, List, [], ◌∷◌, ◌++◌, length, slice_index_or, Contains, Option, Some, None}
 use Rattle.indexmap.specs.IndexMap.{IndexMap}
 use Rattle.rd_keys.specs.declared.entry.EntryKey.{EntryKey}
 use Rattle.rd_keys.specs.declared.entry.EntryKey.TheVariants as key
@@ -14,9 +14,13 @@ abbrev pub mark_of : EntryKey → ℕ
 mark_of (key.Leaf k p) = k.slot % 4096
 mark_of (key.Group k) = k.slot % 4096
 
+-- has a name its mark?
+abbrev pub has_mark : List Bool → EntryKey → Bool
+has_mark marks k = slice_index_or marks (mark_of k) false
+
 -- each name of a table has its mark
 abbrev pub AreMarked : {S : Type 0} → List Bool → IndexMap EntryKey ℕ S → Type 0
-AreMarked marks names = (k : EntryKey) → has_it names k ≡ true → slice_index_or marks (mark_of k) false ≡ true
+AreMarked marks names = (k : EntryKey) → has_it names k ≡ true → has_mark marks k ≡ true
 
 module _ {E : Type 0} where
   -- the list at a place, after new lists
@@ -52,6 +56,10 @@ module _ {E : Type 0} where
     -- does the node stay, and a predecessor go?
     abbrev pub is_late : E × List E → Bool
     is_late x = if gone x.0 then false else some_gone x.1
+
+    -- no predecessor of the nodes on a stretch of places is one of these
+    abbrev pub AreQuiet : Graph E → ℕ → ℕ → Type 0
+    AreQuiet g from to = (k : ℕ) (x : E × List E) → IsAt g k x → from ≤ k → k < to → some_gone x.1 ≡ false
 
     -- New lists of the nodes that stay, and of which a predecessor goes: those have the stitches.
     pub record Relists (g : Graph E) (lists : List (ℕ × List E)) : Type 0 where

@@ -22,6 +22,6 @@ loop-place-preserved c =
     (c.requires c.loop-place.place-index c.loop-place-test.true) c.index-nodes-place.is (c.mark_of.ensures ∙ ap (λ (n : Node). mark_of n.key) (sym c.index-nodes-place.is)) c.loop-place.invariant.whole c.loop-place.invariant.marked in
     record { whole = m.0; marked = m.1 }
 
-pub returns : goal.returns
-returns c = λ k h. c.loop-place.invariant.marked k
+pub returns-clause-marked : goal.returns-clause-marked
+returns-clause-marked c = λ k h. c.loop-place.invariant.marked k
     (has_from _ k (subst (λ (ps : List ℕ). Contains (gathered ps (nodes (seen c.args.nodes.now))) k) (sym (take_whole c.args.gone.now c.loop-place.place-index c.loop-place-test.false)) h))

@@ -1,29 +1,63 @@
-use Rattle.std.proofs.Common.{◌≡◌, ap, sym, subst, refl, List, [], ℕ, rules}
+use Rattle.std.proofs.Common.{◌≡◌, ◌+◌, ◌<◌, ap, sym, subst, refl, Bool, List, [], ℕ, arith, rules, length, get_or}
 use Rattle.rd_keys.specs.declared.entry.EntryKey.{EntryKey}
 use Rattle.rd_graph.specs.Internal.Patching.{lists_seen}
+use Rattle.rd_graph.specs.Internal.Relisting.{AreMarked}
 use Rattle.rd_graph.specs.Internal.Seen.{seen, seen_one}
 use Rattle.rd_graph.specs.Internal.Tables.{noted_in, has_it}
 use Rattle.rd_graph.proofs.Late.{SoFar, so_first, so_next, so_all, notes_all}
-use Rattle.rd_graph.proofs.SeenAt.{seen_at, seen_whole}
+use Rattle.rd_graph.proofs.Quiet.{met_first, met_next, next_after, next_within, quiet_where, so_to, stays_between}
+use Rattle.rd_graph.proofs.Rising.{quiet_before}
+use Rattle.rd_graph.proofs.SeenAt.{seen_at, seen_length, seen_whole}
 use Rattle.rd_graph.proofs.changing.pass_all.Goals as goal
 
 pub loop-place-init : goal.loop-place-init
 loop-place-init c =
+    let gone = has_it c.args.gone.now.names in
+    let ns = c.args.nodes.now in
+    let first = c.place_or-place.result in
     let none : lists_seen c.new-lists.result.items ≡ [] = ap (λ ls. lists_seen ls) c.new-lists.ensures.items in
     let empty : (k : EntryKey) → noted_in c.new-notes.result k ≡ [] = λ k. search rules in
+    let e = c.place_or-place.ensures in
     record {
-      so_far = subst (λ (ls : List (ℕ × List EntryKey)). SoFar (has_it c.args.gone.now.names) (seen c.args.nodes.now) (noted_in c.new-notes.result) ls c.args.first) (sym none)
-          (so_first (has_it c.args.gone.now.names) (seen c.args.nodes.now) c.requires.sound (noted_in c.new-notes.result) c.args.first c.requires.quiet empty);
+      after = omega (arith, e);
+      met = met_first c.args.places.now c.requires.rising first (length ns) e;
+      so_far = subst (λ (ls : List (ℕ × List EntryKey)). SoFar gone (seen ns) (noted_in c.new-notes.result) ls first) (sym none)
+          (so_first gone (seen ns) c.requires.sound (noted_in c.new-notes.result) first
+          (quiet_before ns c.args.places.now first (length ns) gone c.requires.sound.once c.requires.rising c.requires.within e c.requires.named) empty);
     }
+
+pub next_late-place-requires-clause-from : goal.next_late-place-requires-clause-from
+next_late-place-requires-clause-from c = next_after c.args.places.now c.loop-place.place c.loop-place.met (length c.args.nodes.now) _ c.loop-place.invariant.met c.loop-place-test.true c.place_or-stop.ensures
+
+pub next_late-place-requires-clause-end : goal.next_late-place-requires-clause-end
+next_late-place-requires-clause-end c = next_within c.args.places.now c.loop-place.met (length c.args.nodes.now) _ c.requires.within c.place_or-stop.ensures
 
 pub loop-place-preserved : goal.loop-place-preserved
 loop-place-preserved c =
+    let gone = has_it c.args.gone.now.names in
+    let ns = c.args.nodes.now in
+    let ps = c.args.places.now in
+    let i = c.loop-place.place in
     let n = c.index-nodes-place.result in
-    let at_n = seen_at c.args.nodes.now c.loop-place.place n c.loop-place-test.true c.index-nodes-place.is in
+    let inv = c.loop-place.invariant in
+    let next = c.next_late-place.ensures in
+    let within = next_within ps c.loop-place.met (length ns) _ c.requires.within c.place_or-stop.ensures in
+    let size = seen_length ns in
+    let stop = c.place_or-stop.ensures in
+    let past = next.after in
+    let before = next.within in
+    let after = inv.after in
+    let inside : (j : ℕ) → j < length ps → get_or ps j 0 < length (seen ns) = λ j l. subst (λ (m : ℕ). get_or ps j 0 < m) (sym size) (c.requires.within j l) in
+    let passed = so_next gone (seen ns) c.requires.sound i (seen_one n) (seen_at ns i n c.loop-place-test.true c.index-nodes-place.is)
+    (noted_in c.loop-place.notes) (noted_in c.pass.new.notes) _ (lists_seen c.loop-place.lists.items) (lists_seen c.pass.new.lists.items) inv.so_far
+    refl c.in_ok-pass.ensures.notes c.in_ok-pass.ensures.lists
+    in
     record {
-      so_far = so_next (has_it c.args.gone.now.names) (seen c.args.nodes.now) c.requires.sound c.loop-place.place (seen_one n) at_n
-          (noted_in c.loop-place.notes) (noted_in c.pass.new.notes) _ (lists_seen c.loop-place.lists.items) (lists_seen c.pass.new.lists.items) c.loop-place.invariant.so_far
-          refl c.in_ok-pass.ensures.notes c.in_ok-pass.ensures.lists;
+      after = omega (arith, after, past);
+      met = met_next ps c.requires.rising i c.loop-place.met c.next_late-place.result c.met_after-met.result (length ns) inv.met (omega (arith, past)) (omega (arith, before, stop)) c.met_after-met.ensures;
+      so_far = so_to gone (seen ns) c.requires.sound (noted_in c.pass.new.notes) (lists_seen c.pass.new.lists.items) (i + 1) c.next_late-place.result past (omega (arith, before, within, size))
+          (λ k x h l m. stays_between ps c.requires.rising gone (seen ns) c.requires.sound inside c.requires.named i c.loop-place.met (length ns) inv.met k x h (omega (arith, l)) (omega (arith, m, before, stop)))
+          (quiet_where gone _ (subst (λ (ms : List Bool). AreMarked ms c.args.gone.now.names) (sym c.deref.ensures.value) c.requires.marked) (seen ns) _ _ next.quiet) passed;
     }
 
 pub returns-clause-noted : goal.returns-clause-noted

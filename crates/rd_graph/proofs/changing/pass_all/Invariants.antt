@@ -1,10 +1,17 @@
+use Rattle.std.proofs.Common.{◌-◌, ◌≤◌, length, get_or}
 use Rattle.rd_graph.specs.Internal.Patching.{lists_seen}
 use Rattle.rd_graph.specs.Internal.Seen.{seen}
 use Rattle.rd_graph.specs.Internal.Tables.{noted_in, has_it}
 use Rattle.rd_graph.proofs.Late.{SoFar}
+use Rattle.rd_graph.proofs.Quiet.{HasMet}
 use Rattle.rd_graph.proofs.changing.pass_all.Given as goal
+
+abbrev pub decreases-loop-place : goal.decreases-loop-place
+decreases-loop-place l = length l.nodes - l.place
 
 abbrev pub invariant-loop-place : goal.invariant-loop-place
 invariant-loop-place l = record {
+  after : get_or l.places 0 (length l.nodes) ≤ l.place;
+  met : HasMet l.places l.place l.met;
   so_far : SoFar (has_it l.gone.names) (seen l.nodes) (noted_in l.notes) (lists_seen l.lists.items) l.place;
 }
