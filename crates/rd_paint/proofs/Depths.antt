@@ -17,7 +17,7 @@ use Rattle.rd_list.specs.KeptView.{kept_entries}
 use Rattle.rd_list.specs.Lists.{composed}
 use Rattle.rd_list.specs.Views.{levels, larger, deeper}
 use Rattle.rd_list.specs.Wrappers.{Wrapper}
-use Rattle.rd_list.proofs.Viewing.{levels_within}
+use Rattle.rd_list.proofs.Viewing.{levels_within, larger-none}
 use Rattle.rd_paint.specs.Parts.{entry_count, entries_from}
 
 not_less : (a b : ℕ) → (b ≤ larger a b) × (a ≤ larger a b)
@@ -32,6 +32,66 @@ none_below a b h = let n = not_less a b in let p = n.0 in let q = n.1 in (omega 
 no_deeper : (n : ℕ) → deeper n ≡ 0 → n ≡ 0
 no_deeper zero h = refl
 no_deeper (suc n) h = absurd (omega (arith, h))
+
+-- the larger of two is no more than what both are not above
+least : (a b m : ℕ) → a ≤ m → b ≤ m → larger a b ≤ m
+least a b m p q = elim (cases_lt a b) [ inl l ↦ rw (lt-ltb a b l) q | inr l ↦ rw (le-ltb a b l) p ]
+
+pub deeper_up : (a b : ℕ) → a ≤ b → deeper a ≤ deeper b
+deeper_up zero b h = omega arith
+deeper_up (suc a) zero h = absurd (omega (arith, h))
+deeper_up (suc a) (suc b) h = omega (arith, h)
+
+pub deeper_most : (n : ℕ) → deeper n ≤ n + 1
+deeper_most zero = omega arith
+deeper_most (suc n) = omega arith
+
+-- one list on another has the levels of both, and no more
+pub join_has : (xs ys : Entries Wrapper item.Leaf) → (levels xs ≤ levels (xs ▷ ys)) × (levels ys ≤ levels (xs ▷ ys))
+join_has nil ys = (omega arith, omega arith)
+join_has (leaf l xs) ys =
+    let r = join_has xs ys in
+    let a = r.0 in
+    let b = r.1 in
+    let n = not_less 1 (levels (xs ▷ ys)) in
+    let c = n.0 in
+    (least 1 (levels xs) (larger 1 (levels (xs ▷ ys))) n.1 (omega (arith, a, c)), omega (arith, b, c))
+join_has (group g inner xs) ys =
+    let r = join_has xs ys in
+    let a = r.0 in
+    let b = r.1 in
+    let n = not_less (deeper (levels inner)) (levels (xs ▷ ys)) in
+    let c = n.0 in
+    (least (deeper (levels inner)) (levels xs) (larger (deeper (levels inner)) (levels (xs ▷ ys))) n.1 (omega (arith, a, c)), omega (arith, b, c))
+
+pub join_least : (xs ys : Entries Wrapper item.Leaf) (m : ℕ) → levels xs ≤ m → levels ys ≤ m → levels (xs ▷ ys) ≤ m
+join_least nil ys m p q = q
+join_least (leaf l xs) ys m p q =
+    let n = not_less 1 (levels xs) in
+    let a = n.0 in
+    let b = n.1 in
+    least 1 (levels (xs ▷ ys)) m (omega (arith, b, p)) (join_least xs ys m (omega (arith, a, p)) q)
+join_least (group g inner xs) ys m p q =
+    let n = not_less (deeper (levels inner)) (levels xs) in
+    let a = n.0 in
+    let b = n.1 in
+    least (deeper (levels inner)) (levels (xs ▷ ys)) m (omega (arith, b, p)) (join_least xs ys m (omega (arith, a, p)) q)
+
+pub join_up : (es bs cs ds : Entries Wrapper item.Leaf) → levels es ≤ levels bs → levels cs ≤ levels ds → levels (es ▷ cs) ≤ levels (bs ▷ ds)
+join_up es bs cs ds p q =
+    let h = join_has bs ds in
+    let a = h.0 in
+    let b = h.1 in
+    join_least es cs (levels (bs ▷ ds)) (omega (arith, p, a)) (omega (arith, q, b))
+
+pub group_levels : (w : Wrapper) (xs : Entries Wrapper item.Leaf) → levels (group w xs nil) ≡ deeper (levels xs)
+group_levels w xs = larger-none (deeper (levels xs))
+
+pub group_up : (w : Wrapper) (xs ys : Entries Wrapper item.Leaf) → levels xs ≤ levels ys → levels (group w xs nil) ≤ levels (group w ys nil)
+group_up w xs ys h = rw (group_levels w xs, group_levels w ys) (deeper_up (levels xs) (levels ys) h)
+
+pub levels_by : (xs ys : Entries Wrapper item.Leaf) → xs ≡ ys → levels xs ≤ levels ys
+levels_by xs ys e = rw e (omega arith)
 
 abbrev px : ℕ → ℕ → ℕ → ℕ → Premultiplied
 px r g b a = record { r = r; g = g; b = b; a = a }
@@ -68,20 +128,6 @@ levels-leaves (group g inner xs) = ap (λ n. larger (deeper n) (levels (kept_lea
 pub leafless : (x y : ℤ) (d : Premultiplied) (xs : Entries (Ordered EntryKey Wrapper) Made) → levels xs ≡ 0 → composed x y d (kept_leaves xs) ≡ d
 leafless x y d xs h = nothing_shown x y d (kept_leaves xs) (levels-leaves xs ∙ h)
 
--- lists without a leaf, one on another
-pub join_leafless : (xs ys : Entries Wrapper item.Leaf) → levels xs ≡ 0 → levels ys ≡ 0 → levels (xs ▷ ys) ≡ 0
-join_leafless nil ys h k = k
-join_leafless (leaf l xs) ys h k = let n = (none_below 1 (levels xs) h).0 in absurd (omega (arith, n))
-join_leafless (group g inner xs) ys h k =
-    let n = none_below (deeper (levels inner)) (levels xs) h in
-    ap (λ m. larger m (levels (xs ▷ ys))) n.0 ∙ ap (larger 0) (join_leafless xs ys n.1 k)
-
-pub group_leafless : (g : Wrapper) (inner xs : Entries Wrapper item.Leaf) → levels (group g inner xs) ≡ 0 → (levels inner ≡ 0) × (levels xs ≡ 0)
-group_leafless g inner xs h = let n = none_below (deeper (levels inner)) (levels xs) h in (no_deeper (levels inner) n.0, n.1)
-
-pub leaf_below : (l : item.Leaf) (xs : Entries Wrapper item.Leaf) → levels (leaf l xs) ≡ 0 → ⊥
-leaf_below l xs h = let n = (none_below 1 (levels xs) h).0 in omega (arith, n)
-
 module _ {A : Type 0} where
   -- rows for a list are enough for each of its entries
   pub rows_at : (n m : ℕ) (es : List (Entry A)) (i : ℕ) (x : Entry A) → i < length es → x ≡ get_or es i x → n * (levels (kept_entries es) - 1) ≤ m → n * (levels (kept_entries (x ∷ [])) - 1) ≤ m
@@ -107,6 +153,23 @@ module _ {A : Type 0} where
   levels-from (suc n) [] = omega arith
   levels-from (suc n) (Leaf i ∷ es) = let d = levels-from n es in let l = (not_less 1 (levels (kept_entries es))).0 in omega (arith, d, l)
   levels-from (suc n) (Group g ∷ es) = let d = levels-from n es in let l = (not_less (deeper (levels g.inner.entries)) (levels (kept_entries es))).0 in omega (arith, d, l)
+
+-- rows for a list are enough for one with no more levels
+pub rows_by : (n r : ℕ) (xs ys : Entries Wrapper item.Leaf) → levels xs ≤ levels ys → n * (levels ys - 1) ≤ r → n * (levels xs - 1) ≤ r
+rows_by n r xs ys h b =
+    let l : levels xs - 1 ≤ levels ys - 1 = omega (arith, h) in
+    let p = mul-le-mul_left n l in
+    omega (arith, p, b)
+
+pub rows_same : (n r : ℕ) (ys xs : Entries Wrapper item.Leaf) → ys ≡ xs → n * (levels ys - 1) ≤ r → n * (levels xs - 1) ≤ r
+rows_same n r ys xs e b = rw (← e) b
+
+pub rows_levels : (n r l m : ℕ) → l ≡ m → n * (l - 1) ≤ r → n * (m - 1) ≤ r
+rows_levels n r l m e b = rw (← e) b
+
+-- what memory there is for has been made
+pub rows_opened : (v w n l c : ℕ) → v ≡ w → (v * n ≤ c → v * n ≤ l) → w * n ≤ c → w * n ≤ l
+rows_opened v w n l c e h b = rw e at h b
 
 -- as many rows as a canvas is wide are enough for a run of its pixels
 pub rows_for : (n w d r m : ℕ) → n ≤ w → d ≤ r → r * w ≤ m → n * d ≤ m

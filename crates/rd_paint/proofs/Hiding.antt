@@ -1,14 +1,16 @@
 -- Entries that hide what is below them.
-use Rattle.std.proofs.Common.{◌≡◌, refl, ◌∙◌, sym, ap, ℤ, pos, ℕ, ◌+ℤ◌, ◌<◌, Bool, true, false, ◌||◌}
+use Rattle.std.proofs.Common.{◌≡◌, refl, ◌∙◌, sym, ap, ℤ, pos, ℕ, ◌+ℤ◌, ◌<◌, ◌≤◌, arith, Bool, true, false, ◌||◌}
 use Rattle.rd_geom.specs.Colors.{Premultiplied, premultiplied}
 use Rattle.rd_item.specs.declared.leaf.Leaf as item
 use Rattle.rd_item.specs.Leaves.{covers}
 use Rattle.rd_list.specs.Entries.{Entries, nil, leaf, ◌▷◌}
 use Rattle.rd_list.specs.Lists.{composed}
+use Rattle.rd_list.specs.Views.{levels}
 use Rattle.rd_list.specs.Wrappers.{Wrapper}
 use Rattle.rd_list.proofs.Composing.{composed-join}
 use Rattle.rd_list.proofs.Joins.{join_assoc}
 use Rattle.rd_paint.specs.Internal.Picks.{Hides}
+use Rattle.rd_paint.proofs.Depths.{join_has, levels_by}
 use Rattle.rd_paint.proofs.Pieces.{opaque_over}
 
 pub or_left : (a b : Bool) → a ≡ true → (a || b) ≡ true
@@ -29,6 +31,12 @@ pub record IsUpper (rest whole : Entries Wrapper item.Leaf) : Type 0 where
 
 pub upper_more : (left one rest whole : Entries Wrapper item.Leaf) → IsUpper left whole → left ≡ one ▷ rest → IsUpper rest whole
 upper_more left one rest whole u e = record { below = u.below ▷ one; is = u.is ∙ ap (λ xs. u.below ▷ xs) e ∙ sym (join_assoc u.below one rest) }
+
+pub upper_levels : (rest whole : Entries Wrapper item.Leaf) → IsUpper rest whole → levels rest ≤ levels whole
+upper_levels rest whole u =
+    let a = (join_has u.below rest).1 in
+    let b = levels_by (u.below ▷ rest) whole (sym u.is) in
+    omega (arith, a, b)
 
 -- where its lowest entry hides what is below, only that part counts
 pub hidden_below : (left one rest whole : Entries Wrapper item.Leaf) (y x : ℤ) (n : ℕ) → IsUpper left whole → left ≡ one ▷ rest → Hides one y x n

@@ -7,6 +7,8 @@ pub mod Repainting
 pub mod Picking
 pub mod Choosing
 pub mod Showing
+pub mod Passing
 pub mod Hiding
 pub mod Banding
+pub mod Framing
 pub mod Seen

@@ -4,12 +4,12 @@ use Rattle.std.proofs.lemmas.List.{drop_more, length-take-le}
 use Rattle.rd_item.specs.declared.leaf.Leaf as item
 use Rattle.rd_list.specs.Displayed.{shown}
 use Rattle.rd_list.specs.Entries.{Entries, nil, leaf, group, ◌▷◌}
+use Rattle.rd_list.specs.Views.{levels, deeper}
 use Rattle.rd_list.specs.Wrappers.{Wrapper}
 use Rattle.rd_list.specs.declared.kept.Entry.{Entry}
 use Rattle.rd_list.specs.declared.kept.Entry.TheVariants as kept
 use Rattle.rd_list.proofs.Joins.{join-nil, join_assoc}
-use Rattle.rd_list.specs.Views.{levels}
-use Rattle.rd_paint.proofs.Depths.{join_leafless, group_leafless, leaf_below}
+use Rattle.rd_paint.proofs.Depths.{group_levels, deeper_most}
 use Rattle.rd_paint.specs.Internal.Picks.{entry_at, picked_by, picked, chosen, IsClosed}
 use Rattle.rd_paint.specs.declared.picks.Pick.{Pick}
 
@@ -167,26 +167,21 @@ pub entry_at-group : (f : List_of → List_of) (w : Wrapper) (inner : List_of) �
 unfolding entry_at
 entry_at-group f w inner = refl
 
--- of a list without a leaf no leaf is picked
-entry_leafless : (f : List_of → List_of) (i : ℕ) (es : List_of) → ((xs : List_of) → levels xs ≡ 0 → levels (f xs) ≡ 0) → levels es ≡ 0 → levels (entry_at f i es) ≡ 0
+-- levels of an entry that is picked
+entry_levels : (f : List_of → List_of) (n i : ℕ) (es : List_of) → ((xs : List_of) → deeper (levels (f xs)) ≤ n) → 1 ≤ n → levels (entry_at f i es) ≤ n
 unfolding entry_at
-entry_leafless f i nil p h = refl
-entry_leafless f zero (leaf l rest) p h = absurd (leaf_below l rest h)
-entry_leafless f zero (group w inner rest) p h = rw (p inner (group_leafless w inner rest h).0) refl
-entry_leafless f (suc i) (leaf l rest) p h = absurd (leaf_below l rest h)
-entry_leafless f (suc i) (group w inner rest) p h = entry_leafless f i rest p (group_leafless w inner rest h).1
+entry_levels f n i nil h k = omega arith
+entry_levels f n zero (leaf l rest) h k = k
+entry_levels f n zero (group w inner rest) h k = rw (group_levels w (f inner)) (h inner)
+entry_levels f n (suc i) (leaf l rest) h k = entry_levels f n i rest h k
+entry_levels f n (suc i) (group w inner rest) h k = entry_levels f n i rest h k
 
-leafless_by : (n : ℕ) (ps : List Pick) (es : List_of) → levels es ≡ 0 → levels (picked_by n ps es) ≡ 0
-unfolding picked_by
-leafless_by zero ps es h = refl
-leafless_by (suc n) [] es h = refl
-leafless_by (suc n) (p ∷ ps) es h =
-    join_leafless (entry_at (picked_by n (take p.inside ps)) p.place es) (picked_by n (drop p.inside ps) es)
-    (entry_leafless (picked_by n (take p.inside ps)) p.place es (λ xs k. leafless_by n (take p.inside ps) xs k) h) (leafless_by n (drop p.inside ps) es h)
+pub chosen_alone : (own : List Pick) → length own ≡ 0 → (place : ℕ) (es : List_of) → levels (chosen own place es) ≤ 1
+chosen_alone [] e place es = entry_levels (picked []) 1 place es (λ xs. rw (picked-none xs) (omega arith)) (omega arith)
+chosen_alone (p ∷ own) e place es = absurd (omega (arith, e))
 
-pub picked_leafless : (ps : List Pick) (es : List_of) → levels es ≡ 0 → levels (picked ps es) ≡ 0
-unfolding picked
-picked_leafless ps es h = leafless_by (length ps) ps es h
+pub chosen_within : (own : List Pick) (n : ℕ) → ((xs : List_of) → levels (picked own xs) ≤ n + 1) → (place : ℕ) (es : List_of) → levels (chosen own place es) ≤ 1 + n + 1
+chosen_within own n h place es = entry_levels (picked own) (1 + n + 1) place es (λ xs. let a = h xs in let b = deeper_most (levels (picked own xs)) in omega (arith, a, b)) (omega arith)
 
 -- the front of a list that was written over from a place on
 pub put_taken : (a n m : ℕ) (xs mid : List Pick) → a ≤ length xs → m ≤ length mid → take (a + m) (take a xs ++ (mid ++ drop n (drop a xs))) ≡ take a xs ++ take m mid

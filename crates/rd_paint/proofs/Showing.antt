@@ -14,9 +14,9 @@ use Rattle.rd_list.specs.Lists.{composed}
 use Rattle.rd_list.specs.Wrappers.{Wrapper}
 use Rattle.rd_list.proofs.Composing.{composed-join}
 use Rattle.rd_list.proofs.Joins.{join_assoc, join-nil}
-use Rattle.rd_paint.specs.Internal.Picks.{InArea, InRows, InSpans, IsClosed, SameWhere, ShowsFor, picked}
+use Rattle.rd_paint.specs.Internal.Picks.{InArea, InRows, InSpans, IsClosed, SameWhere, ServesWhere, ShowsFor, picked}
 use Rattle.rd_paint.specs.declared.picks.Pick.{Pick}
-use Rattle.rd_paint.proofs.Depths.{scaled_clear}
+use Rattle.rd_paint.proofs.Depths.{scaled_clear, join_has, join_up, group_up, levels_by}
 use Rattle.rd_paint.proofs.Picking.{picked-none, picked_one, closed_append, put_taken, entry_at-leaf, entry_at-group}
 use Rattle.rd_paint.proofs.Pieces.{unshown}
 
@@ -39,45 +39,65 @@ module _ (p : ℤ → ℤ → Type 0) where
   pub group_unseen : (w : Wrapper) (ys : Entries Wrapper item.Leaf) → SameWhere p nil ys → SameWhere p nil (group w ys nil)
   group_unseen w ys s x y d h = sym (scaled_clear w.opacity d) ∙ ap (λ q. laid_over (scaled q w.opacity) d) (s x y clear h)
 
+  pub serves_by : (es fs : Entries Wrapper item.Leaf) → es ≡ fs → ServesWhere p es fs
+  serves_by es fs e = (same_by es fs e, levels_by es fs e)
+
+  pub serves_then : (es fs gs : Entries Wrapper item.Leaf) → ServesWhere p es fs → ServesWhere p fs gs → ServesWhere p es gs
+  serves_then es fs gs s t = let a = s.1 in let b = t.1 in (same_then es fs gs s.0 t.0, omega (arith, a, b))
+
+  pub serves_join : (es bs cs ds : Entries Wrapper item.Leaf) → ServesWhere p es bs → ServesWhere p cs ds → ServesWhere p (es ▷ cs) (bs ▷ ds)
+  serves_join es bs cs ds s t = (same_join es bs cs ds s.0 t.0, join_up es bs cs ds s.1 t.1)
+
+  pub serves_group : (w : Wrapper) (xs ys : Entries Wrapper item.Leaf) → ServesWhere p xs ys → ServesWhere p (group w xs nil) (group w ys nil)
+  serves_group w xs ys s = (same_group w xs ys s.0, group_up w xs ys s.1)
+
   -- a leaf that is named, alone
   pub leaf_named : (place : ℕ) (l : item.Leaf) (ps : List Pick) → ps ≡ record { place = place; inside = 0 } ∷ [] → ShowsFor p place (leaf l nil) (leaf l nil) ps
   leaf_named place l ps e es stands =
-      same_by (picked ps es) (leaf l nil)
+      serves_by (picked ps es) (leaf l nil)
       (ap (λ qs. picked qs es) e ∙ picked_one (record { place = place; inside = 0 }) [] es refl ∙ stands (picked []) ∙ entry_at-leaf (picked []) l)
 
   -- nothing is named of what does not show
   pub none_named : (place : ℕ) (one want : Entries Wrapper item.Leaf) → SameWhere p nil want → ShowsFor p place one want []
-  none_named place one want s es stands = same_then (picked [] es) nil want (same_by (picked [] es) nil (picked-none es)) s
+  none_named place one want s es stands = serves_then (picked [] es) nil want (serves_by (picked [] es) nil (picked-none es)) (s, omega arith)
 
   -- a group that is named, with picks of its list
-  pub group_named : (place : ℕ) (w : Wrapper) (inner want : Entries Wrapper item.Leaf) (n : ℕ) (qs ps : List Pick) → length qs ≡ n → ps ≡ record { place = place; inside = n } ∷ qs → SameWhere p (picked qs inner) want
+  pub group_named : (place : ℕ) (w : Wrapper) (inner want : Entries Wrapper item.Leaf) (n : ℕ) (qs ps : List Pick) → length qs ≡ n → ps ≡ record { place = place; inside = n } ∷ qs → ServesWhere p (picked qs inner) want
       → ShowsFor p place (group w inner nil) (group w want nil) ps
   group_named place w inner want n qs ps l e s es stands =
-      same_then (picked ps es) (group w (picked qs inner) nil) (group w want nil)
-      (same_by (picked ps es) (group w (picked qs inner) nil) (ap (λ ts. picked ts es) e ∙ picked_one (record { place = place; inside = n }) qs es l ∙ stands (picked qs) ∙ entry_at-group (picked qs) w inner))
-      (same_group w (picked qs inner) want s)
+      serves_then (picked ps es) (group w (picked qs inner) nil) (group w want nil)
+      (serves_by (picked ps es) (group w (picked qs inner) nil) (ap (λ ts. picked ts es) e ∙ picked_one (record { place = place; inside = n }) qs es l ∙ stands (picked qs) ∙ entry_at-group (picked qs) w inner))
+      (serves_group w (picked qs inner) want s)
 
   -- one more has been looked at
-  pub same_more : (es one rest whole : Entries Wrapper item.Leaf) (done new : List Pick) → IsClosed done → SameWhere p (picked done es ▷ (one ▷ rest)) whole → SameWhere p (picked new es) one
-      → SameWhere p (picked (done ++ new) es ▷ rest) whole
+  pub same_more : (es one rest whole : Entries Wrapper item.Leaf) (done new : List Pick) → IsClosed done → ServesWhere p (picked done es ▷ (one ▷ rest)) whole → ServesWhere p (picked new es) one
+      → ServesWhere p (picked (done ++ new) es ▷ rest) whole
   same_more es one rest whole done new c s t =
-      same_then (picked (done ++ new) es ▷ rest) (picked done es ▷ (picked new es ▷ rest)) whole
-      (same_by (picked (done ++ new) es ▷ rest) (picked done es ▷ (picked new es ▷ rest)) (ap (λ xs. xs ▷ rest) (c new es) ∙ join_assoc (picked done es) (picked new es) rest))
-      (same_then (picked done es ▷ (picked new es ▷ rest)) (picked done es ▷ (one ▷ rest)) whole
-      (same_join (picked done es) (picked done es) (picked new es ▷ rest) (one ▷ rest) (λ x y d h. refl) (same_join (picked new es) one rest rest t (λ x y d h. refl))) s)
+      serves_then (picked (done ++ new) es ▷ rest) (picked done es ▷ (picked new es ▷ rest)) whole
+      (serves_by (picked (done ++ new) es ▷ rest) (picked done es ▷ (picked new es ▷ rest)) (ap (λ xs. xs ▷ rest) (c new es) ∙ join_assoc (picked done es) (picked new es) rest))
+      (serves_then (picked done es ▷ (picked new es ▷ rest)) (picked done es ▷ (one ▷ rest)) whole
+      (serves_join (picked done es) (picked done es) (picked new es ▷ rest) (one ▷ rest) (serves_by (picked done es) (picked done es) refl) (serves_join (picked new es) one rest rest t (serves_by rest rest refl))) s)
+
+  -- one that shows nothing is passed over
+  pub serves_past : (one rest left : Entries Wrapper item.Leaf) → left ≡ one ▷ rest → SameWhere p nil one → ServesWhere p rest left
+  serves_past one rest left e s =
+      let a = (join_has one rest).1 in
+      let b = levels_by (one ▷ rest) left (sym e) in
+      (λ x y d h. ap (λ q. composed x y q rest) (s x y d h) ∙ sym (composed-join x y d one rest) ∙ ap (composed x y d) (sym e), omega (arith, a, b))
+
+  -- some of those that are left show nothing
+  pub serves_less : (done rest left whole : Entries Wrapper item.Leaf) → ServesWhere p rest left → ServesWhere p (done ▷ left) whole → ServesWhere p (done ▷ rest) whole
+  serves_less done rest left whole s t = serves_then (done ▷ rest) (done ▷ left) whole (serves_join done done rest left (serves_by done done refl) s) t
 
   -- one more shows nothing
-  pub same_without : (done one rest left whole : Entries Wrapper item.Leaf) → left ≡ one ▷ rest → SameWhere p nil one → SameWhere p (done ▷ left) whole → SameWhere p (done ▷ rest) whole
-  same_without done one rest left whole e s t = same_then (done ▷ rest) (done ▷ left) whole (same_join done done rest left (λ x y d h. refl) unseen) t
-    where
-      unseen : SameWhere p rest left
-      unseen x y d h = ap (λ q. composed x y q rest) (s x y d h) ∙ sym (composed-join x y d one rest) ∙ ap (composed x y d) (sym e)
+  pub same_without : (done one rest left whole : Entries Wrapper item.Leaf) → left ≡ one ▷ rest → SameWhere p nil one → ServesWhere p (done ▷ left) whole → ServesWhere p (done ▷ rest) whole
+  same_without done one rest left whole e s t = serves_less done rest left whole (serves_past one rest left e s) t
 
   -- none is left to be looked at
-  pub same_last : (es whole : Entries Wrapper item.Leaf) (done ps : List Pick) (i : ℕ) → length ps ≤ i → SameWhere p (picked done es ▷ picked (drop i ps) es) whole → SameWhere p (picked done es) whole
+  pub same_last : (es whole : Entries Wrapper item.Leaf) (done ps : List Pick) (i : ℕ) → length ps ≤ i → ServesWhere p (picked done es ▷ picked (drop i ps) es) whole → ServesWhere p (picked done es) whole
   same_last es whole done ps i h s =
-      same_then (picked done es) (picked done es ▷ picked (drop i ps) es) whole
-      (same_by (picked done es) (picked done es ▷ picked (drop i ps) es) (sym (ap (λ qs. picked done es ▷ picked qs es) (drop_all i ps h) ∙ ap (λ xs. picked done es ▷ xs) (picked-none es) ∙ join-nil (picked done es)))) s
+      serves_then (picked done es) (picked done es ▷ picked (drop i ps) es) whole
+      (serves_by (picked done es) (picked done es ▷ picked (drop i ps) es) (sym (ap (λ qs. picked done es ▷ picked qs es) (drop_all i ps h) ∙ ap (λ xs. picked done es ▷ xs) (picked-none es) ∙ join-nil (picked done es)))) s
 
 pub leaf_unseen : (l : item.Leaf) (y0 y1 : ℤ) → ((y : ℤ) → y0 ≤ℤ y → y <ℤ y1 → is_among l.visible.y l.visible.h y ≡ false) → SameWhere (InRows y0 y1) nil (leaf l nil)
 leaf_unseen l y0 y1 h x y d r = sym (rw (unshown l y (h y r.0 r.1) x) refl)
@@ -87,17 +107,17 @@ module _ (p : ℤ → ℤ → Type 0) where
   pub nothing_inside : (n : ℕ) (qs own : List Pick) (es fs : Entries Wrapper item.Leaf) → n ≡ 0 → es ≡ fs → SameWhere p (picked (take n qs) es) (picked own es) → SameWhere p nil (picked own fs)
   nothing_inside n qs own es fs e f s x y d h = sym (ap (λ ts. composed x y d ts) (ap (λ k. picked (take k qs) es) e ∙ picked-none es)) ∙ s x y d h ∙ ap (λ ts. composed x y d (picked own ts)) f
 
-  pub some_inside : (ps qs own : List Pick) (es fs : Entries Wrapper item.Leaf) → ps ≡ qs → es ≡ fs → SameWhere p (picked ps es) (picked own es) → SameWhere p (picked qs fs) (picked own fs)
-  some_inside ps qs own es fs e f s x y d h = sym (ap (λ ts. composed x y d (picked ps ts)) f ∙ ap (λ ts. composed x y d (picked ts fs)) e) ∙ s x y d h ∙ ap (λ ts. composed x y d (picked own ts)) f
+  pub some_inside : (ps qs own : List Pick) (es fs : Entries Wrapper item.Leaf) → ps ≡ qs → es ≡ fs → ServesWhere p (picked ps es) (picked own es) → ServesWhere p (picked qs fs) (picked own fs)
+  some_inside ps qs own es fs e f s = rw (← e, ← f) s
 
   -- the picks of one more entry have been written
   pub written_more : (es whole one rest left : Entries Wrapper item.Leaf) (room mid : List Pick) (count more n : ℕ) → count ≤ length room → more ≤ length mid → left ≡ one ▷ rest
-      → IsClosed (take count room) → IsClosed (take more mid) → SameWhere p (picked (take count room) es ▷ left) whole → SameWhere p (picked (take more mid) es) one
-      → IsClosed (take (count + more) (take count room ++ (mid ++ drop n (drop count room)))) × SameWhere p (picked (take (count + more) (take count room ++ (mid ++ drop n (drop count room)))) es ▷ rest) whole
+      → IsClosed (take count room) → IsClosed (take more mid) → ServesWhere p (picked (take count room) es ▷ left) whole → ServesWhere p (picked (take more mid) es) one
+      → IsClosed (take (count + more) (take count room ++ (mid ++ drop n (drop count room)))) × ServesWhere p (picked (take (count + more) (take count room ++ (mid ++ drop n (drop count room)))) es ▷ rest) whole
   written_more es whole one rest left room mid count more n h k e c d s t =
       let w = sym (put_taken count n more room mid h k) in (
         subst IsClosed w (closed_append (take count room) (take more mid) c d),
-        subst (λ ts. SameWhere p (picked ts es ▷ rest) whole) w (same_more p es one rest whole (take count room) (take more mid) c (λ x y q h. ap (λ xs. composed x y q (picked (take count room) es ▷ xs)) (sym e) ∙ s x y q h) t),
+        subst (λ ts. ServesWhere p (picked ts es ▷ rest) whole) w (same_more p es one rest whole (take count room) (take more mid) c (subst (λ xs. ServesWhere p (picked (take count room) es ▷ xs) whole) e s) t),
       )
 
 last_false : (a b v : Bool) → v ≡ false → (a && b && v) ≡ false

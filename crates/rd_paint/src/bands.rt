@@ -1,6 +1,6 @@
 //! Painting bands of rows, each with picks of those entries alone that may show in it.
 
-ghost use Rattle.std.specs.Prelude.{◌≡◌, ℕ, ℤ, pos, ◌+◌, ◌-◌, ◌*◌, ◌^◌, ◌≤◌, ◌<◌, ◌+ℤ◌, ◌≤ℤ◌, ◌<ℤ◌, ◌∷◌, [], IsTrue, IsFalse, length, get_or, unsigned_abs};
+ghost use Rattle.std.specs.Prelude.{◌≡◌, ℕ, ℤ, pos, ◌+◌, ◌-◌, ◌*◌, ◌^◌, ◌≤◌, ◌<◌, ◌+ℤ◌, ◌≤ℤ◌, ◌<ℤ◌, ◌∷◌, [], IsTrue, IsFalse, length, get_or, unsigned_abs, vec_capacity};
 ghost use Rattle.rd_geom.specs.Colors.{white, clear};
 ghost use Rattle.rd_area.specs.Rows.{IsRising};
 ghost use Rattle.rd_list.specs.Displayed.{shown};
@@ -12,6 +12,7 @@ ghost use Rattle.rd_paint.specs.Internal.Picks.{picked};
 ghost use Rattle.rd_paint.specs.Pictures.{size_of};
 ghost use Rattle.rd_paint.specs.Repainted.{IsRepainted};
 
+use crate::buffers::open_for;
 use crate::canvas::Canvas;
 use crate::chosen::lay_picks;
 use crate::covering::cover;
@@ -35,7 +36,7 @@ fn paint_picks<A: Ledger>(
     out: &mut [Px],
     rows: &mut [Px],
 )
-    requires rows { length out.old * (levels (kept_entries entries.now) - 1) ≤ length rows.old }
+    requires rows { length out.old * (levels (picked picks.now (shown entries.now)) - 1) ≤ length rows.old }
     requires from { pos 0 ≤ℤ x0 }
     requires within { (x0 +ℤ pos (length out.old)) ≤ℤ pos 4096 }
     ensures { (k : ℕ) → k < length out.old → get_or out.new k clear
@@ -65,7 +66,7 @@ fn paint_piece<A: Ledger>(
     requires order { span.x0 ≤ℤ span.x1 }
     requires within { span.x1 ≤ℤ pos canvas.old.width }
     requires wide { canvas.old.width ≤ 4096 }
-    requires rows { canvas.old.width * (levels (kept_entries entries.now) - 1) ≤ length rows.old }
+    requires rows { canvas.old.width * (levels (picked picks.now (shown entries.now)) - 1) ≤ length rows.old }
     ensures { IsRowPainted (picked picks.now (shown entries.now)) (span ∷ []) (unsigned_abs y) canvas.old canvas.new }
 {
     let out = canvas.span_mut(y, span.x0, span.x1);
@@ -85,7 +86,7 @@ fn paint_row<A: Ledger>(
     requires on { y <ℤ pos canvas.old.height }
     requires rising { IsRising (pos 0) (pos canvas.old.width) spans.now }
     requires wide { canvas.old.width ≤ 4096 }
-    requires rows { canvas.old.width * (levels (kept_entries entries.now) - 1) ≤ length rows.old }
+    requires rows { canvas.old.width * (levels (picked picks.now (shown entries.now)) - 1) ≤ length rows.old }
     ensures { IsRowPainted (picked picks.now (shown entries.now)) spans.now (unsigned_abs y) canvas.old canvas.new }
 {
     for span in spans {
@@ -108,7 +109,7 @@ fn paint_rows<A: Ledger>(
     requires wide { canvas.old.width ≤ 4096 }
     requires high { canvas.old.height ≤ 4096 }
     requires area { area.now.size ≡ size_of canvas.old }
-    requires rows { canvas.old.width * (levels (kept_entries entries.now) - 1) ≤ length rows.old }
+    requires rows { canvas.old.width * (levels (picked picks.now (shown entries.now)) - 1) ≤ length rows.old }
     ensures { IsBandPainted (picked picks.now (shown entries.now)) area.now y0 y1 canvas.old canvas.new }
 {
     for row in y0..y1 {
@@ -137,7 +138,7 @@ fn paint_band<A: Ledger>(
     requires wide { canvas.old.width ≤ 4096 }
     requires high { canvas.old.height ≤ 4096 }
     requires area { area.now.size ≡ size_of canvas.old }
-    requires rows { canvas.old.width * (levels (kept_entries entries.now) - 1) ≤ length rows.old }
+    requires rows { canvas.old.width * (levels (picked picks.now (shown entries.now)) - 1) ≤ length rows.old }
     requires few { length picks.now < 2 ^ 32 }
     ensures { IsBandPainted (picked picks.now (shown entries.now)) area.now y0 y1 canvas.old canvas.new }
 {
@@ -171,7 +172,7 @@ fn paint_half<A: Ledger>(
     requires wide { canvas.old.width ≤ 4096 }
     requires high { canvas.old.height ≤ 4096 }
     requires area { area.now.size ≡ size_of canvas.old }
-    requires rows { canvas.old.width * (levels (kept_entries entries.now) - 1) ≤ length rows.old }
+    requires rows { canvas.old.width * (levels (picked picks.now (shown entries.now)) - 1) ≤ length rows.old }
     requires few { length picks.now < 2 ^ 32 }
     requires room { length picks.now ≤ length room.old }
     ensures { IsBandPainted (picked picks.now (shown entries.now)) area.now y0 y1 canvas.old canvas.new }
@@ -186,14 +187,15 @@ pub(crate) fn paint_all<A: Ledger>(
     canvas: &mut Canvas,
     entries: &[Entry<A>],
     area: &Area,
-    rows: &mut [Px],
+    rows: &mut Vec<Px>,
     room: &mut [Pick],
 ) -> bool
     requires wide { canvas.old.width ≤ 4096 }
     requires high { canvas.old.height ≤ 4096 }
     requires area { area.now.size ≡ size_of canvas.old }
-    requires rows { canvas.old.width * (levels (kept_entries entries.now) - 1) ≤ length rows.old }
+    requires rows { canvas.old.width * (levels (kept_entries entries.now) - 1) ≤ vec_capacity rows.old }
     requires few { length room.old < 2 ^ 32 }
+    ensures rows { vec_capacity rows.old ≤ vec_capacity rows.new }
     ensures painted { IsTrue result → IsRepainted (shown entries.now) area.now canvas.old canvas.new }
     ensures same { IsFalse result → canvas.new ≡ canvas.old }
 {
@@ -203,6 +205,7 @@ pub(crate) fn paint_all<A: Ledger>(
         return false;
     };
     let (own, rest) = room.split_at_mut(count);
+    open_for(rows, own, size.w as usize);
     paint_band(
         canvas,
         entries,

@@ -3,16 +3,20 @@
 ghost use Rattle.std.specs.Prelude.{◌≡◌, ℕ, ℤ, pos, ◌-◌, ◌*◌, ◌≤◌, ◌<◌, ◌^◌, ◌+ℤ◌, ◌≤ℤ◌, ◌<ℤ◌, IfOk, length, get_or, drop, unsigned_abs, vec_capacity};
 ghost use Rattle.rd_geom.specs.Canvas.{IsCanvas};
 ghost use Rattle.rd_geom.specs.Colors.{white, clear};
+ghost use Rattle.rd_item.specs.declared.leaf.Leaf as item;
+ghost use Rattle.rd_list.specs.Entries.{Entries};
 ghost use Rattle.rd_list.specs.EntryNames.{kept_leaves};
 ghost use Rattle.rd_list.specs.Lists.{composed};
 ghost use Rattle.rd_list.specs.Views.{levels};
+ghost use Rattle.rd_list.specs.Wrappers.{Wrapper};
+ghost use Rattle.rd_paint.specs.Internal.Picks.{picked};
 ghost use Rattle.rd_paint.specs.Parts.{entry_count, entries_from};
 ghost use Rattle.rd_paint.specs.Pictures.{size_of};
 ghost use Rattle.rd_paint.specs.Repainted.{IsRepainted};
 
 use crate::bands::paint_all;
 use crate::canvas::Canvas;
-use crate::picks::{MOST, Pick};
+use crate::picks::{MOST, Pick, depth_of};
 use crate::plain::repaint_plainly;
 use crate::runs::fill;
 use crate::spans::lay_all;
@@ -103,6 +107,18 @@ fn open(pixels: &mut Vec<Px>, count: usize)
     }
 }
 
+/// Makes rows enough for what picks name, as far as there is memory for them.
+pub(crate) fn open_for(pixels: &mut Vec<Px>, picks: &[Pick], width: usize)
+    requires wide { width ≤ 4096 }
+    requires few { length picks.now < 2 ^ 32 }
+    ensures long { (es : Entries Wrapper item.Leaf) → width * (levels (picked picks.now es) - 1) ≤ vec_capacity pixels.old
+        → width * (levels (picked picks.now es) - 1) ≤ length pixels.new.items }
+    ensures memory { vec_capacity pixels.old ≤ vec_capacity pixels.new }
+{
+    let count = (depth_of(picks) * width).min(pixels.capacity());
+    open(pixels, count);
+}
+
 /// How many pixels so many rows have.
 fn pixels_of(rows: u32, size: Size) -> usize
     requires { IsCanvas size }
@@ -158,7 +174,6 @@ pub fn repaint<A: Ledger>(
     ensures painted { IsRepainted (kept_leaves list.entry.list.now.entries) area.now canvas.old canvas.new }
     ensures same { buffers.new ≡ buffers.old }
 {
-    open(&mut buffers.pixels, pixels_of(list.depth(), buffers.size));
     let entries = list.entries();
     let rows = &mut buffers.pixels;
     let room = &mut buffers.room;

@@ -3,7 +3,6 @@
 ghost use Rattle.std.specs.Prelude.{◌≡◌, ℤ, pos, ◌+◌, ◌-◌, ◌*◌, ◌≤◌, ◌+ℤ◌, ◌≤ℤ◌, ◌∷◌, [], length};
 ghost use Rattle.rd_list.specs.Displayed.{shown};
 ghost use Rattle.rd_list.specs.EntryNames.{kept_leaves};
-ghost use Rattle.rd_list.specs.KeptView.{kept_entries};
 ghost use Rattle.rd_list.specs.Views.{levels, deeper};
 ghost use Rattle.rd_paint.specs.Internal.Picks.{chosen, picked};
 ghost use Rattle.rd_paint.specs.Internal.Runs.{laid_along, laid_along_group};
@@ -26,7 +25,7 @@ pub(crate) fn lay_picks<A: Ledger>(
     out: &mut [Px],
     rows: &mut [Px],
 )
-    requires rows { length out.old * (levels (kept_entries entries.now) - 1) ≤ length rows.old }
+    requires rows { length out.old * (levels (picked picks.now (shown entries.now)) - 1) ≤ length rows.old }
     requires from { pos 0 ≤ℤ x0 }
     requires within { (x0 +ℤ pos (length out.old)) ≤ℤ pos 4096 }
     ensures { out.new ≡ laid_along y x0 (picked picks.now (shown entries.now)) out.old }
@@ -50,7 +49,7 @@ fn lay_at<A: Ledger>(
     out: &mut [Px],
     rows: &mut [Px],
 )
-    requires rows { length out.old * (levels (kept_entries entries.now) - 1) ≤ length rows.old }
+    requires rows { length out.old * (levels (chosen own.now place (shown entries.now)) - 1) ≤ length rows.old }
     requires from { pos 0 ≤ℤ x0 }
     requires within { (x0 +ℤ pos (length out.old)) ≤ℤ pos 4096 }
     ensures { out.new ≡ laid_along y x0 (chosen own.now place (shown entries.now)) out.old }
@@ -70,7 +69,7 @@ fn lay_pick<A: Ledger>(
     out: &mut [Px],
     rows: &mut [Px],
 )
-    requires rows { length out.old * (levels (kept_entries (entry.now ∷ [])) - 1) ≤ length rows.old }
+    requires rows { length out.old * (levels (chosen own.now 0 (shown (entry.now ∷ []))) - 1) ≤ length rows.old }
     requires from { pos 0 ≤ℤ x0 }
     requires within { (x0 +ℤ pos (length out.old)) ≤ℤ pos 4096 }
     ensures { out.new ≡ laid_along y x0 (chosen own.now 0 (shown (entry.now ∷ []))) out.old }
@@ -92,7 +91,8 @@ fn lay_own<A: Ledger>(
     out: &mut [Px],
     rows: &mut [Px],
 )
-    requires rows { length out.old * (deeper (levels inner.now.entries) - 1) ≤ length rows.old }
+    requires rows { length out.old * (deeper (levels (picked own.now (kept_leaves inner.now.entries))) - 1)
+        ≤ length rows.old }
     requires from { pos 0 ≤ℤ x0 }
     requires within { (x0 +ℤ pos (length out.old)) ≤ℤ pos 4096 }
     ensures { out.new ≡ laid_along_group y x0 opacity (picked own.now (kept_leaves inner.now.entries)) out.old }
@@ -105,7 +105,7 @@ fn lay_own<A: Ledger>(
 }
 
 /// Paints what picks name of a group into the first of the rows, clear at first, and lays that over the pixels.
-/// Where no row is left there is no leaf in the group.
+/// Where no row is left they name no leaf.
 #[cycle(choosing)]
 fn lay_seen<A: Ledger>(
     opacity: u8,
@@ -116,7 +116,8 @@ fn lay_seen<A: Ledger>(
     out: &mut [Px],
     rows: &mut [Px],
 )
-    requires rows { length out.old * (deeper (levels inner.now.entries) - 1) ≤ length rows.old }
+    requires rows { length out.old * (deeper (levels (picked own.now (kept_leaves inner.now.entries))) - 1)
+        ≤ length rows.old }
     requires from { pos 0 ≤ℤ x0 }
     requires within { (x0 +ℤ pos (length out.old)) ≤ℤ pos 4096 }
     ensures { out.new ≡ laid_along_group y x0 opacity (picked own.now (kept_leaves inner.now.entries)) out.old }

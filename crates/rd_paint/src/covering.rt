@@ -7,6 +7,7 @@ ghost use Rattle.rd_item.specs.Leaves as leaves;
 ghost use Rattle.rd_list.specs.Displayed.{shown};
 ghost use Rattle.rd_list.specs.Entries as list;
 ghost use Rattle.rd_list.specs.Lists.{composed};
+ghost use Rattle.rd_list.specs.Views.{levels};
 ghost use Rattle.rd_paint.specs.Internal.Picks.{Hides, chosen, picked};
 ghost use Rattle.rd_paint.specs.declared.picks.Pick as named;
 
@@ -87,6 +88,8 @@ pub(crate) fn cover<A: Ledger>(
     requires from { pos 0 ≤ℤ x0 }
     requires within { (x0 +ℤ pos count) ≤ℤ pos 4096 }
     ensures within { IfSome result (λ i. i ≤ length picks.now) }
+    ensures levels { IfSome result (λ i. levels (picked (drop i picks.now) (shown entries.now))
+        ≤ levels (picked picks.now (shown entries.now))) }
     ensures hides { IfSome result (λ i. (k : ℕ) (d e : Premultiplied) → k < count
         → composed (x0 +ℤ pos k) y d (picked (drop i picks.now) (shown entries.now))
         ≡ composed (x0 +ℤ pos k) y e (picked picks.now (shown entries.now))) }

@@ -1,12 +1,13 @@
 //! Picks of all entries of a list that may show in an area.
 
-ghost use Rattle.std.specs.Prelude.{◌≡◌, ℤ, ◌+◌, ◌^◌, ◌≤◌, ◌<◌, ◌∷◌, [], IfSome, IsTrue, false, length, take};
+ghost use Rattle.std.specs.Prelude.{◌≡◌, ℤ, ◌+◌, ◌^◌, ◌≤◌, ◌<◌, ◌∷◌, [], IfSome, IsTrue, false, length, take, drop};
 ghost use Rattle.rd_geom.specs.Plane.{holds_pixel};
 ghost use Rattle.rd_list.specs.Displayed.{shown};
 ghost use Rattle.rd_list.specs.Entries as list;
 ghost use Rattle.rd_list.specs.EntryNames.{kept_leaves};
+ghost use Rattle.rd_list.specs.Views.{levels};
 ghost use Rattle.rd_list.specs.Wrappers.{Wrapper};
-ghost use Rattle.rd_paint.specs.Internal.Picks.{InAreaWithin, InSpans, IsClosed, SameWhere, ShowsFor, picked};
+ghost use Rattle.rd_paint.specs.Internal.Picks.{InAreaWithin, InSpans, IsClosed, SameWhere, ServesWhere, ShowsFor, picked};
 
 use crate::picks::{MOST, Pick, put};
 use rd_area::Area;
@@ -29,14 +30,24 @@ pub(crate) fn gather<A: Ledger>(
     ensures within { IfSome result (λ n. n ≤ length room.old) }
     ensures same { IfSome result (λ n. SameWhere (InAreaWithin area.now columns rows)
         (picked (take n room.new) (shown entries.now)) (shown entries.now)) }
+    ensures levels { IfSome result (λ n. levels (picked (take n room.new) (shown entries.now))
+        ≤ levels (shown entries.now)) }
 {
     let mut count = 0;
-    for (i, entry) in entries.iter().enumerate() {
+    let mut i = 0;
+    while i < entries.len() {
+        if entries.len() - i >= 4 && four_outside(entries, i, columns, rows) {
+            i += 4;
+            continue;
+        }
+        let entry = &entries[i];
         if lies_outside(entry, columns, rows) {
+            i += 1;
             continue;
         }
         let more = gather_one(entry, i, area, columns, rows, &mut room[count..])?;
         count += more;
+        i += 1;
     }
     Some(count)
 }
@@ -67,6 +78,25 @@ fn lies_outside<A: Ledger>(entry: &Entry<A>, columns: Span, rows: Span) -> bool
         Entry::Leaf(item) => misses(item.visible(), columns, rows),
         Entry::Group(_) => false,
     }
+}
+
+/// Are the four entries from a place on such leaves?
+#[inline(always)]
+fn four_outside<A: Ledger>(entries: &[Entry<A>], i: usize, columns: Span, rows: Span) -> bool
+    requires { i + 4 ≤ length entries.now }
+    ensures { IsTrue result → ServesWhere (InSpans columns rows)
+        (shown (drop (i + 4) entries.now)) (shown (drop i entries.now)) }
+{
+    if !lies_outside(&entries[i], columns, rows) {
+        return false;
+    }
+    if !lies_outside(&entries[i + 1], columns, rows) {
+        return false;
+    }
+    if !lies_outside(&entries[i + 2], columns, rows) {
+        return false;
+    }
+    lies_outside(&entries[i + 3], columns, rows)
 }
 
 /// Writes picks of the entry at a place.

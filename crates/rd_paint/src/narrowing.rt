@@ -5,8 +5,9 @@ ghost use Rattle.rd_geom.specs.Plane.{is_among};
 ghost use Rattle.rd_list.specs.Displayed.{shown};
 ghost use Rattle.rd_list.specs.Entries as list;
 ghost use Rattle.rd_list.specs.EntryNames.{kept_leaves};
+ghost use Rattle.rd_list.specs.Views.{levels};
 ghost use Rattle.rd_list.specs.Wrappers.{Wrapper};
-ghost use Rattle.rd_paint.specs.Internal.Picks.{InRows, IsClosed, SameWhere, ShowsFor, chosen, picked};
+ghost use Rattle.rd_paint.specs.Internal.Picks.{InRows, IsClosed, SameWhere, ServesWhere, ShowsFor, chosen, picked};
 
 use crate::picks::{Pick, pick_at, put};
 use rd_geom::Rect;
@@ -37,6 +38,8 @@ pub(crate) fn narrow<A: Ledger>(
     ensures within { result ≤ length picks.now }
     ensures same { SameWhere (InRows y0 y1)
         (picked (take result room.new) (shown entries.now)) (picked picks.now (shown entries.now)) }
+    ensures levels { levels (picked (take result room.new) (shown entries.now))
+        ≤ levels (picked picks.now (shown entries.now)) }
 {
     let mut i = 0;
     let mut count = 0;
@@ -63,7 +66,7 @@ fn narrow_at<A: Ledger>(
     requires room { 1 + length own.now ≤ length room.old }
     ensures within { result ≤ 1 + length own.now }
     ensures closed { IsClosed (take result room.new) }
-    ensures same { SameWhere (InRows y0 y1)
+    ensures same { ServesWhere (InRows y0 y1)
         (picked (take result room.new) (shown entries.now)) (chosen own.now place (shown entries.now)) }
 {
     let index = place as usize;

@@ -1,8 +1,9 @@
 //! Picks: the entries of a list that may show, those in groups too.
 
-ghost use Rattle.std.specs.Prelude.{◌≡◌, ◌+◌, ◌≤◌, ◌<◌, ◌^◌, ◌∷◌, length, take, drop};
+ghost use Rattle.std.specs.Prelude.{◌≡◌, ℕ, ◌+◌, ◌≤◌, ◌<◌, ◌^◌, ◌∷◌, length, take, drop};
 ghost use Rattle.rd_item.specs.declared.leaf.Leaf as item;
 ghost use Rattle.rd_list.specs.Entries.{Entries, ◌▷◌};
+ghost use Rattle.rd_list.specs.Views.{levels};
 ghost use Rattle.rd_list.specs.Wrappers.{Wrapper};
 ghost use Rattle.rd_paint.specs.Internal.Picks.{chosen, picked};
 
@@ -36,6 +37,34 @@ pub(crate) fn pick_at(picks: &[Pick], i: usize) -> (u32, &[Pick])
     let most = picks.len() - from;
     let inside = (pick.inside as usize).min(most);
     (pick.place, &picks[from..from + inside])
+}
+
+/// How many groups stand at most round an entry that picks name: no list that they are of has more.
+#[cycle(nesting)]
+pub(crate) fn depth_of(picks: &[Pick]) -> usize
+    ensures within { result ≤ length picks.now }
+    ensures deep { (es : Entries Wrapper item.Leaf) → levels (picked picks.now es) ≤ result + 1 }
+{
+    let mut most: usize = 0;
+    let mut i = 0;
+    while i < picks.len() {
+        let (_, own) = pick_at(picks, i);
+        most = most.max(depth_at(own));
+        i = i + 1 + own.len();
+    }
+    most
+}
+
+/// How many groups stand at most round what a pick names: it is one itself where other picks are of its list.
+#[cycle(nesting)]
+fn depth_at(own: &[Pick]) -> usize
+    ensures within { result ≤ 1 + length own.now }
+    ensures deep { (place : ℕ) (es : Entries Wrapper item.Leaf) → levels (chosen own.now place es) ≤ result + 1 }
+{
+    if own.is_empty() {
+        return 0;
+    }
+    1 + depth_of(own)
 }
 
 /// Writes the pick of a place before those of its list, which stand there already; says how many there are then.

@@ -1,5 +1,5 @@
 -- Entries that are picked from a list, in groups too.
-use Rattle.std.specs.Prelude.{◌≡◌, ℕ, zero, suc, ℤ, pos, false, ◌<◌, ◌+ℤ◌, ◌≤ℤ◌, ◌<ℤ◌, IsTrue, List, [], ◌∷◌, ◌++◌, length, take, drop}
+use Rattle.std.specs.Prelude.{◌≡◌, ℕ, zero, suc, ℤ, pos, false, ◌<◌, ◌≤◌, ◌+ℤ◌, ◌≤ℤ◌, ◌<ℤ◌, IsTrue, List, [], ◌∷◌, ◌++◌, length, take, drop}
 use Rattle.rd_geom.specs.Colors.{Premultiplied}
 use Rattle.rd_geom.specs.Areas.{Region, in_area, in_span}
 use Rattle.rd_geom.specs.declared.span.Span.{Span}
@@ -7,6 +7,7 @@ use Rattle.rd_item.specs.declared.leaf.Leaf.{Leaf}
 use Rattle.rd_list.specs.Wrappers.{Wrapper}
 use Rattle.rd_list.specs.Entries.{Entries, nil, leaf, group, ◌▷◌}
 use Rattle.rd_list.specs.Lists.{composed}
+use Rattle.rd_list.specs.Views.{levels}
 use Rattle.rd_paint.specs.declared.picks.Pick.{Pick}
 
 -- the entry at a place, where there is one; a group with what is made of its own list
@@ -40,13 +41,17 @@ IsClosed xs = (ys : List Pick) (es : Entries Wrapper Leaf) → picked (xs ++ ys)
 abbrev pub SameWhere : (ℤ → ℤ → Type 0) → Entries Wrapper Leaf → Entries Wrapper Leaf → Type 0
 SameWhere p es fs = (x y : ℤ) (d : Premultiplied) → p x y → composed x y d es ≡ composed x y d fs
 
+-- the first shows the same as the second at some pixels, and no leaf of it has more groups round it
+abbrev pub ServesWhere : (ℤ → ℤ → Type 0) → Entries Wrapper Leaf → Entries Wrapper Leaf → Type 0
+ServesWhere p es fs = SameWhere p es fs × (levels es ≤ levels fs)
+
 -- an entry, alone in a list, stands at a place of another list
 abbrev pub StandsAt : ℕ → Entries Wrapper Leaf → Entries Wrapper Leaf → Type 0
 StandsAt place one es = (f : Entries Wrapper Leaf → Entries Wrapper Leaf) → entry_at f place es ≡ entry_at f 0 one
 
--- what these picks name of an entry at a place shows the same as what is wanted of it
+-- what these picks name of an entry at a place serves for what is wanted of it
 abbrev pub ShowsFor : (ℤ → ℤ → Type 0) → ℕ → Entries Wrapper Leaf → Entries Wrapper Leaf → List Pick → Type 0
-ShowsFor p place one want ps = (es : Entries Wrapper Leaf) → StandsAt place one es → SameWhere p (picked ps es) want
+ShowsFor p place one want ps = (es : Entries Wrapper Leaf) → StandsAt place one es → ServesWhere p (picked ps es) want
 
 -- in the rows from y0 up to y1
 abbrev pub InRows : ℤ → ℤ → ℤ → ℤ → Type 0

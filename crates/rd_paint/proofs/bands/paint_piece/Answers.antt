@@ -3,7 +3,6 @@ use Rattle.std.specs.Prelude.{unsigned_abs}
 use Rattle.std.proofs.lemmas.Int.{to_z-of_z, ints}
 use Rattle.std.proofs.Math.Nat.{mul-le-mul_right}
 use Rattle.rd_list.specs.Displayed.{shown}
-use Rattle.rd_list.specs.KeptView.{kept_entries}
 use Rattle.rd_list.specs.Views.{levels}
 use Rattle.rd_paint.specs.Internal.Picks.{picked}
 use Rattle.rd_paint.proofs.Repainting.{span_painted}
@@ -15,7 +14,7 @@ paint_picks-requires-clause-rows g c =
     let f1 : FitsSigned w32 c.args.span.x1 = search rules in
     let len0 = simp to_z-of_z at c.span_mut-out.ensures.len in
     let short : length c.span_mut-out.result.now ≤ c.args.canvas.now.width = omega (arith, ints, len0) in
-    let p = mul-le-mul_right (levels (kept_entries c.args.entries.now) - 1) short in
+    let p = mul-le-mul_right (levels (picked c.args.picks.now (shown c.args.entries.now)) - 1) short in
     omega (arith, p, c.requires.rows)
 
 pub returns : goal.returns

@@ -1,4 +1,4 @@
-use Rattle.std.proofs.Common.{◌≡◌, ◌≤◌, ◌+◌, ◌-◌, min, length, length-take, length-drop, drop, arith, sym, ap, ◌∙◌, FitsSigned, w32, rules}
+use Rattle.std.proofs.Common.{◌≡◌, ◌≤◌, ◌+◌, ◌-◌, ◌∷◌, [], suc, min, length, length-take, length-drop, drop, arith, sym, ap, ◌∙◌, FitsSigned, w32, rules}
 use Rattle.std.proofs.lemmas.Int.{to_z-of_z, ints}
 use Rattle.rd_geom.specs.Colors.{clear}
 use Rattle.rd_item.specs.declared.leaf.Leaf as item
@@ -15,9 +15,9 @@ use Rattle.rd_list.proofs.Viewing.{size_at}
 use Rattle.rd_paint.specs.Internal.Picks.{picked, chosen}
 use Rattle.rd_paint.specs.Internal.Runs.{laid_along}
 use Rattle.rd_paint.proofs.Choosing.{laid_on, laid_off}
-use Rattle.rd_paint.proofs.Depths.{rows_at, rows_left, rows_within, no_rows, nothing_shown, levels-leaves}
+use Rattle.rd_paint.proofs.Depths.{group_levels, join_has, levels_by, rows_levels, rows_by, rows_same, rows_left, rows_within, no_rows, nothing_shown}
 use Rattle.rd_paint.proofs.Laying.{laid_along-nil, laid_none, group_from}
-use Rattle.rd_paint.proofs.Picking.{entry_at-shown, entry_at-past, entry_at-leaf, entry_at-group, picked_leafless}
+use Rattle.rd_paint.proofs.Picking.{entry_at-shown, entry_at-past, entry_at-leaf, entry_at-group}
 use Rattle.rd_paint.proofs.Seen.{seen_laid, unseen_laid}
 use Rattle.rd_paint.proofs.chosen.+choosing.Goals as goal
 
@@ -27,7 +27,8 @@ entries_of k = k.entries
 pub lay_at-lay_pick-requires : goal.lay_at-lay_pick-requires
 lay_at-lay_pick-requires g t c κs within =
     let s = size_at c.args.entries.now c.args.place c.index-entries-index.result c.if-index-entries.true c.index-entries-index.is in
-    let r = rows_at (length c.args.out.now) (length c.args.rows.now) c.args.entries.now c.args.place c.index-entries-index.result c.if-index-entries.true c.index-entries-index.is c.requires.rows in
+    let e = entry_at-shown (picked c.args.own.now) c.args.entries.now c.args.place c.index-entries-index.result c.if-index-entries.true c.index-entries-index.is in
+    let r = rows_same (length c.args.out.now) (length c.args.rows.now) _ _ e c.requires.rows in
     (omega (arith, s, c.decreases), (within, (r, (omega (arith, ints), omega (arith, ints)))))
 
 pub lay_at-returns-then-index-entries : goal.lay_at-returns-then-index-entries
@@ -45,7 +46,7 @@ lay_at-returns-else-index-entries g t c =
 pub lay_own-lay_seen-requires : goal.lay_own-lay_seen-requires
 lay_own-lay_seen-requires g t c κs within =
     let short : min (c.places-from.result.1 - c.places-from.result.0) (length c.args.out.now - c.places-from.result.0) ≤ length c.args.out.now = omega arith in
-    (omega (arith, c.decreases), (within, (rows_within _ (length c.args.out.now) (deeper (levels c.args.inner.now.entries) - 1) (length c.args.rows.now) (simp (length-take, length-drop) short) c.requires.rows, (omega (arith, ints), simp (length-take, length-drop) (omega (arith, ints))))))
+    (omega (arith, c.decreases), (within, (rows_within _ (length c.args.out.now) (deeper (levels (picked c.args.own.now (kept_leaves c.args.inner.now.entries))) - 1) (length c.args.rows.now) (simp (length-take, length-drop) short) c.requires.rows, (omega (arith, ints), simp (length-take, length-drop) (omega (arith, ints))))))
 
 pub lay_own-returns-then-from-to : goal.lay_own-returns-then-from-to
 lay_own-returns-then-from-to g t c =
@@ -65,20 +66,20 @@ lay_own-returns-else-from-to g t c =
 
 pub lay_seen-returns-then-rows-n : goal.lay_seen-returns-then-rows-n
 lay_seen-returns-then-rows-n g t c =
-    let none = no_rows (length c.args.out.now) (length c.args.rows.now) (levels c.args.inner.now.entries) (omega arith) c.requires.rows in
+    let none = no_rows (length c.args.out.now) (length c.args.rows.now) (levels (picked c.args.own.now (kept_leaves c.args.inner.now.entries))) (omega arith) c.requires.rows in
     sym (laid_none c.args.y c.args.x0 c.args.opacity (picked c.args.own.now (kept_leaves c.args.inner.now.entries)) c.args.out.now
-    (λ x y. nothing_shown x y clear (picked c.args.own.now (kept_leaves c.args.inner.now.entries)) (picked_leafless c.args.own.now (kept_leaves c.args.inner.now.entries) (levels-leaves c.args.inner.now.entries ∙ none))))
+    (λ x y. nothing_shown x y clear (picked c.args.own.now (kept_leaves c.args.inner.now.entries)) none))
 
 pub lay_seen-lay_picks-requires : goal.lay_seen-lay_picks-requires
 lay_seen-lay_picks-requires g t c κs within =
     let e : kept_entries c.deref.result.now ≡ c.args.inner.now.entries = ap kept_entries c.deref.ensures.value ∙ ap entries_of c.inner.view_is in
     let n = ap (λ (es : Entries (Ordered EntryKey Wrapper) Made). list_size es) e in
-    let l = ap (λ (es : Entries (Ordered EntryKey Wrapper) Made). levels es) e in (
+    let l = ap (λ (es : Entries (Ordered EntryKey Wrapper) Made). levels (picked c.args.own.now (kept_leaves es))) e in (
       omega (arith, n, c.decreases),
       (
         within,
         (
-          rows_left (length c.args.out.now) (length c.args.rows.now) (levels c.args.inner.now.entries) _ _ _ (omega arith) c.requires.rows (c.fill.auto.out ∙ c.split_at_mut-row.ensures.front_len) (omega (arith, c.split_at_mut-row.ensures.back_len)) l,
+          rows_left (length c.args.out.now) (length c.args.rows.now) (levels (picked c.args.own.now (kept_leaves c.args.inner.now.entries))) _ _ _ (omega arith) c.requires.rows (c.fill.auto.out ∙ c.split_at_mut-row.ensures.front_len) (omega (arith, c.split_at_mut-row.ensures.back_len)) l,
           (omega (arith, ints), omega (arith, ints, c.fill.auto.out, c.split_at_mut-row.ensures.front_len)),
         ),
       ),
@@ -115,6 +116,11 @@ lay_picks-loop-i-preserved g t c =
     let one = simp to_z-of_z at c.lay_at.ensures in
     record {
       within = omega (arith, c.pick_at-place.ensures.within);
+      levels =
+          let h = join_has (chosen c.pick_at-place.result.1.now c.pick_at-place.result.0 (shown c.args.entries.now)) (picked (drop (c.loop-i.i + 1 + length c.pick_at-place.result.1.now) c.args.picks.now) (shown c.args.entries.now)) in
+          let a = h.1 in
+          let b = levels_by _ _ (sym (c.pick_at-place.ensures.parts (shown c.args.entries.now))) in
+          omega (arith, a, b, c.loop-i.invariant.levels);
       laid = simp to_z-of_z (laid_on c.args.y c.args.x0 (picked (drop c.loop-i.i c.args.picks.now) (shown c.args.entries.now)) (chosen c.pick_at-place.result.1.now c.pick_at-place.result.0 (shown c.args.entries.now)) (picked (drop (c.loop-i.i + 1 + length c.pick_at-place.result.1.now) c.args.picks.now) (shown c.args.entries.now)) _ _ _ (c.pick_at-place.ensures.parts (shown c.args.entries.now)) one before);
     }
 
@@ -124,3 +130,21 @@ lay_picks-returns g t c =
     let fy : FitsSigned w32 c.args.y = search rules in
     let before = simp to_z-of_z at c.loop-i.invariant.laid in
     laid_off c.args.y c.args.x0 c.args.picks.now c.loop-i.i (shown c.args.entries.now) c.loop-i.out _ c.loop-i-test.false before
+
+pub lay_picks-lay_at-requires : goal.lay_picks-lay_at-requires
+lay_picks-lay_at-requires g t c κs within =
+    let h = join_has (chosen c.pick_at-place.result.1.now c.pick_at-place.result.0 (shown c.args.entries.now)) (picked (drop (c.loop-i.i + 1 + length c.pick_at-place.result.1.now) c.args.picks.now) (shown c.args.entries.now)) in
+    let a = h.0 in
+    let b = levels_by _ _ (sym (c.pick_at-place.ensures.parts (shown c.args.entries.now))) in
+    let l : levels (chosen c.pick_at-place.result.1.now c.pick_at-place.result.0 (shown c.args.entries.now)) ≤ levels (picked c.args.picks.now (shown c.args.entries.now)) = omega (arith, a, b, c.loop-i.invariant.levels) in
+    let r = rows_by (length c.args.out.now) (length c.args.rows.now) (chosen c.pick_at-place.result.1.now c.pick_at-place.result.0 (shown c.args.entries.now)) (picked c.args.picks.now (shown c.args.entries.now)) l c.requires.rows in
+    (omega (arith, c.decreases), (within, (rw (c.loop-i.auto.out, c.loop-i.auto.rows) r, (omega (arith, ints), omega (arith, ints)))))
+
+pub lay_pick-lay_own-requires : goal.lay_pick-lay_own-requires
+lay_pick-lay_own-requires g t c κs within =
+    let w : Wrapper = record { key = c.in-Group.group.key; opacity = c.in-Group.group.opacity } in
+    let size : list_size (kept_entries (c.args.entry.now ∷ [])) ≡ suc (list_size c.in-Group.group.inner.entries) = rw c.in-Group.is (omega arith) in
+    let e : levels (chosen c.args.own.now 0 (shown (c.args.entry.now ∷ []))) ≡ deeper (levels (picked c.args.own.now (kept_leaves c.in-Group.group.inner.entries))) =
+    rw (c.in-Group.is, entry_at-group (picked c.args.own.now) w (kept_leaves c.in-Group.group.inner.entries)) (group_levels w (picked c.args.own.now (kept_leaves c.in-Group.group.inner.entries))) in
+    let r = rows_levels (length c.args.out.now) (length c.args.rows.now) _ _ e c.requires.rows in
+    (omega (arith, size, c.decreases), (within, (r, (omega (arith, ints), omega (arith, ints)))))

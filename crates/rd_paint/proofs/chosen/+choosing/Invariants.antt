@@ -2,6 +2,7 @@ use Rattle.std.proofs.Common.{◌≡◌, ◌≤◌, ◌+◌, ◌-◌, ◌*◌, �
 use Rattle.rd_list.specs.Displayed.{shown}
 use Rattle.rd_list.specs.Entries.{list_size}
 use Rattle.rd_list.specs.KeptView.{kept_entries}
+use Rattle.rd_list.specs.Views.{levels}
 use Rattle.rd_paint.specs.Internal.Picks.{picked}
 use Rattle.rd_paint.specs.Internal.Runs.{laid_along}
 use Rattle.rd_paint.proofs.chosen.+choosing.Given as goal
@@ -9,6 +10,7 @@ use Rattle.rd_paint.proofs.chosen.+choosing.Given as goal
 abbrev pub invariant-lay_picks-loop-i : goal.invariant-lay_picks-loop-i
 invariant-lay_picks-loop-i g l = record {
   within : l.i ≤ length l.picks;
+  levels : levels (picked (drop l.i l.picks) (shown l.entries)) ≤ levels (picked l.picks (shown l.entries));
   laid : laid_along l.y l.x0 (picked (drop l.i l.picks) (shown l.entries)) l.out ≡ laid_along l.y l.x0 (picked l.picks (shown l.entries)) l.initial.out;
 }
 

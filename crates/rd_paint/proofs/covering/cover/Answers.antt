@@ -2,7 +2,7 @@ use Rattle.std.proofs.Common.{◌+◌, length, drop, FitsSigned, w32, rules}
 use Rattle.std.proofs.lemmas.Int.{to_z-of_z}
 use Rattle.rd_list.specs.Displayed.{shown}
 use Rattle.rd_paint.specs.Internal.Picks.{picked, chosen}
-use Rattle.rd_paint.proofs.Hiding.{upper_more, hidden_below}
+use Rattle.rd_paint.proofs.Hiding.{upper_more, upper_levels, hidden_below}
 use Rattle.rd_paint.proofs.covering.cover.Goals as goal
 use Rattle.rd_paint.proofs.covering.cover.Goals.{then-hides_at, else-hides_at}
 
@@ -19,6 +19,6 @@ loop-i-preserved g c =
           let hidden = hidden_below (picked (drop c.loop-i.i c.args.picks.now) (shown c.args.entries.now)) (chosen c.pick_at-place.result.1.now c.pick_at-place.result.0 (shown c.args.entries.now))
           (picked (drop (c.loop-i.i + 1 + length c.pick_at-place.result.1.now) c.args.picks.now) (shown c.args.entries.now)) (picked c.args.picks.now (shown c.args.entries.now)) c.args.y c.args.x0 c.args.count c.loop-i.invariant.upper parts
           (hides w.if-hides_at.true c.pick_at-place.result.1.now) in
-          record { at = c.pick_at-place.ensures.within; upper = upper; within = rw w.found-is c.loop-i.invariant.at; hides = simp to_z-of_z (rw w.found-is hidden) }
-      | else-hides_at w ↦ record { at = c.pick_at-place.ensures.within; upper = upper; within = rw w.found-is c.loop-i.invariant.within; hides = rw w.found-is c.loop-i.invariant.hides }
+          record { at = c.pick_at-place.ensures.within; upper = upper; within = rw w.found-is c.loop-i.invariant.at; levels = rw w.found-is (upper_levels _ _ c.loop-i.invariant.upper); hides = simp to_z-of_z (rw w.found-is hidden) }
+      | else-hides_at w ↦ record { at = c.pick_at-place.ensures.within; upper = upper; within = rw w.found-is c.loop-i.invariant.within; levels = rw w.found-is c.loop-i.invariant.levels; hides = rw w.found-is c.loop-i.invariant.hides }
     ]

@@ -3,6 +3,7 @@ use Rattle.std.specs.Prelude.{IfSome}
 use Rattle.rd_geom.specs.Colors.{Premultiplied}
 use Rattle.rd_list.specs.Displayed.{shown}
 use Rattle.rd_list.specs.Lists.{composed}
+use Rattle.rd_list.specs.Views.{levels}
 use Rattle.rd_paint.specs.Internal.Picks.{picked}
 use Rattle.rd_paint.proofs.Hiding.{IsUpper}
 use Rattle.rd_paint.proofs.covering.cover.Given as goal
@@ -12,6 +13,7 @@ invariant-loop-i g l = record {
   at : l.i ≤ length l.picks;
   upper : IsUpper (picked (drop l.i l.picks) (shown l.entries)) (picked l.picks (shown l.entries));
   within : IfSome l.found (λ i. i ≤ length l.picks);
+  levels : IfSome l.found (λ i. levels (picked (drop i l.picks) (shown l.entries)) ≤ levels (picked l.picks (shown l.entries)));
   hides : IfSome l.found (λ i. (k : ℕ) (d e : Premultiplied) → k < l.count → composed (l.x0 +ℤ pos k) l.y d (picked (drop i l.picks) (shown l.entries)) ≡ composed (l.x0 +ℤ pos k) l.y e (picked l.picks (shown l.entries)));
 }
 

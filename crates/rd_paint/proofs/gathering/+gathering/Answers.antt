@@ -14,16 +14,18 @@ use Rattle.rd_list.proofs.Displaying.{shown_from}
 use Rattle.rd_list.specs.declared.kept.Entry.{Entry}
 use Rattle.rd_list.proofs.Joins.{join-nil}
 use Rattle.rd_list.proofs.Viewing.{size_at}
-use Rattle.rd_paint.specs.Internal.Picks.{InAreaWithin, SameWhere, picked}
+use Rattle.rd_paint.specs.Internal.Picks.{InAreaWithin, ServesWhere, picked}
 use Rattle.rd_paint.proofs.Picking.{closed_none, closed_by, put_first, put_fits, picked-none, entry_at-shown}
-use Rattle.rd_paint.proofs.Showing.{written_more, none_named, group_named, group_unseen, nothing_left, same_without, some_group}
+use Rattle.rd_paint.proofs.Showing.{serves_by, serves_less, written_more, none_named, group_named, group_unseen, nothing_left, same_without, some_group}
+use Rattle.rd_paint.proofs.Depths.{join_has}
 use Rattle.rd_paint.proofs.gathering.+gathering.Goals as goal
 
 pub gather-loop-i-init : goal.gather-loop-i-init
 gather-loop-i-init g t c = record {
+  at = omega arith;
   within = omega arith;
   closed = closed_none;
-  same = λ x y d h. ap (λ (xs : Entries Wrapper item.Leaf). composed x y d (xs ▷ shown c.args.entries.now)) (picked-none (shown c.args.entries.now));
+  same = serves_by (InAreaWithin c.args.area.now c.args.columns c.args.rows) _ _ (ap (λ (xs : Entries Wrapper item.Leaf). xs ▷ shown c.args.entries.now) (picked-none (shown c.args.entries.now)));
 }
 
 pub gather-gather_one-requires : goal.gather-gather_one-requires
@@ -41,6 +43,7 @@ gather-loop-i-preserved g t c =
     c.loop-i.room c.gather_one.new.room c.loop-i.count c.in_ok-more.more (length c.loop-i.room - c.loop-i.count) c.loop-i.invariant.within fits (shown_from c.args.entries.now c.loop-i.i c.index-entries-i.result c.loop-i-test.true c.index-entries-i.is)
     c.loop-i.invariant.closed c.in_ok-more.ensures.closed c.loop-i.invariant.same (c.in_ok-more.ensures.same (shown c.args.entries.now) at) in
     record {
+      at = omega (arith, c.loop-i-test.true);
       within = put_fits c.loop-i.count (length c.loop-i.room - c.loop-i.count) c.in_ok-more.more c.loop-i.room c.gather_one.new.room c.loop-i.invariant.within fits;
       closed = written.0;
       same = written.1;
@@ -48,6 +51,7 @@ gather-loop-i-preserved g t c =
 
 pub gather-loop-i-preserved-then-lies_outside : goal.gather-loop-i-preserved-then-lies_outside
 gather-loop-i-preserved-then-lies_outside g t c = record {
+  at = omega (arith, c.loop-i-test.true);
   within = c.loop-i.invariant.within;
   closed = c.loop-i.invariant.closed;
   same =
@@ -55,10 +59,28 @@ gather-loop-i-preserved-then-lies_outside g t c = record {
       (shown_from c.args.entries.now c.loop-i.i c.index-entries-i.result c.loop-i-test.true c.index-entries-i.is) (λ x y d h. c.lies_outside.ensures c.if-lies_outside.true x y d h.1) c.loop-i.invariant.same;
 }
 
+pub gather-loop-i-preserved-then-four_outside : goal.gather-loop-i-preserved-then-four_outside
+gather-loop-i-preserved-then-four_outside g t c =
+    let four = c.four_outside.ensures c.if-four_outside.true in
+    record {
+      at = omega arith;
+      within = c.loop-i.invariant.within;
+      closed = c.loop-i.invariant.closed;
+      same =
+          serves_less (InAreaWithin c.args.area.now c.args.columns c.args.rows) (picked (take c.loop-i.count c.loop-i.room) (shown c.args.entries.now)) (shown (drop (c.loop-i.i + 4) c.args.entries.now)) (shown (drop c.loop-i.i c.args.entries.now)) (shown c.args.entries.now)
+          ((λ x y d h. four.0 x y d h.1), four.1) c.loop-i.invariant.same;
+    }
+
 pub gather-returns-clause-same : goal.gather-returns-clause-same
 gather-returns-clause-same g t c = λ x y d h.
     sym (ap (λ (ts : List (Entry g.row.A.Denot)). composed x y d (picked (take c.loop-i.count c.loop-i.room) (shown c.args.entries.now) ▷ shown ts)) (drop_all c.loop-i.i c.args.entries.now c.loop-i-test.false)
-    ∙ ap (λ (xs : Entries Wrapper item.Leaf). composed x y d xs) (join-nil (picked (take c.loop-i.count c.loop-i.room) (shown c.args.entries.now)))) ∙ c.loop-i.invariant.same x y d h
+    ∙ ap (λ (xs : Entries Wrapper item.Leaf). composed x y d xs) (join-nil (picked (take c.loop-i.count c.loop-i.room) (shown c.args.entries.now)))) ∙ c.loop-i.invariant.same.0 x y d h
+
+pub gather-returns-clause-levels : goal.gather-returns-clause-levels
+gather-returns-clause-levels g t c =
+    let a = (join_has (picked (take c.loop-i.count c.loop-i.room) (shown c.args.entries.now)) (shown (drop c.loop-i.i c.args.entries.now))).0 in
+    let b = c.loop-i.invariant.same.1 in
+    omega (arith, a, b)
 
 abbrev entries_of : KeptList EntryKey Wrapper Made → Entries (Ordered EntryKey Wrapper) Made
 entries_of k = k.entries
@@ -86,7 +108,7 @@ gather_group-returns-clause-same g t c = λ w.
     let some : 1 ≤ length c.args.room.now = search rules in
     let q = put_first c.args.place c.in_ok-inside.inside _ c.args.room.now c.gather.new.room _ some fits c.put.ensures.written in
     group_named (InAreaWithin c.args.area.now c.args.columns c.args.rows) c.args.place w (kept_leaves c.args.inner.now.entries) (kept_leaves c.args.inner.now.entries) c.in_ok-inside.inside (take c.in_ok-inside.inside c.gather.new.room) _ (length-take-le c.in_ok-inside.inside c.gather.new.room fits) q
-    (subst (λ (xs : Entries Wrapper item.Leaf). SameWhere (InAreaWithin c.args.area.now c.args.columns c.args.rows) (picked (take c.in_ok-inside.inside c.gather.new.room) xs) xs) e c.in_ok-inside.ensures.same)
+    (subst (λ (xs : Entries Wrapper item.Leaf). ServesWhere (InAreaWithin c.args.area.now c.args.columns c.args.rows) (picked (take c.in_ok-inside.inside c.gather.new.room) xs) xs) e (c.in_ok-inside.ensures.same, c.in_ok-inside.ensures.levels))
 
 pub gather_one-returns-in-Group-clause-same : goal.gather_one-returns-in-Group-clause-same
 gather_one-returns-in-Group-clause-same g t c =

@@ -1,16 +1,20 @@
-use Rattle.std.proofs.Common.{◌≤◌, ◌+◌, ◌*◌, ◌∷◌, [], length, take, drop}
+use Rattle.std.proofs.Common.{◌≤◌, ◌+◌, ◌-◌, ◌*◌, ◌∷◌, [], length, take, drop}
 use Rattle.rd_list.specs.Displayed.{shown}
 use Rattle.rd_list.specs.Entries.{list_size, ◌▷◌}
 use Rattle.rd_list.specs.KeptView.{kept_entries}
-use Rattle.rd_paint.specs.Internal.Picks.{InAreaWithin, IsClosed, SameWhere, picked}
+use Rattle.rd_paint.specs.Internal.Picks.{InAreaWithin, IsClosed, ServesWhere, picked}
 use Rattle.rd_paint.proofs.gathering.+gathering.Given as goal
 
 abbrev pub invariant-gather-loop-i : goal.invariant-gather-loop-i
 invariant-gather-loop-i g l = record {
+  at : l.i ≤ length l.entries;
   within : l.count ≤ length l.room;
   closed : IsClosed (take l.count l.room);
-  same : SameWhere (InAreaWithin l.area l.columns l.rows) (picked (take l.count l.room) (shown l.entries) ▷ shown (drop l.i l.entries)) (shown l.entries);
+  same : ServesWhere (InAreaWithin l.area l.columns l.rows) (picked (take l.count l.room) (shown l.entries) ▷ shown (drop l.i l.entries)) (shown l.entries);
 }
+
+abbrev pub decreases-gather-loop-i : goal.decreases-gather-loop-i
+decreases-gather-loop-i g l = length l.entries - l.i
 
 abbrev pub decreases-gather : goal.decreases-gather
 decreases-gather g l = 4 * list_size (kept_entries l.entries.now) + 2

@@ -1,4 +1,4 @@
-use Rattle.std.proofs.Common.{◌≡◌, ◌≤◌, ◌+◌, ◌-◌, length, take, drop, arith, refl, sym, ap, ◌∙◌, FitsSigned, w32, rules, length-take, length-drop}
+use Rattle.std.proofs.Common.{◌≡◌, ◌≤◌, ◌+◌, ◌-◌, length, take, drop, arith, refl, sym, ap, subst, ◌∙◌, FitsSigned, w32, rules, length-take, length-drop}
 use Rattle.std.proofs.lemmas.Int.{to_z-of_z}
 use Rattle.std.proofs.lemmas.List.{length-take-le}
 use Rattle.rd_item.specs.declared.leaf.Leaf as item
@@ -9,12 +9,11 @@ use Rattle.rd_list.specs.Entries.{Entries, group, nil, ◌▷◌}
 use Rattle.rd_list.specs.EntryNames.{kept_leaves}
 use Rattle.rd_list.specs.Kept.{KeptList, Ordered}
 use Rattle.rd_list.specs.KeptView.{kept_entries}
-use Rattle.rd_list.specs.Lists.{composed}
 use Rattle.rd_list.specs.Wrappers.{Wrapper}
 use Rattle.rd_list.proofs.Viewing.{size_at}
-use Rattle.rd_paint.specs.Internal.Picks.{InRows, picked, chosen}
+use Rattle.rd_paint.specs.Internal.Picks.{InRows, ServesWhere, picked, chosen}
 use Rattle.rd_paint.proofs.Picking.{closed_none, closed_by, put_first, picked-none, entry_at-shown, entry_at-past, entry_at-leaf, entry_at-group}
-use Rattle.rd_paint.proofs.Showing.{same_by, same_last, written_more, none_named, group_named, group_unseen, nothing_inside, some_inside}
+use Rattle.rd_paint.proofs.Showing.{serves_by, same_last, written_more, none_named, group_named, group_unseen, nothing_inside, some_inside}
 use Rattle.rd_paint.proofs.narrowing.+narrowing.Goals as goal
 
 pub narrow-loop-i-init : goal.narrow-loop-i-init
@@ -22,7 +21,7 @@ narrow-loop-i-init g t c = record {
   at = omega arith;
   within = omega arith;
   closed = closed_none;
-  same = λ x y d h. ap (λ (xs : Entries Wrapper item.Leaf). composed x y d (xs ▷ picked c.args.picks.now (shown c.args.entries.now))) (picked-none (shown c.args.entries.now));
+  same = serves_by (InRows _ _) (picked (take 0 c.args.room.now) (shown c.args.entries.now) ▷ picked c.args.picks.now (shown c.args.entries.now)) (picked c.args.picks.now (shown c.args.entries.now)) (ap (λ (xs : Entries Wrapper item.Leaf). xs ▷ picked c.args.picks.now (shown c.args.entries.now)) (picked-none (shown c.args.entries.now)));
 }
 
 pub narrow-loop-i-preserved : goal.narrow-loop-i-preserved
@@ -48,7 +47,14 @@ narrow-returns-clause-same g t c =
     let f0 : FitsSigned w32 c.args.y0 = search rules in
     let f1 : FitsSigned w32 c.args.y1 = search rules in
     let before = simp to_z-of_z at c.loop-i.invariant.same in
-    same_last (InRows c.args.y0 c.args.y1) (shown c.args.entries.now) (picked c.args.picks.now (shown c.args.entries.now)) (take c.loop-i.count c.loop-i.room) c.args.picks.now c.loop-i.i c.loop-i-test.false before
+    (same_last (InRows c.args.y0 c.args.y1) (shown c.args.entries.now) (picked c.args.picks.now (shown c.args.entries.now)) (take c.loop-i.count c.loop-i.room) c.args.picks.now c.loop-i.i c.loop-i-test.false before).0
+
+pub narrow-returns-clause-levels : goal.narrow-returns-clause-levels
+narrow-returns-clause-levels g t c =
+    let f0 : FitsSigned w32 c.args.y0 = search rules in
+    let f1 : FitsSigned w32 c.args.y1 = search rules in
+    let before = simp to_z-of_z at c.loop-i.invariant.same in
+    (same_last (InRows c.args.y0 c.args.y1) (shown c.args.entries.now) (picked c.args.picks.now (shown c.args.entries.now)) (take c.loop-i.count c.loop-i.room) c.args.picks.now c.loop-i.i c.loop-i-test.false before).1
 
 pub narrow_at-narrow_pick-requires : goal.narrow_at-narrow_pick-requires
 narrow_at-narrow_pick-requires g t c κs within =
@@ -62,13 +68,14 @@ narrow_at-returns-then-index-entries-clause-same g t c =
     let s = simp to_z-of_z at c.narrow_pick.ensures.same in
     let at = λ (f : Entries Wrapper item.Leaf → Entries Wrapper item.Leaf). entry_at-shown f c.args.entries.now c.args.place c.index-entries-index.result c.if-index-entries.true c.index-entries-index.is in
     let whole = s (shown c.args.entries.now) at in
-    λ x y d h. whole x y d h ∙ ap (λ (xs : Entries Wrapper item.Leaf). composed x y d xs) (sym (at (picked c.args.own.now)))
+    let back = sym (at (picked c.args.own.now)) in
+    subst (λ (xs : Entries Wrapper item.Leaf). ServesWhere (InRows c.args.y0 c.args.y1) (picked (take c.narrow_pick.result c.narrow_pick.new.room) (shown c.args.entries.now)) xs) back whole
 
 pub narrow_at-returns-clause-closed : goal.narrow_at-returns-clause-closed
 narrow_at-returns-clause-closed g t c = closed_none
 
 pub narrow_at-returns-clause-same : goal.narrow_at-returns-clause-same
-narrow_at-returns-clause-same g t c = same_by (InRows c.args.y0 c.args.y1) _ _ (picked-none (shown c.args.entries.now) ∙ sym (entry_at-past (picked c.args.own.now) c.args.entries.now c.args.place c.if-index-entries.false))
+narrow_at-returns-clause-same g t c = serves_by (InRows c.args.y0 c.args.y1) _ _ (picked-none (shown c.args.entries.now) ∙ sym (entry_at-past (picked c.args.own.now) c.args.entries.now c.args.place c.if-index-entries.false))
 
 abbrev entries_of : KeptList EntryKey Wrapper Made → Entries (Ordered EntryKey Wrapper) Made
 entries_of k = k.entries
@@ -102,7 +109,7 @@ narrow_group-returns-clause-same g t c = λ w.
     let fits : c.narrow-inside.result ≤ length c.narrow-inside.new.room = omega (arith, len, c.narrow-inside.ensures.within, c.requires.room) in
     let q = put_first c.args.place c.narrow-inside.result _ c.args.room.now c.narrow-inside.new.room _ (omega (arith, c.requires.room)) fits c.put.ensures.written in
     group_named (InRows c.args.y0 c.args.y1) c.args.place w (kept_leaves c.args.inner.now.entries) (picked c.args.own.now (kept_leaves c.args.inner.now.entries)) c.narrow-inside.result (take c.narrow-inside.result c.narrow-inside.new.room) _ (length-take-le c.narrow-inside.result c.narrow-inside.new.room fits) q
-    (some_inside (InRows c.args.y0 c.args.y1) (take c.narrow-inside.result c.narrow-inside.new.room) (take c.narrow-inside.result c.narrow-inside.new.room) c.args.own.now (shown c.deref.result.now) (kept_leaves c.args.inner.now.entries) refl e s)
+    (some_inside (InRows c.args.y0 c.args.y1) (take c.narrow-inside.result c.narrow-inside.new.room) (take c.narrow-inside.result c.narrow-inside.new.room) c.args.own.now (shown c.deref.result.now) (kept_leaves c.args.inner.now.entries) refl e (s, c.narrow-inside.ensures.levels))
 
 pub narrow_pick-returns-in-Leaf-clause-same : goal.narrow_pick-returns-in-Leaf-clause-same
 narrow_pick-returns-in-Leaf-clause-same g t c =

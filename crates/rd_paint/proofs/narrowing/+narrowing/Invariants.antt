@@ -2,7 +2,7 @@ use Rattle.std.proofs.Common.{◌≤◌, ◌+◌, ◌-◌, ◌*◌, ◌∷◌, [
 use Rattle.rd_list.specs.Displayed.{shown}
 use Rattle.rd_list.specs.Entries.{list_size, ◌▷◌}
 use Rattle.rd_list.specs.KeptView.{kept_entries}
-use Rattle.rd_paint.specs.Internal.Picks.{InRows, IsClosed, SameWhere, picked}
+use Rattle.rd_paint.specs.Internal.Picks.{InRows, IsClosed, ServesWhere, picked}
 use Rattle.rd_paint.proofs.narrowing.+narrowing.Given as goal
 
 abbrev pub invariant-narrow-loop-i : goal.invariant-narrow-loop-i
@@ -10,7 +10,7 @@ invariant-narrow-loop-i g l = record {
   at : l.i ≤ length l.picks;
   within : l.count ≤ l.i;
   closed : IsClosed (take l.count l.room);
-  same : SameWhere (InRows l.y0 l.y1) (picked (take l.count l.room) (shown l.entries) ▷ picked (drop l.i l.picks) (shown l.entries)) (picked l.picks (shown l.entries));
+  same : ServesWhere (InRows l.y0 l.y1) (picked (take l.count l.room) (shown l.entries) ▷ picked (drop l.i l.picks) (shown l.entries)) (picked l.picks (shown l.entries));
 }
 
 abbrev pub decreases-narrow-loop-i : goal.decreases-narrow-loop-i
