@@ -89,10 +89,6 @@ module _ (p : ℤ → ℤ → Type 0) where
   pub serves_less : (done rest left whole : Entries Wrapper item.Leaf) → ServesWhere p rest left → ServesWhere p (done ▷ left) whole → ServesWhere p (done ▷ rest) whole
   serves_less done rest left whole s t = serves_then (done ▷ rest) (done ▷ left) whole (serves_join done done rest left (serves_by done done refl) s) t
 
-  -- one more shows nothing
-  pub same_without : (done one rest left whole : Entries Wrapper item.Leaf) → left ≡ one ▷ rest → SameWhere p nil one → ServesWhere p (done ▷ left) whole → ServesWhere p (done ▷ rest) whole
-  same_without done one rest left whole e s t = serves_less done rest left whole (serves_past one rest left e s) t
-
   -- none is left to be looked at
   pub same_last : (es whole : Entries Wrapper item.Leaf) (done ps : List Pick) (i : ℕ) → length ps ≤ i → ServesWhere p (picked done es ▷ picked (drop i ps) es) whole → ServesWhere p (picked done es) whole
   same_last es whole done ps i h s =
@@ -119,6 +115,15 @@ module _ (p : ℤ → ℤ → Type 0) where
         subst IsClosed w (closed_append (take count room) (take more mid) c d),
         subst (λ ts. ServesWhere p (picked ts es ▷ rest) whole) w (same_more p es one rest whole (take count room) (take more mid) c (subst (λ xs. ServesWhere p (picked (take count room) es ▷ xs) whole) e s) t),
       )
+
+module _ (p : ℤ → ℤ → Type 0) where
+  -- and some behind it show nothing
+  pub written_past : (es whole one rest left less : Entries Wrapper item.Leaf) (room mid : List Pick) (count more n : ℕ) → count ≤ length room → more ≤ length mid → left ≡ one ▷ rest
+      → IsClosed (take count room) → IsClosed (take more mid) → ServesWhere p (picked (take count room) es ▷ left) whole → ServesWhere p (picked (take more mid) es) one → ServesWhere p less rest
+      → IsClosed (take (count + more) (take count room ++ (mid ++ drop n (drop count room)))) × ServesWhere p (picked (take (count + more) (take count room ++ (mid ++ drop n (drop count room)))) es ▷ less) whole
+  written_past es whole one rest left less room mid count more n h k e c d s t u =
+      let w = written_more p es whole one rest left room mid count more n h k e c d s t in
+      (w.0, serves_less p (picked (take (count + more) (take count room ++ (mid ++ drop n (drop count room)))) es) less rest whole u w.1)
 
 last_false : (a b v : Bool) → v ≡ false → (a && b && v) ≡ false
 last_false true true v h = h

@@ -33,7 +33,7 @@ pub struct Buffers {
     size: Size,
     rows: u32,
 
-    /// It has memory for all rows, and as many pixels as a list had use for.
+    /// It has memory for all rows, and as many pixels as the paints had use for.
     pixels: Vec<Px>,
 
     /// Room for picks of the entries that may show in a band of rows.
@@ -111,7 +111,8 @@ fn open(pixels: &mut Vec<Px>, count: usize)
 pub(crate) fn open_for(pixels: &mut Vec<Px>, picks: &[Pick], width: usize)
     requires wide { width ≤ 4096 }
     requires few { length picks.now < 2 ^ 32 }
-    ensures long { (es : Entries Wrapper item.Leaf) → width * (levels (picked picks.now es) - 1) ≤ vec_capacity pixels.old
+    ensures long { (es : Entries Wrapper item.Leaf)
+        → width * (levels (picked picks.now es) - 1) ≤ vec_capacity pixels.old
         → width * (levels (picked picks.now es) - 1) ≤ length pixels.new.items }
     ensures memory { vec_capacity pixels.old ≤ vec_capacity pixels.new }
 {

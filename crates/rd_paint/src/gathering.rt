@@ -34,20 +34,11 @@ pub(crate) fn gather<A: Ledger>(
         ≤ levels (shown entries.now)) }
 {
     let mut count = 0;
-    let mut i = 0;
+    let mut i = next_within(entries, 0, columns, rows);
     while i < entries.len() {
-        if entries.len() - i >= 4 && four_outside(entries, i, columns, rows) {
-            i += 4;
-            continue;
-        }
-        let entry = &entries[i];
-        if lies_outside(entry, columns, rows) {
-            i += 1;
-            continue;
-        }
-        let more = gather_one(entry, i, area, columns, rows, &mut room[count..])?;
+        let more = gather_one(&entries[i], i, area, columns, rows, &mut room[count..])?;
         count += more;
-        i += 1;
+        i = next_within(entries, i + 1, columns, rows);
     }
     Some(count)
 }
@@ -97,6 +88,24 @@ fn four_outside<A: Ledger>(entries: &[Entry<A>], i: usize, columns: Span, rows: 
         return false;
     }
     lies_outside(&entries[i + 3], columns, rows)
+}
+
+/// The place of the next entry that is no such leaf, or how many entries there are.
+fn next_within<A: Ledger>(entries: &[Entry<A>], from: usize, columns: Span, rows: Span) -> usize
+    requires { from ≤ length entries.now }
+    ensures from { from ≤ result }
+    ensures within { result ≤ length entries.now }
+    ensures same { ServesWhere (InSpans columns rows)
+        (shown (drop result entries.now)) (shown (drop from entries.now)) }
+{
+    let mut i = from;
+    while entries.len() - i >= 4 && four_outside(entries, i, columns, rows) {
+        i += 4;
+    }
+    while i < entries.len() && lies_outside(&entries[i], columns, rows) {
+        i += 1;
+    }
+    i
 }
 
 /// Writes picks of the entry at a place.

@@ -39,7 +39,7 @@ pub(crate) fn pick_at(picks: &[Pick], i: usize) -> (u32, &[Pick])
     (pick.place, &picks[from..from + inside])
 }
 
-/// How many groups stand at most round an entry that picks name: no list that they are of has more.
+/// No fewer groups than stand round any leaf that picks name, whatever list they are of.
 #[cycle(nesting)]
 pub(crate) fn depth_of(picks: &[Pick]) -> usize
     ensures within { result ≤ length picks.now }
@@ -55,7 +55,7 @@ pub(crate) fn depth_of(picks: &[Pick]) -> usize
     most
 }
 
-/// How many groups stand at most round what a pick names: it is one itself where other picks are of its list.
+/// The same for one pick: it can name a group with leaves only where other picks are of its own list.
 #[cycle(nesting)]
 fn depth_at(own: &[Pick]) -> usize
     ensures within { result ≤ 1 + length own.now }

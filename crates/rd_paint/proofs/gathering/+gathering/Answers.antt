@@ -16,17 +16,22 @@ use Rattle.rd_list.proofs.Joins.{join-nil}
 use Rattle.rd_list.proofs.Viewing.{size_at}
 use Rattle.rd_paint.specs.Internal.Picks.{InAreaWithin, ServesWhere, picked}
 use Rattle.rd_paint.proofs.Picking.{closed_none, closed_by, put_first, put_fits, picked-none, entry_at-shown}
-use Rattle.rd_paint.proofs.Showing.{serves_by, serves_less, written_more, none_named, group_named, group_unseen, nothing_left, same_without, some_group}
+use Rattle.rd_paint.proofs.Showing.{serves_by, serves_less, written_past, none_named, group_named, group_unseen, nothing_left, some_group}
 use Rattle.rd_paint.proofs.Depths.{join_has}
 use Rattle.rd_paint.proofs.gathering.+gathering.Goals as goal
 
 pub gather-loop-i-init : goal.gather-loop-i-init
-gather-loop-i-init g t c = record {
-  at = omega arith;
-  within = omega arith;
-  closed = closed_none;
-  same = serves_by (InAreaWithin c.args.area.now c.args.columns c.args.rows) _ _ (ap (λ (xs : Entries Wrapper item.Leaf). xs ▷ shown c.args.entries.now) (picked-none (shown c.args.entries.now)));
-}
+gather-loop-i-init g t c =
+    let past = c.next_within-i.ensures.same in
+    record {
+      at = c.next_within-i.ensures.within;
+      within = omega arith;
+      closed = closed_none;
+      same =
+          serves_less (InAreaWithin c.args.area.now c.args.columns c.args.rows) (picked (take 0 c.args.room.now) (shown c.args.entries.now)) (shown (drop c.next_within-i.result c.args.entries.now)) (shown c.args.entries.now) (shown c.args.entries.now)
+          ((λ x y d h. past.0 x y d h.1), past.1)
+          (serves_by (InAreaWithin c.args.area.now c.args.columns c.args.rows) _ _ (ap (λ (xs : Entries Wrapper item.Leaf). xs ▷ shown c.args.entries.now) (picked-none (shown c.args.entries.now))));
+    }
 
 pub gather-gather_one-requires : goal.gather-gather_one-requires
 gather-gather_one-requires g t c κs within =
@@ -39,36 +44,15 @@ pub gather-loop-i-preserved : goal.gather-loop-i-preserved
 gather-loop-i-preserved g t c =
     let fits : c.in_ok-more.more ≤ length c.gather_one.new.room = omega (arith, c.in_ok-more.ensures.within, c.gather_one.auto.room) in
     let at = λ (f : Entries Wrapper item.Leaf → Entries Wrapper item.Leaf). entry_at-shown f c.args.entries.now c.loop-i.i c.index-entries-i.result c.loop-i-test.true c.index-entries-i.is in
-    let written = written_more (InAreaWithin c.args.area.now c.args.columns c.args.rows) (shown c.args.entries.now) (shown c.args.entries.now) (shown (c.index-entries-i.result ∷ [])) (shown (drop (c.loop-i.i + 1) c.args.entries.now)) (shown (drop c.loop-i.i c.args.entries.now))
+    let past = c.next_within-i-in-loop-i.ensures.same in
+    let written = written_past (InAreaWithin c.args.area.now c.args.columns c.args.rows) (shown c.args.entries.now) (shown c.args.entries.now) (shown (c.index-entries-i.result ∷ [])) (shown (drop (c.loop-i.i + 1) c.args.entries.now)) (shown (drop c.loop-i.i c.args.entries.now)) (shown (drop c.next_within-i-in-loop-i.result c.args.entries.now))
     c.loop-i.room c.gather_one.new.room c.loop-i.count c.in_ok-more.more (length c.loop-i.room - c.loop-i.count) c.loop-i.invariant.within fits (shown_from c.args.entries.now c.loop-i.i c.index-entries-i.result c.loop-i-test.true c.index-entries-i.is)
-    c.loop-i.invariant.closed c.in_ok-more.ensures.closed c.loop-i.invariant.same (c.in_ok-more.ensures.same (shown c.args.entries.now) at) in
+    c.loop-i.invariant.closed c.in_ok-more.ensures.closed c.loop-i.invariant.same (c.in_ok-more.ensures.same (shown c.args.entries.now) at) ((λ x y d h. past.0 x y d h.1), past.1) in
     record {
-      at = omega (arith, c.loop-i-test.true);
+      at = c.next_within-i-in-loop-i.ensures.within;
       within = put_fits c.loop-i.count (length c.loop-i.room - c.loop-i.count) c.in_ok-more.more c.loop-i.room c.gather_one.new.room c.loop-i.invariant.within fits;
       closed = written.0;
       same = written.1;
-    }
-
-pub gather-loop-i-preserved-then-lies_outside : goal.gather-loop-i-preserved-then-lies_outside
-gather-loop-i-preserved-then-lies_outside g t c = record {
-  at = omega (arith, c.loop-i-test.true);
-  within = c.loop-i.invariant.within;
-  closed = c.loop-i.invariant.closed;
-  same =
-      same_without (InAreaWithin c.args.area.now c.args.columns c.args.rows) (picked (take c.loop-i.count c.loop-i.room) (shown c.args.entries.now)) (shown (c.index-entries-i.result ∷ [])) (shown (drop (c.loop-i.i + 1) c.args.entries.now)) (shown (drop c.loop-i.i c.args.entries.now)) (shown c.args.entries.now)
-      (shown_from c.args.entries.now c.loop-i.i c.index-entries-i.result c.loop-i-test.true c.index-entries-i.is) (λ x y d h. c.lies_outside.ensures c.if-lies_outside.true x y d h.1) c.loop-i.invariant.same;
-}
-
-pub gather-loop-i-preserved-then-four_outside : goal.gather-loop-i-preserved-then-four_outside
-gather-loop-i-preserved-then-four_outside g t c =
-    let four = c.four_outside.ensures c.if-four_outside.true in
-    record {
-      at = omega arith;
-      within = c.loop-i.invariant.within;
-      closed = c.loop-i.invariant.closed;
-      same =
-          serves_less (InAreaWithin c.args.area.now c.args.columns c.args.rows) (picked (take c.loop-i.count c.loop-i.room) (shown c.args.entries.now)) (shown (drop (c.loop-i.i + 4) c.args.entries.now)) (shown (drop c.loop-i.i c.args.entries.now)) (shown c.args.entries.now)
-          ((λ x y d h. four.0 x y d h.1), four.1) c.loop-i.invariant.same;
     }
 
 pub gather-returns-clause-same : goal.gather-returns-clause-same
