@@ -98,6 +98,14 @@ module _ (wide : Bool) (names : List EntryKey) where
         smaller : (j : ℕ) → (j ≡ i → ⊥) → j < i + 1 → j < i
         smaller j other b = grind (arith, other, b)
 
+module _ {A : Type 0} where
+  length_one_more : (xs : List A) (x : A) → length (xs ++ x ∷ []) ≡ length xs + 1
+  length_one_more [] x = refl
+  length_one_more (y ∷ ys) x = let r = length_one_more ys x in omega (arith, r)
+
+  pub count_next : (xs ys : List A) (x : A) (i : ℕ) → ys ≡ xs ++ x ∷ [] → length xs ≡ i → length ys ≡ i + 1
+  count_next xs ys x i e n = let r = length_one_more xs x in let q : length ys ≡ length (xs ++ x ∷ []) = ap length e in omega (arith, r, q, n)
+
 -- ---- a name is found
 
 module _ (wide : Bool) (names : List EntryKey) (k : EntryKey) where
@@ -166,7 +174,3 @@ module _ (wide : Bool) (names : List EntryKey) (lasts befores : List ℕ) (chain
         let n = at.number_is in
         absurd (omega (arith, b, n, is))
   ] refl
-
-  -- a name at whose mark none stands is none of them
-  pub unmarked : (get_or lasts (mark_of wide k) 0 == 0) ≡ true → place_of same_entry names k ≡ None
-  unmarked t = none_found (get_or lasts (mark_of wide k) 0) (starts (get_or lasts (mark_of wide k) 0) refl) (same_place (get_or lasts (mark_of wide k) 0) 0 t)

@@ -1,5 +1,5 @@
 -- A pass over a kept level, entry by entry.
-use Rattle.std.proofs.Common.{◌≡◌, refl, ap, ◌∙◌, sym, subst, ℕ, zero, suc, ◌+◌, ◌<◌, Bool, true, false, not, cond, ◌&&◌, List, [], ◌∷◌, ◌++◌, length, map, take, get_or, arith, inl, inr, Option, Some, None, is_some, append_assoc, append-nil, ◌==◌}
+use Rattle.std.proofs.Common.{◌≡◌, refl, ap, ◌∙◌, sym, subst, ℕ, zero, suc, ◌+◌, ◌<◌, Bool, true, false, not, cond, ◌&&◌, List, [], ◌∷◌, ◌++◌, length, map, take, get_or, arith, inl, inr, Option, Some, None, is_some, append_assoc, append-nil}
 use Rattle.std.specs.Prelude.{IfSome}
 use Rattle.std.proofs.lemmas.List.{take_more, length-take-le}
 use Rattle.rd_keys.specs.Keys.{BoxKey}
@@ -17,9 +17,9 @@ use Rattle.rd_list.specs.declared.kept.Entry.{Entry}
 use Rattle.rd_list.specs.declared.kept.Entry.TheVariants as kept
 use Rattle.rd_merge.specs.Going.{any_stays, is_untouched}
 use Rattle.rd_merge.specs.Looking.{any_goes, gone_places, inner_places, kept_names}
-use Rattle.rd_merge.specs.Internal.Looks.{gone_at, goes_inside, inner_at, is_passed, name_of, noted}
-use Rattle.rd_merge.specs.Internal.Sought.{AreChained, mark_of}
-use Rattle.rd_merge.proofs.Chained.{unmarked}
+use Rattle.rd_merge.specs.Internal.Looks.{NothingNoted, gone_at, goes_inside, inner_at, is_passed, name_of, noted}
+use Rattle.rd_merge.specs.Internal.Marks.{AreMarked, box_mark}
+use Rattle.rd_merge.proofs.Marked.{unmarked}
 
 -- what is found entry by entry
 module _ {A B : Type 0} (all : ℕ → List A → List B) (none : (i : ℕ) → all i [] ≡ []) (step : (i : ℕ) (x : A) (xs : List A) → all i (x ∷ xs) ≡ all i (x ∷ []) ++ all (suc i) xs) where
@@ -176,16 +176,43 @@ both false b e = absurd (cc)
 add_none : {B : Type 0} (xs ys : List B) → ys ≡ [] → xs ≡ xs ++ ys
 add_none xs ys e = sym (append-nil xs) ∙ ap (λ zs. xs ++ zs) (sym e)
 
-module _ {A : Type 0} (touched : BoxKey → Bool) (wide : Bool) (names : List EntryKey) (lasts befores : List ℕ) (chained : AreChained wide names lasts befores) where
-  pub passed_gone : (x : Entry A) (i : ℕ) (now : List ℕ) → is_passed touched wide lasts x ≡ true → now ≡ now ++ gone_at touched i x
-  passed_gone (kept.Leaf m) i now p = add_none now (gone_at {A = A} touched i (kept.Leaf m)) (let u = (both (get_or lasts (mark_of wide (name_of {A = A} (kept.Leaf m))) 0 == 0) (is_untouched touched m.leaf) p).1 in rw u refl)
+unset : (b : Bool) → not b ≡ true → b ≡ false
+unset true e = absurd (cc)
+unset false e = refl
+
+module _ {A : Type 0} (touched : BoxKey → Bool) (wide : Bool) (names : List EntryKey) (marks : List Bool) (are : AreMarked wide names marks) where
+  passed_gone : (x : Entry A) (i : ℕ) (now : List ℕ) → is_passed touched wide marks x ≡ true → now ≡ now ++ gone_at touched i x
+  passed_gone (kept.Leaf m) i now p = add_none now (gone_at {A = A} touched i (kept.Leaf m)) (let u = (both (not (get_or marks (box_mark wide m.leaf.owner) false)) (is_untouched touched m.leaf) p).1 in rw u refl)
   passed_gone (kept.Group g) i now p = absurd (let no : false ≡ true = p in cc)
 
-  pub passed_found : (x : Entry A) (i : ℕ) (now : List (Option ℕ)) → is_passed touched wide lasts x ≡ true → now ≡ noted (place_of same_entry names (name_of x)) i now
+  passed_found : (x : Entry A) (i : ℕ) (now : List (Option ℕ)) → is_passed touched wide marks x ≡ true → now ≡ noted (place_of same_entry names (name_of x)) i now
   passed_found (kept.Leaf m) i now p =
-      ap (λ o. noted o i now) (sym (unmarked wide names lasts befores chained (name_of {A = A} (kept.Leaf m)) ((both (get_or lasts (mark_of wide (name_of {A = A} (kept.Leaf m))) 0 == 0) (is_untouched touched m.leaf) p).0)))
+      let f = unset (get_or marks (box_mark wide m.leaf.owner) false) (both (not (get_or marks (box_mark wide m.leaf.owner) false)) (is_untouched touched m.leaf) p).0 in
+      ap (λ o. noted o i now) (sym (unmarked wide names marks are (name_of {A = A} (kept.Leaf m)) f))
   passed_found (kept.Group g) i now p = absurd (let no : false ≡ true = p in cc)
 
-  pub passed_inner : (x : Entry A) (i : ℕ) (now : List ℕ) → is_passed touched wide lasts x ≡ true → now ≡ now ++ inner_at touched names i x
+  passed_inner : (x : Entry A) (i : ℕ) (now : List ℕ) → is_passed touched wide marks x ≡ true → now ≡ now ++ inner_at touched names i x
   passed_inner (kept.Leaf m) i now p = add_none now [] refl
   passed_inner (kept.Group g) i now p = absurd (let no : false ≡ true = p in cc)
+
+  -- nothing is noted of an entry that is passed over
+  pub passes_one : (es : List (Entry A)) (i : ℕ) (x : Entry A) → spec.Once names → spec.Once (kept_names (kept_entries es)) → i < length es → x ≡ get_or es i x → is_passed touched wide marks x ≡ true
+      → NothingNoted touched es names i (i + 1)
+  passes_one es i x o ok l e p = record {
+    gone = sym (gone_next touched es i x _ _ l e refl (passed_gone x i _ p));
+    found = sym (named_next es names i x _ _ o ok l e refl (passed_found x i _ p));
+    inner = sym (inner_next touched names es i x _ _ l e refl (passed_inner x i _ p));
+  }
+
+module _ {A : Type 0} (touched : BoxKey → Bool) (es : List (Entry A)) (names : List EntryKey) where
+  abbrev Nothing : ℕ → ℕ → Type 0
+  Nothing i j = NothingNoted touched es names i j
+
+  pub nothing_itself : (i : ℕ) → Nothing i i
+  nothing_itself i = record { gone = refl; found = refl; inner = refl }
+
+  pub nothing_joined : (i j k : ℕ) → Nothing i j → Nothing j k → Nothing i k
+  nothing_joined i j k n m = record { gone = m.gone ∙ n.gone; found = m.found ∙ n.found; inner = m.inner ∙ n.inner }
+
+  pub nothing_more : (i j k : ℕ) → Nothing i j → Nothing j (j + 1) → k ≡ j + 1 → Nothing i k
+  nothing_more i j k n m e = subst (λ (z : ℕ). Nothing i z) (sym e) (nothing_joined i j (j + 1) n m)

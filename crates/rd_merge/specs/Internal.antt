@@ -1,5 +1,6 @@
 -- What private contracts say. No public clause cites it, so a reader need not read it.
 pub mod Looks
+pub mod Marks
 pub mod Moving
 pub mod PlanCode
 pub mod PlanFalls

@@ -1,15 +1,17 @@
 //! A look at a kept level: which entries go, where the names of the new level stand, and in which groups something goes.
-ghost use Rattle.std.specs.Prelude.{◌≡◌, ◌<◌, ◌≤◌, ◌&&◌, not, if◌then◌else◌, [], ◌∷◌, ◌++◌, length, map, None, IfOk, IfSome, OnOk};
+ghost use Rattle.std.specs.Prelude.{◌≡◌, ◌<◌, ◌≤◌, ◌+◌, ◌&&◌, not, true, if◌then◌else◌, [], ◌∷◌, ◌++◌, length, map, None, IfOk, IfSome, OnOk};
 ghost use Rattle.rd_graph.specs.Names.{place_of, same_entry};
 ghost use Rattle.rd_graph.specs.Orders.{Once};
 ghost use Rattle.rd_list.specs.Entries.{is_empty};
 ghost use Rattle.rd_list.specs.EntryNames.{kept_leaves};
 ghost use Rattle.rd_list.specs.KeptView.{kept_entries};
-ghost use Rattle.rd_merge.specs.Internal.Looks.{found_before, gone_at, gone_before, goes_inside, has_touched, inner_at, inner_before, is_passed, name_of, noted};
+ghost use Rattle.rd_merge.specs.Internal.Looks.{NothingNoted, gone_at, goes_inside, has_touched, inner_at, is_passed, name_of, noted};
+ghost use Rattle.rd_merge.specs.Internal.Marks.{AreMarked, box_marks};
 ghost use Rattle.rd_merge.specs.Internal.Sought.{AreChained};
 ghost use Rattle.rd_merge.specs.Looking.{IsLooked, kept_names};
 
 use crate::going::{Touches, key_of, stays_at};
+use crate::marks::{Marks, has_mark};
 use crate::sought::Sought;
 use rd_keys::EntryKey;
 use rd_list::Entry;
@@ -95,15 +97,72 @@ fn push_if(places: &mut Vec<usize>, is_wanted: bool, place: usize) -> Result<(),
     Ok(())
 }
 
-/// Is it a leaf of an untouched box, at whose mark no name stands? Nothing is noted of it.
+/// Is it a leaf of an untouched box whose mark is not set? Nothing is noted of it.
 #[inline(always)]
-fn is_passed<A: Ledger, T: Touches>(entry: &Entry<A>, sought: &Sought, tree: &T) -> bool
-    ensures { result ≡ is_passed (T.is_touched tree.now) sought.now.is_wide sought.now.lasts.items entry.now }
+fn is_passed<A: Ledger, T: Touches>(
+    entry: &Entry<A>,
+    is_wide: bool,
+    marks: &[bool],
+    tree: &T,
+) -> bool
+    requires { length marks.now ≡ box_marks is_wide }
+    ensures { result ≡ is_passed (T.is_touched tree.now) is_wide marks.now entry.now }
 {
     match entry {
-        Entry::Leaf(item) => !sought.is_marked(item.key()) && !tree.touches(item.owner()),
+        Entry::Leaf(item) => !has_mark(is_wide, marks, item.owner()) && !tree.touches(item.owner()),
         Entry::Group(_) => false,
     }
+}
+
+/// Is the entry at a place passed over?
+#[inline(always)]
+fn passes<A: Ledger, T: Touches>(
+    entries: &[Entry<A>],
+    place: usize,
+    is_wide: bool,
+    marks: &[bool],
+    names: &[EntryKey],
+    tree: &T,
+) -> bool
+    requires marks { AreMarked is_wide names.now marks.now }
+    requires names { Once names.now }
+    requires entries { Once (kept_names (kept_entries entries.now)) }
+    requires within { place < length entries.now }
+    ensures { result ≡ true → NothingNoted (T.is_touched tree.now) entries.now names.now place (place + 1) }
+{
+    is_passed(&entries[place], is_wide, marks, tree)
+}
+
+/// How many of the four entries from a place on are passed over, one after the other.
+#[inline(always)]
+fn passed_of_four<A: Ledger, T: Touches>(
+    entries: &[Entry<A>],
+    place: usize,
+    is_wide: bool,
+    marks: &[bool],
+    names: &[EntryKey],
+    tree: &T,
+) -> usize
+    requires marks { AreMarked is_wide names.now marks.now }
+    requires names { Once names.now }
+    requires entries { Once (kept_names (kept_entries entries.now)) }
+    requires within { place + 4 ≤ length entries.now }
+    ensures within { result ≤ 4 }
+    ensures nothing { NothingNoted (T.is_touched tree.now) entries.now names.now place (place + result) }
+{
+    if !passes(entries, place, is_wide, marks, names, tree) {
+        return 0;
+    }
+    if !passes(entries, place + 1, is_wide, marks, names, tree) {
+        return 1;
+    }
+    if !passes(entries, place + 2, is_wide, marks, names, tree) {
+        return 2;
+    }
+    if !passes(entries, place + 3, is_wide, marks, names, tree) {
+        return 3;
+    }
+    4
 }
 
 /// The first place, from this one on, of which something may be noted. No place where there is none.
@@ -111,24 +170,28 @@ fn is_passed<A: Ledger, T: Touches>(entry: &Entry<A>, sought: &Sought, tree: &T)
 fn next_noted<A: Ledger, T: Touches>(
     entries: &[Entry<A>],
     from: usize,
-    sought: &Sought,
+    is_wide: bool,
+    marks: &[bool],
     names: &[EntryKey],
     tree: &T,
 ) -> usize
-    requires sought { AreChained sought.now.is_wide names.now sought.now.lasts.items sought.now.befores.items }
+    requires marks { AreMarked is_wide names.now marks.now }
     requires names { Once names.now }
     requires entries { Once (kept_names (kept_entries entries.now)) }
     requires within { from ≤ length entries.now }
     ensures after { from ≤ result }
     ensures within { result ≤ length entries.now }
-    ensures gone { gone_before (T.is_touched tree.now) entries.now result
-        ≡ gone_before (T.is_touched tree.now) entries.now from }
-    ensures found { found_before entries.now names.now result ≡ found_before entries.now names.now from }
-    ensures inner { inner_before (T.is_touched tree.now) names.now entries.now result
-        ≡ inner_before (T.is_touched tree.now) names.now entries.now from }
+    ensures nothing { NothingNoted (T.is_touched tree.now) entries.now names.now from result }
 {
     let mut place = from;
-    while place < entries.len() && is_passed(&entries[place], sought, tree) {
+    while entries.len() - place >= 4 {
+        let passed = passed_of_four(entries, place, is_wide, marks, names, tree);
+        place += passed;
+        if passed < 4 {
+            return place;
+        }
+    }
+    while place < entries.len() && passes(entries, place, is_wide, marks, names, tree) {
         place += 1;
     }
     place
@@ -195,11 +258,13 @@ pub(crate) fn look<A: Ledger, T: Touches>(
     if entries.is_empty() {
         return Ok(looked);
     }
+    let is_wide = names.len() > 128 && entries.len() > 4096;
+    let marks = Marks::new(alloc, is_wide, names)?;
     let sought = Sought::new(alloc, names)?;
-    let mut place = next_noted(entries, 0, &sought, names, tree);
+    let mut place = next_noted(entries, 0, marks.is_wide, &marks.marks, names, tree);
     while place < entries.len() {
         look_at(&mut looked, &sought, names, place, &entries[place], tree)?;
-        place = next_noted(entries, place + 1, &sought, names, tree);
+        place = next_noted(entries, place + 1, marks.is_wide, &marks.marks, names, tree);
     }
     Ok(looked)
 }

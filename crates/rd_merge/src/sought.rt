@@ -1,5 +1,5 @@
 //! Names that are sought in a kept level.
-ghost use Rattle.std.specs.Prelude.{◌≡◌, ◌<◌, IfOk, not, ◌==◌, [], slice_index_or};
+ghost use Rattle.std.specs.Prelude.{◌≡◌, ◌<◌, IfOk, [], slice_index_or};
 ghost use Rattle.rd_graph.specs.Names.{place_of, same_entry};
 ghost use Rattle.rd_graph.specs.Orders.{Once};
 ghost use Rattle.rd_merge.specs.Internal.Sought.{AreChained, mark_count, mark_of};
@@ -25,14 +25,14 @@ fn mark_of(is_wide: bool, key: EntryKey) -> usize
         EntryKey::Leaf(name, _) => name.slot() as usize,
         EntryKey::Group(name) => name.slot() as usize,
     };
-    if is_wide { slot % 8192 } else { slot % 1024 }
+    if is_wide { slot % 8192 } else { slot % 256 }
 }
 
 /// How many marks there are.
 fn mark_count(is_wide: bool) -> usize
     ensures { result ≡ mark_count is_wide }
 {
-    if is_wide { 8192 } else { 1024 }
+    if is_wide { 8192 } else { 256 }
 }
 
 /// Are they the same name?
@@ -84,13 +84,6 @@ impl Sought {
             Some(last) => *last,
             None => 0,
         }
-    }
-
-    /// Does a name that is sought stand at the mark of this one?
-    pub(crate) fn is_marked(&self, name: EntryKey) -> bool
-        ensures { result ≡ not (slice_index_or self.now.lasts.items (mark_of self.now.is_wide name) 0 == 0) }
-    {
-        self.last(name) != 0
     }
 
     /// The place of a name among those that are sought. None exactly where it is not one of them.

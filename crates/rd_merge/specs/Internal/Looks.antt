@@ -1,5 +1,5 @@
 -- What a look at one entry of a kept level finds.
-use Rattle.std.specs.Prelude.{ℕ, ◌&&◌, ◌==◌, Bool, false, List, [], ◌∷◌, map, take, slice_index_or, slice_set, Option, Some, None}
+use Rattle.std.specs.Prelude.{◌≡◌, ℕ, ◌&&◌, not, Bool, false, List, [], ◌∷◌, map, take, slice_index_or, slice_set, Option, Some, None}
 use Rattle.rd_keys.specs.Keys.{BoxKey}
 use Rattle.rd_keys.specs.declared.entry.EntryKey.{EntryKey}
 use Rattle.rd_keys.specs.declared.entry.EntryKey.TheVariants as key
@@ -13,7 +13,7 @@ use Rattle.rd_list.specs.KeptView.{kept_entries}
 use Rattle.rd_list.specs.declared.kept.Entry.{Entry}
 use Rattle.rd_list.specs.declared.kept.Entry.TheVariants.{Leaf, Group}
 use Rattle.rd_merge.specs.Going.{is_untouched}
-use Rattle.rd_merge.specs.Internal.Sought.{mark_of}
+use Rattle.rd_merge.specs.Internal.Marks.{box_mark}
 use Rattle.rd_merge.specs.Looking.{any_goes, gone_places, inner_places, kept_names}
 
 -- a place noted where there is a number
@@ -30,10 +30,10 @@ module _ {A : Type 0} where
   name_of (Leaf i) = key.Leaf i.leaf.owner i.leaf.part
   name_of (Group g) = key.Group g.key
 
-  -- is it a leaf of an untouched box, at whose mark no name stands?
-  abbrev pub is_passed : (BoxKey → Bool) → Bool → List ℕ → Entry A → Bool
-  is_passed touched wide lasts (Leaf i) = (slice_index_or lasts (mark_of wide (key.Leaf i.leaf.owner i.leaf.part)) 0 == 0) && is_untouched touched i.leaf
-  is_passed touched wide lasts (Group g) = false
+  -- is it a leaf of an untouched box whose mark is not set?
+  abbrev pub is_passed : (BoxKey → Bool) → Bool → List Bool → Entry A → Bool
+  is_passed touched wide marks (Leaf i) = not (slice_index_or marks (box_mark wide i.leaf.owner) false) && is_untouched touched i.leaf
+  is_passed touched wide marks (Group g) = false
 
   -- is it a group of which something goes?
   abbrev pub goes_inside : (BoxKey → Bool) → Entry A → Bool
@@ -57,3 +57,9 @@ module _ {A : Type 0} where
 
   abbrev pub inner_before : (BoxKey → Bool) → List EntryKey → List (Entry A) → ℕ → List ℕ
   inner_before touched names es n = inner_places entry_names (is_untouched touched) names 0 (kept_leaves (kept_entries (take n es)))
+
+  -- nothing is noted of the entries from one place up to another
+  pub record NothingNoted (touched : BoxKey → Bool) (es : List (Entry A)) (names : List EntryKey) (from end : ℕ) : Type 0 where
+    pub gone : gone_before touched es end ≡ gone_before touched es from
+    pub found : found_before es names end ≡ found_before es names from
+    pub inner : inner_before touched names es end ≡ inner_before touched names es from
