@@ -1,4 +1,4 @@
-//! Merges of small lists, worked out by hand.
+//! Merges of small lists, worked out by hand, and of drawn levels beside a matrix.
 ghost use Rattle.std.specs.Prelude.{◌≡◌, ◌<◌, ◌||◌, ◌∷◌, [], true, false, IfOk};
 ghost use Rattle.rd_geom.specs.Plane.{has_none};
 ghost use Rattle.rd_keys.specs.Keys.{same_key};
@@ -6,7 +6,13 @@ ghost use Rattle.rd_list.specs.Entries as list;
 ghost use Rattle.rd_list.specs.NewView.{new_entries};
 ghost use Rattle.rd_merge.specs.Internal.Sample.{IsFirst, late_list, one_item, part_list, whole_list};
 
+mod checked;
+mod drawing;
+mod drawn;
+mod matrix;
+
 use crate::{Touches, merge};
+use drawn::{MERGES, Tally, compare};
 use rd_geom::{Color, Rect, Steps};
 use rd_item::{Item, Shape};
 use rd_keys::{Arena, BoxKey, BoxMark, Part};
@@ -322,5 +328,49 @@ fn small_merges(rt: HostRuntime) -> Result<(), Fail> {
         }
         (_, _) => assert!(rt; false),
     }
+    Ok(())
+}
+
+// The spots of some boxes in a row, each of which overlaps the next one.
+fn row(alloc: Global, keys: &[BoxKey]) -> Result<Vec<(BoxKey, Rect)>, AllocError> {
+    let mut all = Vec::new(alloc);
+    let mut x: i32 = 0;
+    for key in keys {
+        if let Some(rect) = Rect::new(x, 0, 4, 4) {
+            all.push((*key, rect))?;
+        }
+        x = x.wrapping_add(3);
+    }
+    Ok(all)
+}
+
+fn drawn_merges<A: Ledger>(
+    alloc: Global,
+    every: &[(BoxKey, Rect)],
+    blank: Blank,
+) -> Result<Tally, AllocError>
+    requires name { blank.name ≡ A.name }
+    requires parts { blank.parts ≡ A.parts }
+    requires some { 0 < blank.parts }
+{
+    let mut made = Steps::<A>::new(blank);
+    compare(alloc, every, &mut made)
+}
+
+// Many merges of drawn levels give what brute force gives.
+#[test]
+fn drawn_merges_agree(rt: HostRuntime) -> Result<(), Fail> {
+    let mut boxes = Arena::<u8, BoxMark>::starting_at(rt.alloc(), 10, 0);
+    let mut keys = Vec::new(rt.alloc());
+    for number in 0..10 {
+        match boxes.insert(number) {
+            Ok(key) => keys.push(key)?,
+            Err(_) => assert!(rt; false),
+        }
+    }
+    let every = row(rt.alloc(), &keys)?;
+    let tally = drawn_merges::<Brand>(rt.alloc(), &every, Blank::new(1))?;
+    assert_eq!(rt; tally.agreed, MERGES);
+    assert!(rt; tally.free > 0);
     Ok(())
 }
