@@ -1,7 +1,9 @@
 -- The arena of nodes and the index of ids, as each call leaves them.
 pub mod Marks
+pub mod Glances
 pub mod Grow
 pub mod Looking
+pub mod Seeking
 pub mod Rooting
 pub mod Items
 pub mod Naming

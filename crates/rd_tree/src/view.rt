@@ -1,9 +1,15 @@
 //! What a look at a box gives.
 
-ghost use Rattle.std.specs.Prelude.{◌≡◌};
+ghost use Rattle.std.specs.Prelude.{◌≡◌, ◌&&◌, ◌||◌, Some, int_lt, nat_lt, option_map};
+ghost use Rattle.rd_keys.specs.Keys.{same_key};
+ghost use Rattle.rd_keys.specs.Arena.{value};
+ghost use Rattle.rd_tree.specs.Seeking as seeking;
 ghost use Rattle.rd_tree.specs.Shown.{told};
+ghost use Rattle.rd_tree.specs.Internal.Glances.{glance_of};
 ghost use Rattle.rd_tree.specs.Internal.Linked.{shown_of};
 
+use crate::glance::Glance;
+use crate::held::Nodes;
 use crate::node::Node;
 use crate::table::row::Summary;
 use rd_geom::Rect;
@@ -36,9 +42,16 @@ pub struct BoxView<'a> {
     pub touched_below: bool,
 }
 
-/// What a node and its row show of its box.
+/// What a node, what a walk reads of it, and its row show of its box.
 #[inline(always)]
-pub(crate) fn view_of(key: BoxKey, is_root: bool, node: &Node, row: Summary) -> BoxView<'_>
+pub(crate) fn view_of(
+    key: BoxKey,
+    is_root: bool,
+    node: &Node,
+    glance: Glance,
+    row: Summary,
+) -> BoxView<'_>
+    requires { glance ≡ glance_of key.generation node.now }
     ensures { told result ≡ shown_of key is_root node.now row }
 {
     BoxView {
@@ -47,10 +60,61 @@ pub(crate) fn view_of(key: BoxKey, is_root: bool, node: &Node, row: Summary) -> 
         style: &node.item.style,
         is_root,
         children: row.children,
-        first_child: node.links.first,
-        next_sibling: node.links.next,
+        first_child: glance.first,
+        next_sibling: glance.next,
         hull: row.hull,
-        touched: node.item.touched,
+        touched: glance.touched,
         touched_below: row.touched > 0,
     }
+}
+
+/// What a look at a box gives, by what is read of it and by its row.
+#[inline(always)]
+pub(crate) fn view_at(
+    nodes: &Nodes,
+    root: BoxKey,
+    key: BoxKey,
+    glance: Glance,
+    row: Summary,
+) -> Option<BoxView<'_>>
+    requires { Some glance ≡ option_map (glance_of key.generation) (value nodes.now key.slot key.generation) }
+    ensures { option_map told result ≡ option_map (λ n. shown_of key (same_key key root) n row)
+        (value nodes.now key.slot key.generation) }
+{
+    match nodes.get(key) {
+        Some(node) => Some(view_of(key, key.is(root), node, glance, row)),
+        None => unreachable!(),
+    }
+}
+
+/// Is a box touched, or has it a touched box below it, by what is read of it and by its row?
+#[inline(always)]
+pub(crate) fn is_marked(glance: &Glance, row: &Summary) -> bool
+    ensures { result ≡ (glance.now.touched || nat_lt 0 row.now.touched) }
+{
+    glance.touched || row.touched > 0
+}
+
+#[inline(always)]
+fn is_before(a: i32, b: i32) -> bool
+    ensures { result ≡ int_lt a b }
+{
+    a < b
+}
+
+/// Does a begin before b ends, and b before a ends?
+#[inline(always)]
+fn overlap(a: i32, a_end: i32, b: i32, b_end: i32) -> bool
+    ensures { result ≡ (int_lt a b_end && int_lt b a_end) }
+{
+    is_before(a, b_end) && is_before(b, a_end)
+}
+
+/// Are there a column and a row that both may reach?
+#[inline(always)]
+pub(crate) fn reaches(r: &Rect, hull: &Rect) -> bool
+    ensures { result ≡ seeking.reaches r.now hull.now }
+{
+    overlap(hull.x(), hull.right(), r.x(), r.right())
+        && overlap(hull.y(), hull.bottom(), r.y(), r.bottom())
 }

@@ -9,13 +9,13 @@ use Rattle.rd_style.specs.Changes.{whole, names_any}
 use Rattle.rd_keys.specs.Keys.{same_key}
 use Rattle.rd_keys.proofs.Keys.{same_key-sound, same_key-refl}
 use Rattle.rd_tree.specs.declared.reach.Reach.TheVariants.{Nothing}
-use Rattle.rd_tree.specs.Forest.{Forest, empty, tree, ◌▷◌, has, children, with_children, insert_before, insert_among, without_branch, branch, map_where, at_box, at_subtree, in_subtree, item_of, IsApart}
+use Rattle.rd_tree.specs.Forest.{Forest, empty, tree, has, children, with_children, insert_before, insert_among, without_branch, branch, map_where, at_box, at_subtree, in_subtree, item_of, IsApart}
 use Rattle.rd_tree.specs.Document.{Document, BoxKey, Item, BoxForest, contains, with_child, with_taken}
 use Rattle.rd_tree.specs.Changes.{insertion, removal, moving, styling, placing, shifting, restyle, with_rect, shift_item, with_removed, put_elsewhere}
 use Rattle.rd_tree.specs.Touching.{touch, edited}
 use Rattle.rd_tree.specs.Internal.Works.{move_by}
 use Rattle.rd_tree.specs.Internal.Reaching.{style_reach, rect_reach, touch_reached, restyled, replaced, moved}
-use Rattle.rd_tree.proofs.Linking.Standing.{cases, never, differs_back, out_of_children}
+use Rattle.rd_tree.proofs.Linking.Standing.{cases, never}
 use Rattle.rd_tree.proofs.Nodes.Each.{has-each, children-each, join-each, each_same}
 use Rattle.rd_tree.proofs.Forests.EachBranch.{branch-each, without_branch-each, each_none, within_subtree, without_branch-within}
 

@@ -1,9 +1,9 @@
 -- The key of a new box: it is of no box, it was never given, and one slot more is taken.
-use Rattle.std.proofs.Common.{◌≡◌, refl, ap, ◌∙◌, sym, subst, ℕ, ◌+◌, ◌<◌, Bool, true, false, cond, arith, List, [], ◌∷◌, ◌++◌, length, count_by, ◌⊎◌, inl, inr}
+use Rattle.std.proofs.Common.{◌≡◌, ap, ◌∙◌, ℕ, ◌+◌, ◌<◌, Bool, true, false, cond, arith, List, [], ◌∷◌, ◌++◌, length, count_by, ◌⊎◌, inl, inr}
 use Rattle.std.specs.Prelude.{slice_set, nat_lt}
 use Rattle.std.proofs.lemmas.List.Sums.{sum_by-cons, sum_by-set}
-use Rattle.rd_tree.specs.Document.{BoxKey, Slot, Document, contains, taken, slot_of, with_taken, IsNextOf, IsNext, IsKeyed}
-use Rattle.rd_tree.proofs.Linking.Standing.{refute, never}
+use Rattle.rd_tree.specs.Document.{BoxKey, Slot, Document, contains, taken, slot_of, with_taken, IsNext, IsKeyed}
+use Rattle.rd_tree.proofs.Linking.Standing.{refute}
 
 -- Was this key ever given to a box?
 abbrev pub IsUsed : Document → BoxKey → Type 0

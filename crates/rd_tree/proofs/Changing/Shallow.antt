@@ -1,12 +1,12 @@
 -- No box is too deep once boxes change.
-use Rattle.std.proofs.Common.{◌≡◌, refl, ap, ◌∙◌, subst, ◌+◌, ◌≤◌, Bool, true, false, arith}
-use Rattle.std.specs.Prelude.{Option, Some}
+use Rattle.std.proofs.Common.{◌≡◌, refl, ap, ◌∙◌, ◌+◌, ◌≤◌, Bool, true, false, arith}
+use Rattle.std.specs.Prelude.{Option}
 use Rattle.rd_keys.specs.Keys.{same_key}
 use Rattle.rd_keys.proofs.Keys.{same_key-sound, same_key-refl}
 use Rattle.rd_tree.specs.declared.limits.TheConstants.{MAX_DEPTH}
 use Rattle.rd_tree.specs.declared.reach.Reach.{Reach}
 use Rattle.rd_tree.specs.declared.reach.Reach.TheVariants.{Nothing, Alone, Subtree}
-use Rattle.rd_tree.specs.Forest.{empty, tree, has, height, depth, children, without_branch, branch, in_subtree, at_subtree, map_where, IsApart}
+use Rattle.rd_tree.specs.Forest.{empty, tree, has, height, depth, children, without_branch, branch, in_subtree, map_where, IsApart}
 use Rattle.rd_tree.specs.Document.{BoxKey, Item, BoxForest, with_child}
 use Rattle.rd_tree.specs.Changes.{put_elsewhere}
 use Rattle.rd_tree.specs.Touching.{touch}

@@ -1,9 +1,9 @@
 -- How deep boxes are, and how many levels there are, once boxes change.
-use Rattle.std.proofs.Common.{◌≡◌, refl, ap, ◌∙◌, sym, subst, ℕ, ◌+◌, ◌≤◌, max, Bool, true, false, ◌||◌, cond, arith, inl, inr}
+use Rattle.std.proofs.Common.{◌≡◌, refl, ap, ◌∙◌, subst, ℕ, ◌+◌, ◌≤◌, max, Bool, true, false, ◌||◌, arith, inl, inr}
 use Rattle.std.specs.Prelude.{Option, Some, None}
 use Rattle.rd_tree.specs.Forest.{Forest, empty, tree, ◌▷◌, has, height, depth, children, with_children, insert_before, insert_among, without_branch, branch, map_where, IsApart}
-use Rattle.rd_tree.proofs.Linking.Standing.{cases, never, either, join-empty, no_children, out_of_children, apart_back, differs}
-use Rattle.rd_tree.proofs.Forests.Under.{which, no_under}
+use Rattle.rd_tree.proofs.Linking.Standing.{cases, never, either, join-empty, no_children}
+use Rattle.rd_tree.proofs.Forests.Under.{no_under}
 use Rattle.rd_tree.proofs.Forests.Without.{out_of_without, stays}
 use Rattle.rd_tree.proofs.Forests.Restoring.{branch_there}
 

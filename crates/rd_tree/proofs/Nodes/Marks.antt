@@ -1,6 +1,6 @@
 -- The slots of an arena without what they hold.
-use Rattle.std.proofs.Common.{◌≡◌, refl, ap, ◌∙◌, sym, subst, ℕ, ◌+◌, ◌<◌, Bool, true, false, cond, arith, List, [], ◌∷◌, length, map, count_by, ◌⊎◌, inl, inr}
-use Rattle.std.specs.Prelude.{Some, None, slice_index_or, nat_lt, option_map}
+use Rattle.std.proofs.Common.{◌≡◌, refl, ap, ◌∙◌, sym, subst, ℕ, ◌+◌, ◌<◌, Bool, true, false, cond, List, [], ◌∷◌, length, map, count_by, inl, inr}
+use Rattle.std.specs.Prelude.{Some, slice_index_or, nat_lt, option_map}
 use Rattle.std.proofs.lemmas.List.{map-set, map-append, length-map}
 use Rattle.std.proofs.lemmas.List.Sums.{sum_by-cons}
 use Rattle.std.proofs.Math.Seq.{map-set_same}

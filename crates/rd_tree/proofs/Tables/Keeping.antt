@@ -1,8 +1,7 @@
 -- The table of a tree stays right.
-use Rattle.std.proofs.Common.{◌≡◌, refl, ap, ◌∙◌, sym, subst, ℕ, ◌+◌, ◌<◌, ◌≤◌, ◌==◌, Bool, true, false, cond, arith, List, [], ◌∷◌, ◌++◌, length, map, inl, inr}
+use Rattle.std.proofs.Common.{◌≡◌, refl, ap, ◌∙◌, sym, subst, ℕ, ◌+◌, ◌<◌, ◌≤◌, ◌==◌, Bool, true, false, cond, arith, List, [], ◌∷◌, ◌++◌, length, inl, inr}
 use Rattle.std.specs.Prelude.{Some, is_some, slice_set, nat_lt}
 use Rattle.std.proofs.lemmas.List.{length-set, length-append, length-map}
-use Rattle.std.proofs.Math.ListN.{get_or-map}
 use Rattle.rd_geom.specs.Plane.{hull_of, no_pixels}
 use Rattle.rd_keys.specs.Keys.{same_key}
 use Rattle.rd_keys.specs.Arena.{Arena, with_slot, Enters}

@@ -7,20 +7,24 @@ use Rattle.rd_keys.proofs.Keys.{same_key-sound, same_key-refl}
 use Rattle.rd_tree.specs.declared.node.Node as inner
 use Rattle.rd_tree.specs.declared.table.row.Summary.{Summary}
 use Rattle.rd_tree.specs.declared.links.walk.Work.TheVariants.{Settle}
-use Rattle.rd_tree.specs.Forest.{empty, tree, size, has}
+use Rattle.rd_tree.specs.Forest.{empty, tree, size, has, branch, AllItems}
 use Rattle.rd_tree.specs.Internal.Links.{Node, node, with_item, Stands, edit, on_each, child_and_sibling}
 use Rattle.rd_tree.specs.Document.{BoxKey, Item, BoxForest}
 use Rattle.rd_tree.specs.Touching.{settled}
-use Rattle.rd_tree.specs.Internal.Linked.{linked, Relinks, IsRead, seen_from}
-use Rattle.rd_tree.specs.Internal.Works.{Allows, AllowsAt}
+use Rattle.rd_tree.specs.Internal.Linked.{linked, Relinks, IsRead, IsTree, seen, seen_from}
+use Rattle.rd_tree.specs.Internal.Works.{Allows}
 use Rattle.rd_tree.specs.Internal.Summaries.{summary_of, summary_at, touched_in}
-use Rattle.rd_tree.specs.Internal.Rows.{HasRows, Puts, unmarked}
+use Rattle.rd_tree.specs.Internal.Rows.{HasRows, IsTabled, Puts, unmarked, touched_under}
+use Rattle.rd_tree.specs.Internal.Renews.{whole_at}
 use Rattle.rd_tree.specs.Internal.Settles.{HasCounts, Unmarks}
 use Rattle.rd_tree.proofs.Linking.Standing.{cases, from_left, from_right, differs, apart_back}
 use Rattle.rd_tree.proofs.Forests.Under.{which}
 use Rattle.rd_tree.proofs.Nodes.Each.{all_items, is_some-each}
-use Rattle.rd_tree.proofs.Nodes.Works.{Walked, Here, here, begun, ended, allowed_here, flip, Below, below, low_seen, low_stand, next_seen, onward}
+use Rattle.rd_tree.proofs.Nodes.Works.{Walked, Here, here, begun, flip, seen_read, Below, below, low_seen, low_stand, next_seen, onward}
+use Rattle.rd_tree.proofs.Nodes.Rooting.{rooted_seen}
 use Rattle.rd_tree.proofs.Tables.Above.{puts_at}
+use Rattle.rd_tree.proofs.Tables.Renewing.{whole_is}
+use Rattle.rd_tree.proofs.Tables.TreeRows.{seen_stands}
 use Rattle.rd_tree.proofs.Tables.Siblings.{nothing_seen}
 use Rattle.rd_tree.proofs.Tables.Filling.{written}
 
@@ -104,6 +108,76 @@ settling_ended a0 a old new first w j u =
       every : {A : Type 0} (b : Bool) (x y : A) → cond (b && not false) x y ≡ cond b x y
       every true x y = refl
       every false x y = refl
+
+-- Where none of these boxes has a mark, the loop is at its end.
+settling_rest : (a0 a : Arena inner.Node) (old new : List Summary) (first at : Option BoxKey) → Settling a0 a old new first at → touched_in (seen_from a at) ≡ 0
+    → Settling a0 a old new first None
+settling_rest a0 a old new first at w z = record {
+  walked = record {
+    links = record {
+      links = λ j. w.walked.links.links j ∙ (same (F j) (G j) (λ v. w.walked.within j v) (option_map (with_item settled) (linked a0 j)) (linked a0 j) (λ f g. quiet_at j f g)
+          ∙ ap (λ f. cond (F j && not (has same_key j f)) (option_map (with_item settled) (linked a0 j)) (linked a0 j)) (sym (nothing_seen a)));
+      same_slots = w.walked.links.same_slots;
+      same_live = w.walked.links.same_live;
+      limit = w.walked.links.limit;
+      first = w.walked.links.first;
+    };
+    read = record { boxes = empty; up = None; prev = None; last = None; stands = (refl, refl); apart = tt; small = omega arith };
+    allowed = subst (λ f. AllItems (Allows Settle) f) (sym (nothing_seen a)) tt;
+    within = λ j v. let m : false ≡ true = sym (ap (has same_key j) (nothing_seen a)) ∙ v in absurd (cc (m));
+    smaller = let n : size (seen_from a None) ≡ 0 = ap size (nothing_seen a) in omega (arith, n);
+  };
+  has_rows = w.has_rows;
+  counts = w.counts;
+  later = λ j v. let m : false ≡ true = sym (ap (has same_key j) (nothing_seen a)) ∙ v in absurd (cc (m));
+  rows = λ j l. w.rows j l ∙ (same (F j) (G j) (λ v. w.walked.within j v) (unmarked (summary_at old j)) (summary_at old j) (λ f g. no_mark j f g)
+      ∙ ap (λ f. cond (F j && not (has same_key j f)) (unmarked (summary_at old j)) (summary_at old j)) (sym (nothing_seen a)));
+  same_length = w.same_length;
+} where
+  F : BoxKey → Bool
+  F j = has same_key j (seen_from a0 first)
+
+  G : BoxKey → Bool
+  G j = has same_key j (seen_from a at)
+
+  same : {A : Type 0} (b c : Bool) → (c ≡ true → b ≡ true) → (x y : A) → (b ≡ true → c ≡ true → x ≡ y) → cond (b && not c) x y ≡ cond (b && not false) x y
+  same true true i x y f = sym (f refl refl)
+  same true false i x y f = refl
+  same false c i x y f = refl
+
+  -- a box that is still to come has no mark
+  quiet_at : (j : BoxKey) → F j ≡ true → G j ≡ true → option_map (with_item settled) (linked a0 j) ≡ linked a0 j
+  quiet_at j f g =
+      let was : linked a j ≡ linked a0 j = w.walked.links.links j ∙ rw (g, f) refl in
+      let r = w.walked.read in
+      subst (λ o. option_map (with_item settled) o ≡ o) was (quiet (linked a) r.up r.prev r.boxes at r.last None j r.stands
+      (ap touched_in (sym (seen_read a at r)) ∙ z) (ap (has same_key j) (sym (seen_read a at r)) ∙ g))
+
+  no_mark : (j : BoxKey) → F j ≡ true → G j ≡ true → unmarked (summary_at old j) ≡ summary_at old j
+  no_mark j f g =
+      ap (λ n. record (summary_at old j) { touched = n }) (sym (w.counts j f ∙ (ap (λ s. s.touched) (w.later j g) ∙ none_below (seen_from a at) j z)))
+
+-- The loop goes on where marks are left.
+pub settling_on : (a0 a : Arena inner.Node) (old new : List Summary) (first at to : Option BoxKey) (left : ℕ) → Settling a0 a old new first at → left ≡ touched_in
+    (seen_from a at) → to ≡ cond (left == 0) None at → Settling a0 a old new first to × (left ≡ touched_in (seen_from a to)) × (size (seen_from a to) ≤ size (seen_from a at))
+settling_on a0 a old new first at to left w n e = elim (cases (left == 0)) [
+  | inl u ↦
+      let z : left ≡ 0 = grind arith in
+      let none : to ≡ None = e ∙ rw u refl in
+      subst (λ o. Settling a0 a old new first o × (left ≡ touched_in (seen_from a o)) × (size (seen_from a o) ≤ size (seen_from a at))) (sym none) (
+        settling_rest a0 a old new first at w (sym n ∙ z),
+        z ∙ sym (ap touched_in (nothing_seen a)),
+        let m : size (seen_from a None) ≡ 0 = ap size (nothing_seen a) in omega (arith, m),
+      )
+  | inr u ↦
+      let same : to ≡ at = e ∙ rw u refl in
+      subst (λ o. Settling a0 a old new first o × (left ≡ touched_in (seen_from a o)) × (size (seen_from a o) ≤ size (seen_from a at))) (sym same) (w, n, omega arith)
+]
+
+-- What the loop keeps, where there is a next box.
+pub walked : (a0 a : Arena inner.Node) (old new : List Summary) (first at : Option BoxKey) (k : BoxKey) (left : ℕ) → at ≡ Some k → Settling a0 a old new first at
+    × (left ≡ touched_in (seen_from a at)) → Settling a0 a old new first (Some k) × (left ≡ touched_in (seen_from a (Some k)))
+walked a0 a old new first at k left e w = subst (λ o. Settling a0 a old new first o × (left ≡ touched_in (seen_from a o))) e w
 
 -- What is known before the marks below a box are taken off.
 pub record BelowSettle (a0 a1 : Arena inner.Node) (new : List Summary) (first b : Option BoxKey) : Type 0 where
@@ -258,6 +332,14 @@ module _ (a0 a : Arena inner.Node) (old new : List Summary) (first : Option BoxK
     pub record SettleNext (a2 : Arena inner.Node) (new2 : List Summary) : Type 0 where
       pub next : Settling a0 a2 old new2 first o.1
       pub less : size (seen_from a2 o.1) < size (seen_from a (Some k))
+      pub marks : touched_in (seen_from a (Some k)) ≡ touched_under (linked a k) + ((summary_at new k).touched + touched_in (seen_from a2 o.1))
+
+    -- So many marks are below it.
+    pub marks_below : (summary_at new k).touched ≡ touched_in (seen_from a1 b)
+    marks_below = elim either_way [
+      | inl u ↦ here_count ∙ sym (ap (λ z. touched_in (seen_from a1 z)) u ∙ ap touched_in seen_low)
+      | inr u ↦ here_count ∙ (u.1 ∙ sym (ap (λ z. touched_in (seen_from a1 z)) u.0 ∙ ap touched_in (nothing_seen a1)))
+    ]
 
     pub settle_next : (a2 : Arena inner.Node) (new1 new2 : List Summary) → Relinks a1 a2 (on_each (λ j. has same_key j (seen_from a1 b)) settled
         (linked a1)) → Unmarks a1 new new1 (seen_from a1 b) → length new1 ≡ length new →
@@ -273,6 +355,7 @@ module _ (a0 a : Arena inner.Node) (old new : List Summary) (first : Option BoxK
         let F : BoxKey → Bool = λ j. has same_key j (seen_from a0 first) in
         record {
           less = t2.1;
+          marks = ap touched_in h.seen ∙ sym (rw (h.found, here_count, seen2) refl);
           next = record {
             walked = t2.0;
             has_rows = w.has_rows;
@@ -307,3 +390,20 @@ module _ (a0 a : Arena inner.Node) (old new : List Summary) (first : Option BoxK
             same_length = l2 ∙ (l1 ∙ w.same_length);
           };
         }
+
+-- The root is there,
+pub root_there : (a : Arena inner.Node) (root : BoxKey) → IsTree a root → has same_key root (seen a root) ≡ true
+root_there a root t =
+    let r = rooted_seen a root t in
+    subst (λ f. has same_key root f ≡ true) (sym r.2) (from_left (same_key root root) (has same_key root r.1 || false) (same_key-refl root))
+
+-- and its row tells how many marks there are.
+pub all_marks : (a : Arena inner.Node) (root : BoxKey) (rows : List Summary) → IsTree a root → IsTabled a rows (seen a root) → (whole_at a rows root).touched
+    ≡ touched_in (seen_from a (Some root))
+all_marks a root rows t table =
+    let m : has same_key root (seen a root) ≡ true = root_there a root t in
+    ap (λ w. w.touched) (whole_is a root (seen a root) (seen_stands a root t) root m rows (table.right root m)) ∙ ap touched_in whole where
+      whole : branch same_key root (seen a root) ≡ seen a root
+      whole =
+          let r = rooted_seen a root t in
+          subst (λ f. branch same_key root f ≡ f) (sym r.2) (rw (same_key-refl root) refl)

@@ -6,13 +6,13 @@ ghost use Rattle.rd_tree.specs.Internal.Links.{child_and_sibling};
 ghost use Rattle.rd_tree.specs.Internal.Linked.{IsRead, linked, seen_from};
 ghost use Rattle.rd_tree.specs.Internal.Frees.{Frees, DropsTexts, topped, branch_at};
 
-use crate::node::Node;
+use crate::held::Nodes;
 use indexmap::IndexMap;
-use rd_keys::{Arena, BoxKey, BoxMark};
+use rd_keys::BoxKey;
 
 /// Takes a box out of the arena, and its id out of the index. Its first child and its next sibling.
 fn free_one(
-    nodes: &mut Arena<Node, BoxMark>,
+    nodes: &mut Nodes,
     ids: &mut IndexMap<String, BoxKey>,
     key: BoxKey,
 ) -> (Option<BoxKey>, Option<BoxKey>)
@@ -30,11 +30,7 @@ fn free_one(
 }
 
 /// Takes out a box, those below it, and its later siblings with theirs.
-fn free_from(
-    nodes: &mut Arena<Node, BoxMark>,
-    ids: &mut IndexMap<String, BoxKey>,
-    first: Option<BoxKey>,
-)
+fn free_from(nodes: &mut Nodes, ids: &mut IndexMap<String, BoxKey>, first: Option<BoxKey>)
     requires read { IsRead nodes.old first }
     ensures freed { Frees nodes.old nodes.new (seen_from nodes.old first) }
     ensures dropped { DropsTexts (seen_from nodes.old first) ids.old ids.new }
@@ -48,11 +44,7 @@ fn free_from(
 }
 
 /// Takes out a box and all below it.
-pub(crate) fn free_branch(
-    nodes: &mut Arena<Node, BoxMark>,
-    ids: &mut IndexMap<String, BoxKey>,
-    key: BoxKey,
-)
+pub(crate) fn free_branch(nodes: &mut Nodes, ids: &mut IndexMap<String, BoxKey>, key: BoxKey)
     requires read { IsRead nodes.old (child_and_sibling (linked nodes.old key)).0 }
     requires apart { has same_key key (seen_from nodes.old (child_and_sibling (linked nodes.old
         key)).0) ≡ false }

@@ -14,12 +14,13 @@ ghost use Rattle.rd_tree.specs.Changes as changes;
 ghost use Rattle.rd_tree.specs.Internal.Reaching as reaching;
 ghost use Rattle.std.specs.Option.{option_map_or};
 
+use crate::held::Nodes;
 use crate::limits::MAX_BOXES;
-use crate::node::{Item, Node};
-use crate::reach::{Reach, rect_reach, style_reach};
+use crate::node::Item;
+use crate::reach::Reach;
 use rd_geom::Rect;
-use rd_keys::{Arena, BoxKey, BoxMark};
-use rd_style::{MAX_COORDINATE, StyleChange, changed};
+use rd_keys::BoxKey;
+use rd_style::MAX_COORDINATE;
 
 /// What is done to a box.
 #[derive(Clone, Copy)]
@@ -59,7 +60,8 @@ fn shift_rect(r: &Rect, dx: i32, dy: i32) -> Rect
     }
 }
 
-fn do_work(item: &mut Item, work: Work)
+/// Does the work on the item of a box.
+pub(crate) fn do_work(item: &mut Item, work: Work)
     requires { Allows work item.old }
     ensures { item.new ≡ done work item.old }
 {
@@ -73,28 +75,8 @@ fn do_work(item: &mut Item, work: Work)
     }
 }
 
-/// Does the work on one box. Its first child and its next sibling.
-pub(crate) fn work_on(
-    nodes: &mut Arena<Node, BoxMark>,
-    key: BoxKey,
-    work: Work,
-) -> (Option<BoxKey>, Option<BoxKey>)
-    requires { AllowsAt work (linked nodes.old key) }
-    ensures worked { Relinks nodes.old nodes.new (edit same_key key (with_item (done work))
-        (linked nodes.old)) }
-    ensures onward { result ≡ child_and_sibling (linked nodes.old key) }
-{
-    match nodes.get_mut(key) {
-        Some(node) => {
-            do_work(&mut node.item, work);
-            (node.links.first, node.links.next)
-        }
-        None => (None, None),
-    }
-}
-
 /// Does the work on a box, on those below it, and on its later siblings with theirs.
-pub(crate) fn work_from(nodes: &mut Arena<Node, BoxMark>, first: Option<BoxKey>, work: Work)
+pub(crate) fn work_from(nodes: &mut Nodes, first: Option<BoxKey>, work: Work)
     requires read { IsRead nodes.old first }
     requires allowed { AllItems (Allows work) (seen_from nodes.old first) }
     ensures { Relinks nodes.old nodes.new (on_each (λ j. has same_key j (seen_from nodes.old
@@ -102,14 +84,14 @@ pub(crate) fn work_from(nodes: &mut Arena<Node, BoxMark>, first: Option<BoxKey>,
 {
     let mut at = first;
     while let Some(key) = at {
-        let onward = work_on(nodes, key, work);
+        let onward = nodes.work_on(key, work);
         work_from(nodes, onward.0, work);
         at = onward.1;
     }
 }
 
 /// Does the work on a box and on all below it.
-pub(crate) fn work_below(nodes: &mut Arena<Node, BoxMark>, key: BoxKey, work: Work)
+pub(crate) fn work_below(nodes: &mut Nodes, key: BoxKey, work: Work)
     requires here { AllowsAt work (linked nodes.old key) }
     requires read { IsRead nodes.old (child_and_sibling (linked nodes.old key)).0 }
     requires apart { has same_key key (seen_from nodes.old (child_and_sibling (linked nodes.old
@@ -120,15 +102,12 @@ pub(crate) fn work_below(nodes: &mut Arena<Node, BoxMark>, key: BoxKey, work: Wo
         (seen_from nodes.old (child_and_sibling (linked nodes.old key)).0)) (done work)
         (linked nodes.old)) }
 {
-    let onward = work_on(nodes, key, work);
+    let onward = nodes.work_on(key, work);
     work_from(nodes, onward.0, work);
 }
 
 /// The first child and the next sibling of a box.
-pub(crate) fn child_and_sibling(
-    nodes: &Arena<Node, BoxMark>,
-    key: BoxKey,
-) -> (Option<BoxKey>, Option<BoxKey>)
+pub(crate) fn child_and_sibling(nodes: &Nodes, key: BoxKey) -> (Option<BoxKey>, Option<BoxKey>)
     ensures { result ≡ child_and_sibling (linked nodes.now key) }
 {
     match nodes.get(key) {
@@ -138,7 +117,7 @@ pub(crate) fn child_and_sibling(
 }
 
 /// How many levels a box, those below it, and its later siblings with theirs have.
-pub(crate) fn height_from(nodes: &Arena<Node, BoxMark>, first: Option<BoxKey>) -> u32
+pub(crate) fn height_from(nodes: &Nodes, first: Option<BoxKey>) -> u32
     requires read { IsRead nodes.now first }
     requires small { nodes.now.limit ≤ MAX_BOXES }
     ensures height { result ≡ height (seen_from nodes.now first) }
@@ -155,7 +134,7 @@ pub(crate) fn height_from(nodes: &Arena<Node, BoxMark>, first: Option<BoxKey>) -
 }
 
 /// Touches as far as an edit reaches.
-pub(crate) fn touch(nodes: &mut Arena<Node, BoxMark>, key: BoxKey, reach: Reach)
+pub(crate) fn touch(nodes: &mut Nodes, key: BoxKey, reach: Reach)
     requires read { IsRead nodes.old (child_and_sibling (linked nodes.old key)).0 }
     requires apart { has same_key key (seen_from nodes.old (child_and_sibling (linked nodes.old
         key)).0) ≡ false }
@@ -165,52 +144,9 @@ pub(crate) fn touch(nodes: &mut Arena<Node, BoxMark>, key: BoxKey, reach: Reach)
     match reach {
         Reach::Nothing => {}
         Reach::Alone => {
-            work_on(nodes, key, Work::Touch);
+            nodes.work_on(key, Work::Touch);
         }
         Reach::Subtree => work_below(nodes, key, Work::Touch),
-    }
-}
-
-/// Changes the style of a box. How far that touches.
-pub(crate) fn restyle(
-    nodes: &mut Arena<Node, BoxMark>,
-    key: BoxKey,
-    is_root: bool,
-    c: &StyleChange,
-) -> Reach
-    ensures restyled { Relinks nodes.old nodes.new (edit same_key key (with_item (changes.restyle
-        c.now)) (linked nodes.old)) }
-    ensures reach { result ≡ option_map_or (λ d. reaching.style_reach d.style is_root c.now)
-        (item_under (linked nodes.old key)) Reach.Nothing }
-{
-    match nodes.get_mut(key) {
-        Some(node) => {
-            let reach = style_reach(&node.item.style, is_root, c);
-            node.item.style = changed(&node.item.style, c);
-            reach
-        }
-        None => Reach::Nothing,
-    }
-}
-
-/// Gives a box another rectangle. How far that touches.
-pub(crate) fn put_rect(
-    nodes: &mut Arena<Node, BoxMark>,
-    key: BoxKey,
-    is_root: bool,
-    rect: Rect,
-) -> Reach
-    ensures put { Relinks nodes.old nodes.new (edit same_key key (with_item (changes.with_rect
-        rect)) (linked nodes.old)) }
-    ensures reach { result ≡ option_map_or (λ d. reaching.rect_reach d.style is_root) (item_under
-        (linked nodes.old key)) Reach.Nothing }
-{
-    match nodes.get_mut(key) {
-        Some(node) => {
-            node.item.rect = rect;
-            rect_reach(&node.item.style, is_root)
-        }
-        None => Reach::Nothing,
     }
 }
 
@@ -255,7 +191,7 @@ fn shift_fits(r: &Rect, by: &Offset) -> bool
 
 /// Does a box stay within the limits once it is moved? Its first child and its next sibling.
 pub(crate) fn shift_one_fits(
-    nodes: &Arena<Node, BoxMark>,
+    nodes: &Nodes,
     key: BoxKey,
     by: &Offset,
 ) -> (bool, Option<BoxKey>, Option<BoxKey>)
@@ -274,11 +210,7 @@ pub(crate) fn shift_one_fits(
 }
 
 /// Do a box, those below it, and its later siblings with theirs stay within the limits once they are moved?
-pub(crate) fn shift_from_fits(
-    nodes: &Arena<Node, BoxMark>,
-    first: Option<BoxKey>,
-    by: &Offset,
-) -> bool
+pub(crate) fn shift_from_fits(nodes: &Nodes, first: Option<BoxKey>, by: &Offset) -> bool
     requires read { IsRead nodes.now first }
     requires fits { AllItems (λ d. FitsRect d.rect) (seen_from nodes.now first) }
     ensures { IsTrue result ↔ AllItems (λ d. FitsRect (shifted by.now.dx by.now.dy d.rect))

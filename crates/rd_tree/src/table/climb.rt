@@ -3,17 +3,17 @@ ghost use Rattle.std.specs.Prelude.{◌≡◌, length};
 ghost use Rattle.rd_tree.specs.Document.{BoxKey, BoxForest};
 ghost use Rattle.rd_tree.specs.Internal.Rows.{IsStanding, IsIn, CanMark, MarksUp, CanMove, IsMoving, HasHulls, KeepsCounts, KeepsOthers};
 
+use crate::held::Nodes;
 use crate::links::parent_of;
-use crate::node::Node;
 use crate::table::hulls::moved_hull;
 use crate::table::row::{Summary, mark, put_hull};
 use rd_geom::Rect;
-use rd_keys::{Arena, BoxKey, BoxMark};
+use rd_keys::BoxKey;
 
 /// So many touched boxes less below a box and below all boxes above it, and so many more.
 pub(crate) fn mark_up(
     table: &mut Vec<Summary>,
-    nodes: &Arena<Node, BoxMark>,
+    nodes: &Nodes,
     from: Option<BoxKey>,
     less: u32,
     more: u32,
@@ -33,7 +33,7 @@ pub(crate) fn mark_up(
 /// Something below a box, or nothing, had the hull `lost` and has now `gained`: the hulls of the box and of all above it.
 pub(crate) fn move_hulls(
     table: &mut Vec<Summary>,
-    nodes: &Arena<Node, BoxMark>,
+    nodes: &Nodes,
     from: Option<BoxKey>,
     lost: Rect,
     gained: Rect,

@@ -7,13 +7,13 @@ ghost use Rattle.rd_tree.specs.Internal.Linked.{IsRead, linked, seen_from};
 ghost use Rattle.rd_tree.specs.Internal.Rows.{HasRows, IsFitAt, extent_under, touched_under};
 ghost use Rattle.rd_tree.specs.Internal.Gathers.{Gathers, gathered_in, row_over};
 
+use crate::held::Nodes;
 use crate::limits::MAX_BOXES;
 use crate::links::walk::child_and_sibling;
-use crate::node::Node;
 use crate::table::hulls::extent_of;
 use crate::table::row::{Summary, write};
 use rd_geom::{Rect, hull};
-use rd_keys::{Arena, BoxKey, BoxMark};
+use rd_keys::BoxKey;
 
 /// What some siblings are together: how many they are, how many of them and of all below them are touched, and the hull
 /// of all.
@@ -37,7 +37,7 @@ impl Gathered {
 }
 
 /// 1 where the box is touched, and else 0.
-pub(crate) fn touched_at(nodes: &Arena<Node, BoxMark>, key: BoxKey) -> u32
+pub(crate) fn touched_at(nodes: &Nodes, key: BoxKey) -> u32
     ensures { result ≡ touched_under (linked nodes.now key) }
 {
     match nodes.get(key) {
@@ -47,7 +47,7 @@ pub(crate) fn touched_at(nodes: &Arena<Node, BoxMark>, key: BoxKey) -> u32
 }
 
 /// The row of a box with these below it.
-pub(crate) fn row_of(nodes: &Arena<Node, BoxMark>, key: BoxKey, below: &Gathered) -> Summary
+pub(crate) fn row_of(nodes: &Nodes, key: BoxKey, below: &Gathered) -> Summary
     requires { IsFitAt (linked nodes.now key) }
     ensures { result ≡ row_over (extent_under (linked nodes.now key)) below.now }
 {
@@ -75,11 +75,7 @@ fn with_one(all: &Gathered, own: u32, row: &Summary) -> Gathered
 }
 
 /// Writes the rows of a box, of those below it, and of its later siblings with theirs. What the siblings are together.
-pub(crate) fn gather(
-    table: &mut Vec<Summary>,
-    nodes: &Arena<Node, BoxMark>,
-    first: Option<BoxKey>,
-) -> Gathered
+pub(crate) fn gather(table: &mut Vec<Summary>, nodes: &Nodes, first: Option<BoxKey>) -> Gathered
     requires read { IsRead nodes.now first }
     requires small { nodes.now.limit ≤ MAX_BOXES }
     requires has_rows { HasRows table.old.items (seen_from nodes.now first) }

@@ -6,14 +6,14 @@ ghost use Rattle.rd_tree.specs.Internal.Linked.{IsRead, linked, seen_from};
 ghost use Rattle.rd_tree.specs.Internal.Summaries.{summary_at};
 ghost use Rattle.rd_tree.specs.Internal.Rows.{HasRows, IsFitAt, extent_under, hulls_by, hull_anew_of};
 
+use crate::held::Nodes;
 use crate::links::walk::child_and_sibling;
-use crate::node::Node;
 use crate::table::row::{Summary, row_at};
 use rd_geom::{Rect, hull, outset};
-use rd_keys::{Arena, BoxKey, BoxMark};
+use rd_keys::BoxKey;
 
 /// A border box with its outline round it.
-pub(crate) fn extent_of(nodes: &Arena<Node, BoxMark>, key: BoxKey) -> Rect
+pub(crate) fn extent_of(nodes: &Nodes, key: BoxKey) -> Rect
     requires { IsFitAt (linked nodes.now key) }
     ensures { result ≡ extent_under (linked nodes.now key) }
 {
@@ -24,7 +24,7 @@ pub(crate) fn extent_of(nodes: &Arena<Node, BoxMark>, key: BoxKey) -> Rect
 }
 
 /// The hull of a box and its later siblings, by their rows.
-fn hull_from(table: &[Summary], nodes: &Arena<Node, BoxMark>, first: Option<BoxKey>) -> Rect
+fn hull_from(table: &[Summary], nodes: &Nodes, first: Option<BoxKey>) -> Rect
     requires read { IsRead nodes.now first }
     requires rows { HasRows table.now (seen_from nodes.now first) }
     ensures { result ≡ hulls_by table.now (seen_from nodes.now first) }
@@ -39,7 +39,7 @@ fn hull_from(table: &[Summary], nodes: &Arena<Node, BoxMark>, first: Option<BoxK
 }
 
 /// The hull of a box by its own extent and by the rows of its children.
-pub(crate) fn hull_anew(table: &[Summary], nodes: &Arena<Node, BoxMark>, key: BoxKey) -> Rect
+pub(crate) fn hull_anew(table: &[Summary], nodes: &Nodes, key: BoxKey) -> Rect
     requires fits { IsFitAt (linked nodes.now key) }
     requires read { IsRead nodes.now (child_and_sibling (linked nodes.now key)).0 }
     requires rows { HasRows table.now (seen_from nodes.now (child_and_sibling (linked nodes.now
@@ -54,7 +54,7 @@ pub(crate) fn hull_anew(table: &[Summary], nodes: &Arena<Node, BoxMark>, key: Bo
 /// The hull of a box once what was `lost` of it has become `gained`, as the rows of its children tell already.
 pub(crate) fn moved_hull(
     table: &[Summary],
-    nodes: &Arena<Node, BoxMark>,
+    nodes: &Nodes,
     key: BoxKey,
     lost: Rect,
     gained: Rect,

@@ -8,16 +8,16 @@ ghost use Rattle.rd_tree.specs.Internal.Summaries.{summary_at};
 ghost use Rattle.rd_tree.specs.Internal.Rows.{IsStanding, IsRight, CanClimb, touched_under};
 ghost use Rattle.rd_tree.specs.Internal.Renews.{whole_at, IsRightIn, KeepsOutside, IsStale, IsRenewing};
 
+use crate::held::Nodes;
 use crate::links::parent_of;
 use crate::links::walk::child_and_sibling;
-use crate::node::Node;
 use crate::reach::Reach;
 use crate::table::fill::{gather, row_of, touched_at};
 use crate::table::hulls::hull_anew;
 use crate::table::row::{Summary, put_hull, row_at, write};
 use crate::table::whole::{Whole, swap_up};
 use rd_geom::Rect;
-use rd_keys::{Arena, BoxKey, BoxMark};
+use rd_keys::BoxKey;
 
 /// Which rows of a branch are to be worked out anew.
 #[derive(Clone, Copy)]
@@ -49,7 +49,7 @@ pub(crate) fn stale_by(reach: Reach, before: Rect, after: Rect) -> Stale
 }
 
 /// What a branch is, by the row of its box.
-pub(crate) fn whole_of(table: &[Summary], nodes: &Arena<Node, BoxMark>, key: BoxKey) -> Whole
+pub(crate) fn whole_of(table: &[Summary], nodes: &Nodes, key: BoxKey) -> Whole
     requires here { key.slot < length table.now }
     requires few { touched_under (linked nodes.now key) + (summary_at table.now key).touched <
         4294967296 }
@@ -63,12 +63,7 @@ pub(crate) fn whole_of(table: &[Summary], nodes: &Arena<Node, BoxMark>, key: Box
 }
 
 /// Works the stale rows of a branch out anew.
-pub(crate) fn renew(
-    table: &mut Vec<Summary>,
-    nodes: &Arena<Node, BoxMark>,
-    key: BoxKey,
-    stale: Stale,
-)
+pub(crate) fn renew(table: &mut Vec<Summary>, nodes: &Nodes, key: BoxKey, stale: Stale)
     requires { CanClimb nodes.now table.old.items key (λ f. IsStale stale table.old.items f key) }
     ensures right { (root : BoxKey) (f : BoxForest) → IsStanding nodes.now root f
         → has same_key key f ≡ true → IsStale stale table.old.items f key
@@ -96,7 +91,7 @@ pub(crate) fn renew(
 /// Sets all rows right once the items of a branch have changed, which was `old`.
 pub(crate) fn renew_up(
     table: &mut Vec<Summary>,
-    nodes: &Arena<Node, BoxMark>,
+    nodes: &Nodes,
     key: BoxKey,
     stale: Stale,
     old: Whole,

@@ -123,6 +123,7 @@ pub(crate) fn put_hull(table: &mut Vec<Summary>, key: BoxKey, hull: Rect)
 }
 
 /// No touched box is below a box any more.
+#[inline(always)]
 pub(crate) fn unmark(table: &mut Vec<Summary>, key: BoxKey)
     requires { key.slot < length table.old.items }
     ensures rows { Puts table.old.items table.new.items key (unmarked (summary_at table.old.items
@@ -130,6 +131,8 @@ pub(crate) fn unmark(table: &mut Vec<Summary>, key: BoxKey)
     ensures same_length { length table.new.items ≡ length table.old.items }
 {
     let mut row = row_at(table, key);
-    row.touched = 0;
-    write(table, key, row);
+    if row.touched > 0 {
+        row.touched = 0;
+        write(table, key, row);
+    }
 }

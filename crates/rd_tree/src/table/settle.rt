@@ -3,50 +3,106 @@ ghost use Rattle.std.specs.Prelude.{◌≡◌, ◌<◌, ◌==◌, length, None, 
 ghost use Rattle.rd_keys.specs.Keys.{same_key};
 ghost use Rattle.rd_tree.specs.Forest.{has};
 ghost use Rattle.rd_tree.specs.Touching.{settled};
-ghost use Rattle.rd_tree.specs.Internal.Links.{on_each};
+ghost use Rattle.rd_tree.specs.Internal.Links.{child_and_sibling, edit, on_each, with_item};
 ghost use Rattle.rd_tree.specs.Internal.Linked.{Relinks, IsRead, linked, seen_from};
-ghost use Rattle.rd_tree.specs.Internal.Summaries.{summary_at};
-ghost use Rattle.rd_tree.specs.Internal.Rows.{HasRows};
+ghost use Rattle.rd_tree.specs.Internal.Summaries.{touched_in};
+ghost use Rattle.rd_tree.specs.Internal.Rows.{HasRows, touched_under};
 ghost use Rattle.rd_tree.specs.Internal.Settles.{HasCounts, Unmarks};
 
-use crate::links::walk::{Work, work_on};
-use crate::node::Node;
+use crate::held::Nodes;
+use crate::links::walk::Work;
 use crate::table::row::{Summary, row_at, unmark};
-use rd_keys::{Arena, BoxKey, BoxMark};
+use rd_keys::BoxKey;
 
-/// The first child of a box, where a box below it is touched.
-fn marked_below(table: &[Summary], key: BoxKey, first: Option<BoxKey>) -> Option<BoxKey>
-    requires { key.slot < length table.now }
-    ensures { result ≡ (if (summary_at table.now key).touched == 0 then None else first) }
+/// The box, where some of these marks are left.
+#[inline(always)]
+fn where_left(left: u32, at: Option<BoxKey>) -> Option<BoxKey>
+    ensures { result ≡ (if left == 0 then None else at) }
 {
-    if row_at(table, key).touched == 0 {
-        None
-    } else {
-        first
+    if left == 0 { None } else { at }
+}
+
+/// A box whose mark was taken off: its first child, its next sibling, and 1 if it was touched.
+#[derive(Clone, Copy)]
+struct Settled {
+    first: Option<BoxKey>,
+    next: Option<BoxKey>,
+    own: u32,
+}
+
+/// Takes the mark off a box, whose node is opened only where it is touched.
+#[inline(always)]
+fn settle_on(nodes: &mut Nodes, key: BoxKey) -> Settled
+    ensures worked { Relinks nodes.old nodes.new (edit same_key key (with_item settled)
+        (linked nodes.old)) }
+    ensures onward { (result.first, result.next) ≡ child_and_sibling (linked nodes.old key) }
+    ensures own { result.own ≡ touched_under (linked nodes.old key) }
+{
+    match nodes.glance(key) {
+        Some(glance) => {
+            if glance.touched {
+                nodes.work_on(key, Work::Settle);
+            }
+            Settled {
+                first: glance.first,
+                next: glance.next,
+                own: u32::from(glance.touched),
+            }
+        }
+        None => Settled {
+            first: None,
+            next: None,
+            own: 0,
+        },
     }
 }
 
-/// Takes the marks off a box, off those below it, and off its later siblings with theirs. Goes below a box only where one
-/// of those there is touched.
-pub(crate) fn settle_from(
-    nodes: &mut Arena<Node, BoxMark>,
-    table: &mut Vec<Summary>,
-    first: Option<BoxKey>,
-)
+/// Takes so many marks off some siblings and off those below them, where there are any.
+#[cycle(settling)]
+#[inline(always)]
+fn settle_below(nodes: &mut Nodes, table: &mut Vec<Summary>, first: Option<BoxKey>, marks: u32)
     requires read { IsRead nodes.old first }
     requires has_rows { HasRows table.old.items (seen_from nodes.old first) }
     requires counted { HasCounts table.old.items (seen_from nodes.old first) }
+    requires marks { marks ≡ touched_in (seen_from nodes.old first) }
     ensures settled { Relinks nodes.old nodes.new (on_each (λ j. has same_key j
         (seen_from nodes.old first)) settled (linked nodes.old)) }
     ensures rows { Unmarks nodes.old table.old.items table.new.items (seen_from nodes.old first) }
     ensures same_length { length table.new.items ≡ length table.old.items }
 {
-    let mut at = first;
+    match first {
+        Some(_) => settle_from(nodes, table, first, marks),
+        None => {}
+    }
+}
+
+/// Takes so many marks off a box, off those below it, and off its later siblings with theirs; these are all that they have.
+/// Goes below a box only where one of those there is touched, and to no sibling once all marks are off.
+#[cycle(settling)]
+pub(crate) fn settle_from(
+    nodes: &mut Nodes,
+    table: &mut Vec<Summary>,
+    first: Option<BoxKey>,
+    marks: u32,
+)
+    requires read { IsRead nodes.old first }
+    requires has_rows { HasRows table.old.items (seen_from nodes.old first) }
+    requires counted { HasCounts table.old.items (seen_from nodes.old first) }
+    requires marks { marks ≡ touched_in (seen_from nodes.old first) }
+    ensures settled { Relinks nodes.old nodes.new (on_each (λ j. has same_key j
+        (seen_from nodes.old first)) settled (linked nodes.old)) }
+    ensures rows { Unmarks nodes.old table.old.items table.new.items (seen_from nodes.old first) }
+    ensures same_length { length table.new.items ≡ length table.old.items }
+{
+    let mut left = marks;
+    let mut at = where_left(left, first);
     while let Some(key) = at {
-        let onward = work_on(nodes, key, Work::Settle);
-        let below = marked_below(table, key, onward.0);
-        settle_from(nodes, table, below);
+        let here = settle_on(nodes, key);
+        let marks_below = row_at(table, key).touched;
+        let below = where_left(marks_below, here.first);
+        settle_below(nodes, table, below, marks_below);
         unmark(table, key);
-        at = onward.1;
+        left -= here.own + marks_below;
+        at = where_left(left, here.next);
     }
 }

@@ -6,11 +6,11 @@ ghost use Rattle.rd_tree.specs.Document.{BoxKey, BoxForest};
 ghost use Rattle.rd_tree.specs.Internal.Rows.{IsStanding, IsIn, IsSwapping, IsGaining, IsLosing, IsRight, CanSwap, CanClimb, KeepsOthers};
 ghost use Rattle.rd_tree.specs.Internal.Rows as rows;
 
-use crate::node::Node;
+use crate::held::Nodes;
 use crate::table::climb::{mark_up, move_hulls};
 use crate::table::row::{Summary, add_child, drop_child};
 use rd_geom::Rect;
-use rd_keys::{Arena, BoxKey, BoxMark};
+use rd_keys::BoxKey;
 
 /// How many boxes of a branch are touched, and the hull of them all.
 #[derive(Clone, Copy)]
@@ -22,7 +22,7 @@ pub(crate) struct Whole {
 /// Below a box, and below all boxes above it, a branch stands in place of another.
 pub(crate) fn swap_up(
     table: &mut Vec<Summary>,
-    nodes: &Arena<Node, BoxMark>,
+    nodes: &Nodes,
     from: Option<BoxKey>,
     old: Whole,
     new: Whole,
@@ -56,12 +56,7 @@ pub(crate) fn touched_box(hull: Rect) -> Whole
 }
 
 /// A branch is a new child of a box.
-pub(crate) fn gain(
-    table: &mut Vec<Summary>,
-    nodes: &Arena<Node, BoxMark>,
-    parent: BoxKey,
-    whole: Whole,
-)
+pub(crate) fn gain(table: &mut Vec<Summary>, nodes: &Nodes, parent: BoxKey, whole: Whole)
     requires { CanClimb nodes.now table.old.items parent (λ f. IsGaining table.old.items f parent
         whole) }
     ensures right { (root : BoxKey) (f : BoxForest) → IsStanding nodes.now root f
@@ -77,12 +72,7 @@ pub(crate) fn gain(
 }
 
 /// A branch is a child of a box no more.
-pub(crate) fn lose(
-    table: &mut Vec<Summary>,
-    nodes: &Arena<Node, BoxMark>,
-    parent: BoxKey,
-    whole: Whole,
-)
+pub(crate) fn lose(table: &mut Vec<Summary>, nodes: &Nodes, parent: BoxKey, whole: Whole)
     requires { CanClimb nodes.now table.old.items parent (λ f. IsLosing table.old.items f parent
         whole) }
     ensures right { (root : BoxKey) (f : BoxForest) → IsStanding nodes.now root f

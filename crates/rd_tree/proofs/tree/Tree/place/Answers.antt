@@ -18,47 +18,47 @@ use Rattle.rd_tree.proofs.tree.Tree.place.Goals as goal
 pub touch-requires-clause-read : goal.touch-requires-clause-read
 touch-requires-clause-read g c =
     let m : has same_key c.args.key (seen c.self.inside.nodes c.self.inside.root) ≡ true = (rw (← c.self.view_is) at c.requires.live) in
-    let s1 : IsConsistent c.put_rect-reach.new.nodes c.self.inside.root c.self.inside.ids × (seen c.put_rect-reach.new.nodes c.self.inside.root
+    let s1 : IsConsistent c.put_rect-reach.new.self c.self.inside.root c.self.inside.ids × (seen c.put_rect-reach.new.self c.self.inside.root
     ≡ at_box same_key c.args.key (with_rect c.args.rect) (seen c.self.inside.nodes c.self.inside.root)) = put c.self.inside.nodes
-    c.put_rect-reach.new.nodes c.self.inside.root c.args.key c.self.inside.ids c.args.rect c.self.invariant.sound c.requires.fits
+    c.put_rect-reach.new.self c.self.inside.root c.args.key c.self.inside.ids c.args.rect c.self.invariant.sound c.requires.fits
     c.put_rect-reach.ensures.put in
-    let m1 : has same_key c.args.key (seen c.put_rect-reach.new.nodes c.self.inside.root) ≡ true = still_has (λ j. same_key j c.args.key)
-    (with_rect c.args.rect) c.args.key (seen c.self.inside.nodes c.self.inside.root) (seen c.put_rect-reach.new.nodes c.self.inside.root) s1.1 m in
-    (under_box c.put_rect-reach.new.nodes c.self.inside.root c.args.key s1.0.tree m1).read
+    let m1 : has same_key c.args.key (seen c.put_rect-reach.new.self c.self.inside.root) ≡ true = still_has (λ j. same_key j c.args.key)
+    (with_rect c.args.rect) c.args.key (seen c.self.inside.nodes c.self.inside.root) (seen c.put_rect-reach.new.self c.self.inside.root) s1.1 m in
+    (under_box c.put_rect-reach.new.self c.self.inside.root c.args.key s1.0.tree m1).read
 
 pub touch-requires-clause-apart : goal.touch-requires-clause-apart
 touch-requires-clause-apart g c =
     let m : has same_key c.args.key (seen c.self.inside.nodes c.self.inside.root) ≡ true = (rw (← c.self.view_is) at c.requires.live) in
-    let s1 : IsConsistent c.put_rect-reach.new.nodes c.self.inside.root c.self.inside.ids × (seen c.put_rect-reach.new.nodes c.self.inside.root
+    let s1 : IsConsistent c.put_rect-reach.new.self c.self.inside.root c.self.inside.ids × (seen c.put_rect-reach.new.self c.self.inside.root
     ≡ at_box same_key c.args.key (with_rect c.args.rect) (seen c.self.inside.nodes c.self.inside.root)) = put c.self.inside.nodes
-    c.put_rect-reach.new.nodes c.self.inside.root c.args.key c.self.inside.ids c.args.rect c.self.invariant.sound c.requires.fits
+    c.put_rect-reach.new.self c.self.inside.root c.args.key c.self.inside.ids c.args.rect c.self.invariant.sound c.requires.fits
     c.put_rect-reach.ensures.put in
-    let m1 : has same_key c.args.key (seen c.put_rect-reach.new.nodes c.self.inside.root) ≡ true = still_has (λ j. same_key j c.args.key)
-    (with_rect c.args.rect) c.args.key (seen c.self.inside.nodes c.self.inside.root) (seen c.put_rect-reach.new.nodes c.self.inside.root) s1.1 m in
-    (under_box c.put_rect-reach.new.nodes c.self.inside.root c.args.key s1.0.tree m1).out
+    let m1 : has same_key c.args.key (seen c.put_rect-reach.new.self c.self.inside.root) ≡ true = still_has (λ j. same_key j c.args.key)
+    (with_rect c.args.rect) c.args.key (seen c.self.inside.nodes c.self.inside.root) (seen c.put_rect-reach.new.self c.self.inside.root) s1.1 m in
+    (under_box c.put_rect-reach.new.self c.self.inside.root c.args.key s1.0.tree m1).out
 
 pub invariant_of-self : goal.invariant_of-self
 invariant_of-self g c =
     let m : has same_key c.args.key (seen c.self.inside.nodes c.self.inside.root) ≡ true = (rw (← c.self.view_is) at c.requires.live) in
-    let s1 = put c.self.inside.nodes c.put_rect-reach.new.nodes c.self.inside.root c.args.key c.self.inside.ids c.args.rect c.self.invariant.sound
+    let s1 = put c.self.inside.nodes c.put_rect-reach.new.self c.self.inside.root c.args.key c.self.inside.ids c.args.rect c.self.invariant.sound
     c.requires.fits c.put_rect-reach.ensures.put in
     let m1 = still_has (λ j. same_key j c.args.key) (with_rect c.args.rect) c.args.key (seen c.self.inside.nodes c.self.inside.root)
-    (seen c.put_rect-reach.new.nodes c.self.inside.root) s1.1 m in
-    let s2 = touched_sound c.put_rect-reach.new.nodes c.touch.new.nodes c.self.inside.root c.args.key c.self.inside.ids c.put_rect-reach.result s1.0 m1
+    (seen c.put_rect-reach.new.self c.self.inside.root) s1.1 m in
+    let s2 = touched_sound c.put_rect-reach.new.self c.touch.new.nodes c.self.inside.root c.args.key c.self.inside.ids c.put_rect-reach.result s1.0 m1
     c.touch.ensures in
     let slots : marks c.touch.new.nodes ≡ marks c.self.inside.nodes = c.touch.ensures.same_slots ∙ c.put_rect-reach.ensures.put.same_slots in
     let e : Edited c.args.key (seen c.self.inside.nodes c.self.inside.root) (seen c.touch.new.nodes c.self.inside.root) = box_edited c.self.inside.nodes
-    c.put_rect-reach.new.nodes c.touch.new.nodes c.self.inside.root c.args.key c.self.inside.ids c.self.inside.table.items (with_rect c.args.rect)
+    c.put_rect-reach.new.self c.touch.new.nodes c.self.inside.root c.args.key c.self.inside.ids c.self.inside.table.items (with_rect c.args.rect)
     c.put_rect-reach.result c.stale_by-stale.result c.self.invariant.sound s2.0 s1.1 s2.1 c.self.invariant.table m in
     let o : c.whole_of-old.result ≡ whole_at c.self.inside.nodes c.self.inside.table.items c.args.key = rw c.deref.ensures.value at c.whole_of-old.ensures in
     let st : IsStale c.stale_by-stale.result c.self.inside.table.items (seen c.touch.new.nodes c.self.inside.root) c.args.key =
-    box_stale c.self.inside.nodes c.put_rect-reach.new.nodes c.touch.new.nodes c.self.inside.root c.args.key c.self.inside.ids c.self.inside.table.items
+    box_stale c.self.inside.nodes c.put_rect-reach.new.self c.touch.new.nodes c.self.inside.root c.args.key c.self.inside.ids c.self.inside.table.items
     (with_rect c.args.rect) c.put_rect-reach.result c.stale_by-stale.result c.self.invariant.sound s2.0 s1.1 s2.1 c.self.invariant.table m
     c.stale_by-stale.ensures.branch (λ n. sym c.extent_of-before.ensures ∙ (c.stale_by-stale.ensures.nothing n ∙ c.extent_of-after.ensures)) in
     record {
       sound = s2.0;
       shallow = shallow_each (λ j. same_key j c.args.key) (with_rect c.args.rect) c.put_rect-reach.result c.args.key
-          (seen c.self.inside.nodes c.self.inside.root) (seen c.put_rect-reach.new.nodes c.self.inside.root) (seen c.touch.new.nodes c.self.inside.root) s1.1
+          (seen c.self.inside.nodes c.self.inside.root) (seen c.put_rect-reach.new.self c.self.inside.root) (seen c.touch.new.nodes c.self.inside.root) s1.1
           s2.1 c.self.invariant.shallow;
       table = renewed c.self.inside.nodes c.touch.new.nodes c.self.inside.root c.args.key c.self.inside.ids c.self.inside.table.items c.stale_by-stale.result
           c.whole_of-old.result c.self.invariant.sound s2.0 slots c.self.invariant.table m e o st c.renew_up.new.table.items c.renew_up.ensures.right
@@ -68,14 +68,14 @@ invariant_of-self g c =
 pub returns : goal.returns
 returns g c =
     let m : has same_key c.args.key (seen c.self.inside.nodes c.self.inside.root) ≡ true = (rw (← c.self.view_is) at c.requires.live) in
-    let s1 : IsConsistent c.put_rect-reach.new.nodes c.self.inside.root c.self.inside.ids × (seen c.put_rect-reach.new.nodes c.self.inside.root
+    let s1 : IsConsistent c.put_rect-reach.new.self c.self.inside.root c.self.inside.ids × (seen c.put_rect-reach.new.self c.self.inside.root
     ≡ at_box same_key c.args.key (with_rect c.args.rect) (seen c.self.inside.nodes c.self.inside.root)) = put c.self.inside.nodes
-    c.put_rect-reach.new.nodes c.self.inside.root c.args.key c.self.inside.ids c.args.rect c.self.invariant.sound c.requires.fits
+    c.put_rect-reach.new.self c.self.inside.root c.args.key c.self.inside.ids c.args.rect c.self.invariant.sound c.requires.fits
     c.put_rect-reach.ensures.put in
-    let m1 : has same_key c.args.key (seen c.put_rect-reach.new.nodes c.self.inside.root) ≡ true = still_has (λ j. same_key j c.args.key)
-    (with_rect c.args.rect) c.args.key (seen c.self.inside.nodes c.self.inside.root) (seen c.put_rect-reach.new.nodes c.self.inside.root) s1.1 m in
+    let m1 : has same_key c.args.key (seen c.put_rect-reach.new.self c.self.inside.root) ≡ true = still_has (λ j. same_key j c.args.key)
+    (with_rect c.args.rect) c.args.key (seen c.self.inside.nodes c.self.inside.root) (seen c.put_rect-reach.new.self c.self.inside.root) s1.1 m in
     let s2 : IsConsistent c.touch.new.nodes c.self.inside.root c.self.inside.ids × (seen c.touch.new.nodes c.self.inside.root
-    ≡ touch_reached c.put_rect-reach.result c.args.key (seen c.put_rect-reach.new.nodes c.self.inside.root)) = touched_sound c.put_rect-reach.new.nodes
+    ≡ touch_reached c.put_rect-reach.result c.args.key (seen c.put_rect-reach.new.self c.self.inside.root)) = touched_sound c.put_rect-reach.new.self
     c.touch.new.nodes c.self.inside.root c.args.key c.self.inside.ids c.put_rect-reach.result s1.0 m1 c.touch.ensures in
     let r : c.put_rect-reach.result ≡ option_map_or (λ d. rect_reach d.style (same_key c.args.key c.self.inside.root)) (top (starting_at same_key
     c.args.key (seen c.self.inside.nodes c.self.inside.root))) Nothing =
@@ -102,31 +102,31 @@ extent_of-before-requires g c = fit_here c.self.inside.nodes c.self.inside.root 
 pub extent_of-after-requires : goal.extent_of-after-requires
 extent_of-after-requires g c =
     let m : has same_key c.args.key (seen c.self.inside.nodes c.self.inside.root) ≡ true = (rw (← c.self.view_is) at c.requires.live) in
-    let s1 = put c.self.inside.nodes c.put_rect-reach.new.nodes c.self.inside.root c.args.key c.self.inside.ids c.args.rect c.self.invariant.sound
+    let s1 = put c.self.inside.nodes c.put_rect-reach.new.self c.self.inside.root c.args.key c.self.inside.ids c.args.rect c.self.invariant.sound
     c.requires.fits c.put_rect-reach.ensures.put in
     let m1 = still_has (λ j. same_key j c.args.key) (with_rect c.args.rect) c.args.key (seen c.self.inside.nodes c.self.inside.root)
-    (seen c.put_rect-reach.new.nodes c.self.inside.root) s1.1 m in
-    let s2 = touched_sound c.put_rect-reach.new.nodes c.touch.new.nodes c.self.inside.root c.args.key c.self.inside.ids c.put_rect-reach.result s1.0 m1
+    (seen c.put_rect-reach.new.self c.self.inside.root) s1.1 m in
+    let s2 = touched_sound c.put_rect-reach.new.self c.touch.new.nodes c.self.inside.root c.args.key c.self.inside.ids c.put_rect-reach.result s1.0 m1
     c.touch.ensures in
     fit_here c.touch.new.nodes c.self.inside.root c.args.key c.self.inside.ids s2.0 (still_touched c.args.key c.put_rect-reach.result
-    (seen c.put_rect-reach.new.nodes c.self.inside.root) (seen c.touch.new.nodes c.self.inside.root) s2.1 m1)
+    (seen c.put_rect-reach.new.self c.self.inside.root) (seen c.touch.new.nodes c.self.inside.root) s2.1 m1)
 
 pub renew_up-requires : goal.renew_up-requires
 renew_up-requires g c =
     let m : has same_key c.args.key (seen c.self.inside.nodes c.self.inside.root) ≡ true = (rw (← c.self.view_is) at c.requires.live) in
-    let s1 = put c.self.inside.nodes c.put_rect-reach.new.nodes c.self.inside.root c.args.key c.self.inside.ids c.args.rect c.self.invariant.sound
+    let s1 = put c.self.inside.nodes c.put_rect-reach.new.self c.self.inside.root c.args.key c.self.inside.ids c.args.rect c.self.invariant.sound
     c.requires.fits c.put_rect-reach.ensures.put in
     let m1 = still_has (λ j. same_key j c.args.key) (with_rect c.args.rect) c.args.key (seen c.self.inside.nodes c.self.inside.root)
-    (seen c.put_rect-reach.new.nodes c.self.inside.root) s1.1 m in
-    let s2 = touched_sound c.put_rect-reach.new.nodes c.touch.new.nodes c.self.inside.root c.args.key c.self.inside.ids c.put_rect-reach.result s1.0 m1
+    (seen c.put_rect-reach.new.self c.self.inside.root) s1.1 m in
+    let s2 = touched_sound c.put_rect-reach.new.self c.touch.new.nodes c.self.inside.root c.args.key c.self.inside.ids c.put_rect-reach.result s1.0 m1
     c.touch.ensures in
     let slots : marks c.touch.new.nodes ≡ marks c.self.inside.nodes = c.touch.ensures.same_slots ∙ c.put_rect-reach.ensures.put.same_slots in
     let e : Edited c.args.key (seen c.self.inside.nodes c.self.inside.root) (seen c.touch.new.nodes c.self.inside.root) = box_edited c.self.inside.nodes
-    c.put_rect-reach.new.nodes c.touch.new.nodes c.self.inside.root c.args.key c.self.inside.ids c.self.inside.table.items (with_rect c.args.rect)
+    c.put_rect-reach.new.self c.touch.new.nodes c.self.inside.root c.args.key c.self.inside.ids c.self.inside.table.items (with_rect c.args.rect)
     c.put_rect-reach.result c.stale_by-stale.result c.self.invariant.sound s2.0 s1.1 s2.1 c.self.invariant.table m in
     let o : c.whole_of-old.result ≡ whole_at c.self.inside.nodes c.self.inside.table.items c.args.key = rw c.deref.ensures.value at c.whole_of-old.ensures in
     let st : IsStale c.stale_by-stale.result c.self.inside.table.items (seen c.touch.new.nodes c.self.inside.root) c.args.key =
-    box_stale c.self.inside.nodes c.put_rect-reach.new.nodes c.touch.new.nodes c.self.inside.root c.args.key c.self.inside.ids c.self.inside.table.items
+    box_stale c.self.inside.nodes c.put_rect-reach.new.self c.touch.new.nodes c.self.inside.root c.args.key c.self.inside.ids c.self.inside.table.items
     (with_rect c.args.rect) c.put_rect-reach.result c.stale_by-stale.result c.self.invariant.sound s2.0 s1.1 s2.1 c.self.invariant.table m
     c.stale_by-stale.ensures.branch (λ n. sym c.extent_of-before.ensures ∙ (c.stale_by-stale.ensures.nothing n ∙ c.extent_of-after.ensures)) in
     renews c.self.inside.nodes c.touch.new.nodes c.self.inside.root c.args.key c.self.inside.ids c.self.inside.table.items c.stale_by-stale.result

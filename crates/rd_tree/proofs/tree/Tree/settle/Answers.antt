@@ -1,4 +1,5 @@
-use Rattle.std.proofs.Common.{◌≡◌, refl, ap, true}
+use Rattle.std.proofs.Common.{◌≡◌, refl, ap, ◌∙◌, true}
+use Rattle.rd_tree.specs.Internal.Renews.{whole_at}
 use Rattle.rd_tree.specs.Forest.{map_where}
 use Rattle.rd_tree.specs.Internal.Linked.{seen, marks, IsConsistent}
 use Rattle.rd_tree.specs.Touching.{settled}
@@ -8,7 +9,24 @@ use Rattle.rd_tree.proofs.Tables.Above.{is_live}
 use Rattle.rd_tree.proofs.Tables.TreeRows.{seen_stands, each_has_row}
 use Rattle.rd_tree.proofs.Tables.Keeping.{settled_table}
 use Rattle.rd_tree.proofs.Changing.Shallow.{shallow_items}
+use Rattle.rd_tree.proofs.Tables.Renewed.{row_here, few_here}
+use Rattle.rd_tree.proofs.Tables.Settling.{root_there, all_marks}
 use Rattle.rd_tree.proofs.tree.Tree.settle.Goals as goal
+
+pub whole_of-marks-requires-clause-here : goal.whole_of-marks-requires-clause-here
+whole_of-marks-requires-clause-here g c = rw c.deref.ensures.value (row_here c.self.inside.nodes c.self.inside.root c.self.inside.root
+    c.self.inside.ids c.self.invariant.sound (root_there c.self.inside.nodes c.self.inside.root c.self.invariant.sound.tree)
+    c.self.inside.table.items c.self.invariant.table)
+
+pub whole_of-marks-requires-clause-few : goal.whole_of-marks-requires-clause-few
+whole_of-marks-requires-clause-few g c = rw c.deref.ensures.value (few_here c.self.inside.nodes c.self.inside.root c.self.inside.root
+    c.self.inside.ids c.self.invariant.sound (root_there c.self.inside.nodes c.self.inside.root c.self.invariant.sound.tree)
+    c.self.inside.table.items c.self.invariant.table)
+
+pub settle_from-requires-clause-marks : goal.settle_from-requires-clause-marks
+settle_from-requires-clause-marks g c =
+    ap (λ w. w.touched) (c.whole_of-marks.ensures ∙ ap (λ l. whole_at c.self.inside.nodes l c.self.inside.root) c.deref.ensures.value)
+    ∙ all_marks c.self.inside.nodes c.self.inside.root c.self.inside.table.items c.self.invariant.sound.tree c.self.invariant.table
 
 pub settle_from-requires-clause-read : goal.settle_from-requires-clause-read
 settle_from-requires-clause-read g c = read_root c.self.inside.nodes c.self.inside.root c.self.invariant.sound.tree

@@ -2,8 +2,8 @@ use Rattle.std.proofs.Common.{refl, sym}
 use Rattle.rd_tree.specs.Internal.Links.{with_item}
 use Rattle.rd_tree.specs.Changes.{with_rect}
 use Rattle.rd_tree.proofs.Nodes.Marks.{relinks_written}
-use Rattle.rd_tree.proofs.links.walk.put_rect.Goals as goal
+use Rattle.rd_tree.proofs.held.Nodes.put_rect.Goals as goal
 
 pub returns-in-Some-clause-put : goal.returns-in-Some-clause-put
-returns-in-Some-clause-put c = relinks_written c.args.nodes.now c.args.key _ c.in-Some.node.now (with_item
-    (with_rect c.args.rect)) (sym c.in-Some.ensures.value) refl
+returns-in-Some-clause-put c = rw (← c.self.view_is) (relinks_written c.self.inside.held c.args.key _ c.in-Some.node.now (with_item
+    (with_rect c.args.rect)) (sym c.in-Some.ensures.value) refl)

@@ -3,9 +3,9 @@ use Rattle.rd_tree.specs.Internal.Links.{with_item}
 use Rattle.rd_tree.specs.Internal.Linked.{plain}
 use Rattle.rd_tree.specs.Internal.Works.{done}
 use Rattle.rd_tree.proofs.Nodes.Marks.{relinks_written}
-use Rattle.rd_tree.proofs.links.walk.work_on.Goals as goal
+use Rattle.rd_tree.proofs.held.Nodes.work_on.Goals as goal
 
 pub returns-in-Some-clause-worked : goal.returns-in-Some-clause-worked
 returns-in-Some-clause-worked c =
-    relinks_written c.args.nodes.now c.args.key _ c.in-Some.node.now (with_item (done c.args.work)) (sym c.in-Some.ensures.value) (ap (λ d. record (plain
-    c.in-Some.node.now) { item = d }) c.do_work.ensures)
+    rw (← c.self.view_is) (relinks_written c.self.inside.held c.args.key _ c.in-Some.node.now (with_item (done c.args.work))
+    (sym c.in-Some.ensures.value) (ap (λ d. record (plain c.in-Some.node.now) { item = d }) c.do_work.ensures))

@@ -1,0 +1,108 @@
+-- What a look among siblings tells of those that come after.
+use Rattle.std.proofs.Common.{◌≡◌, refl, ap, ◌∙◌, sym, subst, Bool, true, false, ℕ, ◌+◌, ◌<◌, arith}
+use Rattle.std.specs.Prelude.{Option, Some, None, option_map, nat_lt}
+use Rattle.rd_geom.specs.Plane.{hull_of}
+use Rattle.rd_keys.specs.Keys.{same_key}
+use Rattle.rd_keys.specs.Arena.{Arena, value}
+use Rattle.rd_keys.proofs.Keys.{same_key-sound, same_key-refl}
+use Rattle.rd_tree.specs.declared.node.Node as inner
+use Rattle.rd_tree.specs.declared.glance.Glance.{Glance}
+use Rattle.rd_tree.specs.declared.table.row.Summary.{Summary}
+use Rattle.rd_tree.specs.Forest.{empty, tree, has, size, starting_at, from_some}
+use Rattle.rd_tree.specs.Document.{BoxKey, Item, BoxForest}
+use Rattle.rd_tree.specs.Hulls.{extent, hull_in, any_touched}
+use Rattle.rd_tree.specs.Seeking.{siblings_from, looks_until}
+use Rattle.rd_tree.specs.Internal.Glances.{glance_of}
+use Rattle.rd_tree.specs.Internal.Linked.{plain, linked, IsTree, seen}
+use Rattle.rd_tree.specs.Internal.Summaries.{summary_of}
+use Rattle.rd_tree.proofs.Linking.Standing.{refute}
+use Rattle.rd_tree.proofs.Nodes.Grow.{seen_is, live_if_in}
+use Rattle.rd_tree.proofs.Nodes.Looking.{Begins, begins, nothing_from, from_next, apart_seen}
+use Rattle.rd_tree.proofs.Summaries.Sums.{any_touched-is}
+
+-- What is read of a live key: its box, and where the boxes after it begin.
+pub record Met (f : BoxForest) (k : BoxKey) (y : Glance) (row : Summary) : Type 0 where
+  pub item : Item
+  pub below : BoxForest
+  pub rest : BoxForest
+  pub is : starting_at same_key k f ≡ tree k item below rest
+  pub next : from_some same_key y.next f ≡ rest
+  pub touched : y.touched ≡ item.touched
+  pub touched_below : nat_lt 0 row.touched ≡ any_touched below
+  pub hull : row.hull ≡ hull_of (extent item) (hull_in below)
+
+pub met : (a : Arena inner.Node) (root k : BoxKey) (y : Glance) (row : Summary) → IsTree a root
+    → Some y ≡ option_map (glance_of k.generation) (value a k.slot k.generation)
+    → (has same_key k (seen a root) ≡ true → row ≡ summary_of k (seen a root)) → Met (seen a root) k y row
+met a root k y row t v table = at (value a k.slot k.generation) refl v where
+  at : (o : Option inner.Node) → value a k.slot k.generation ≡ o → Some y ≡ option_map (glance_of k.generation) o → Met (seen a root) k y row
+  at None h e = cc
+  at (Some x) h e =
+      let l : linked a k ≡ Some (plain x) = ap (option_map plain) h in
+      let m : has same_key k t.boxes ≡ true = t.is.inside k (rw l refl) in
+      let s : seen a root ≡ t.boxes = seen_is a root t in
+      let b : Begins k (plain x) (starting_at same_key k t.boxes) = begins same_key same_key-sound same_key-refl (linked a) None None t.boxes (Some root)
+      (Some root) k (plain x) t.is.apart t.is.stands m l in
+      let is : starting_at same_key k (seen a root) ≡ tree k x.item b.below b.rest = ap (starting_at same_key k) s ∙ b.is in
+      let r : row ≡ summary_of k (seen a root) = table (subst (λ f. has same_key k f ≡ true) (sym s) m) in
+      let is_y : y ≡ glance_of k.generation x = cc in
+      let own : (summary_of k (seen a root)).hull ≡ hull_of (extent x.item) (hull_in b.below) = rw is refl in
+      let marks : nat_lt 0 (summary_of k (seen a root)).touched ≡ any_touched b.below = rw is (sym (any_touched-is b.below)) in
+      record {
+        item = x.item;
+        below = b.below;
+        rest = b.rest;
+        is = is;
+        next = ap (λ z. from_some same_key z.next (seen a root)) is_y ∙ (ap (λ o. from_some same_key o (seen a root)) b.next
+            ∙ from_next same_key same_key-sound same_key-refl (seen a root) b.below b.rest k k x.item (apart_seen a root t) is);
+        touched = ap (λ z. z.touched) is_y;
+        touched_below = ap (λ z. nat_lt 0 z.touched) r ∙ marks;
+        hull = ap (λ z. z.hull) r ∙ own;
+      }
+
+-- From a key that is not live no box begins.
+pub none_met : (a : Arena inner.Node) (root k : BoxKey) → IsTree a root → None ≡ value a k.slot k.generation → starting_at same_key k (seen a root) ≡ empty
+none_met a root k t h =
+    nothing_from same_key same_key-sound same_key-refl k (seen a root) (refute (has same_key k (seen a root)) (λ m. live_if_in a root k t m (sym h)))
+
+-- What the search keeps: it comes to what it comes to from the first one on, and with as many looks.
+pub record Seeks (test : Item → BoxForest → Bool) (f : BoxForest) (first at : Option BoxKey) (looks0 looks : ℕ) : Type 0 where
+  pub to : siblings_from test (from_some same_key at f) ≡ siblings_from test (from_some same_key first f)
+  pub cost : looks + looks_until test (from_some same_key at f) ≡ looks0 + looks_until test (from_some same_key first f)
+
+pub seek_begins : (test : Item → BoxForest → Bool) (f : BoxForest) (first : Option BoxKey) (looks : ℕ) → Seeks test f first first looks looks
+seek_begins test f first looks = record { to = refl; cost = refl }
+
+module _ (test : Item → BoxForest → Bool) (f : BoxForest) (first at : Option BoxKey) (looks0 looks looks1 : ℕ) (w : Seeks test f first at looks0 looks) where
+  -- One more is looked at, and passed over,
+  pub seek_on : (k : BoxKey) (y : Glance) (row : Summary) (m : Met f k y row) → at ≡ Some k → test m.item m.below ≡ false → looks1 ≡ looks + 1
+      → Seeks test f first y.next looks0 looks1
+  seek_on k y row m e off c =
+      let p : Seeks test f first (Some k) looks0 looks = subst (λ o. Seeks test f first o looks0 looks) e w in
+      let here : siblings_from test (starting_at same_key k f) ≡ siblings_from test (from_some same_key y.next f) = rw (m.is, m.next, off) refl in
+      let more : looks_until test (starting_at same_key k f) ≡ 1 + looks_until test (from_some same_key y.next f) = rw (m.is, m.next, off) refl in
+      record { to = sym here ∙ p.to; cost = omega (arith, more, p.cost, c) }
+
+  -- or it is the one,
+  pub seek_found : (k : BoxKey) (y : Glance) (row : Summary) (m : Met f k y row) → at ≡ Some k → test m.item m.below ≡ true → looks1 ≡ looks + 1
+      → (starting_at same_key k f ≡ siblings_from test (from_some same_key first f)) × (looks1 ≡ looks0 + looks_until test (from_some same_key first f))
+  seek_found k y row m e on c =
+      let p : Seeks test f first (Some k) looks0 looks = subst (λ o. Seeks test f first o looks0 looks) e w in
+      let here : siblings_from test (starting_at same_key k f) ≡ starting_at same_key k f = rw (m.is, on) refl in
+      let last : looks_until test (starting_at same_key k f) ≡ 1 = rw (m.is, on) refl in
+      (sym here ∙ p.to, omega (arith, last, p.cost, c))
+
+  -- or there is none.
+  pub seek_ends : from_some same_key at f ≡ empty → (siblings_from test (from_some same_key first f) ≡ empty)
+      × (looks ≡ looks0 + looks_until test (from_some same_key first f))
+  seek_ends e =
+      let none : siblings_from test (from_some same_key at f) ≡ empty = ap (siblings_from test) e in
+      let last : looks_until test (from_some same_key at f) ≡ 0 = ap (looks_until test) e in
+      (sym w.to ∙ none, omega (arith, last, w.cost))
+
+  -- fewer come after
+  pub seek_fewer : (k : BoxKey) (y : Glance) (row : Summary) (m : Met f k y row) → at ≡ Some k → size (from_some same_key y.next f) < size (from_some same_key at f)
+  seek_fewer k y row m e =
+      let s : size (from_some same_key at f) ≡ 1 + (size m.below + size m.rest) = ap (λ o. size (from_some same_key o f)) e ∙ rw m.is refl in
+      let r : size (from_some same_key y.next f) ≡ size m.rest = ap size m.next in
+      omega (arith, s, r)

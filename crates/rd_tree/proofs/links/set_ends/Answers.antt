@@ -1,7 +1,0 @@
-use Rattle.std.proofs.Common.{refl, sym}
-use Rattle.rd_tree.specs.Internal.Links.{with_ends}
-use Rattle.rd_tree.proofs.Nodes.Marks.{relinks_written}
-use Rattle.rd_tree.proofs.links.set_ends.Goals as goal
-
-pub returns-in-Some : goal.returns-in-Some
-returns-in-Some c = relinks_written c.args.nodes.now c.args.at _ c.in-Some.node.now (with_ends c.args.first c.args.last) (sym c.in-Some.ensures.value) refl

@@ -1,9 +1,0 @@
-use Rattle.std.proofs.Common.{refl, sym}
-use Rattle.rd_tree.specs.Internal.Links.{with_next}
-use Rattle.rd_tree.proofs.Nodes.Marks.{relinks_written}
-use Rattle.rd_tree.proofs.links.set_next.Goals as goal
-
-pub returns-in-Some-get_mut : goal.returns-in-Some-get_mut
-returns-in-Some-get_mut c =
-    rw c.in-Some.is (relinks_written c.args.nodes.now c.in-Some.key _ c.in-Some-get_mut.node.now (with_next c.args.next)
-    (sym c.in-Some-get_mut.ensures.value) refl)

@@ -1,0 +1,260 @@
+//! The nodes of a tree. Beside each stands what a walk reads of its box, in a table by slot, so that a walk opens only the
+//! nodes of boxes with which it has something to do.
+ghost use Rattle.std.specs.Prelude.{◌≡◌, ◌+◌, ◌<◌, ◌≤◌, IfOk, IfNone, OnErr, OnSome, option_copied, option_map, true};
+ghost use Rattle.std.specs.Option.{option_map_or};
+ghost use Rattle.rd_keys.specs.Arena.{empty_arena, live, occupied, retired, value, without_value, Enters};
+ghost use Rattle.rd_keys.specs.Keys.{same_key};
+ghost use Rattle.rd_tree.specs.Changes as changes;
+ghost use Rattle.rd_tree.specs.Internal.Glances.{glance_of};
+ghost use Rattle.rd_tree.specs.Internal.Linked.{linked, Relinks};
+ghost use Rattle.rd_tree.specs.Internal.Links.{child_and_sibling, edit, edit_if, with_ends, with_item, with_next, with_place, with_prev};
+ghost use Rattle.rd_tree.specs.Internal.Reaching as reaching;
+ghost use Rattle.rd_tree.specs.Internal.Works.{AllowsAt, done, item_under};
+
+use crate::glance::{Glance, glance_at, none, put, renamed, write};
+use crate::links::walk::{Work, do_work};
+use crate::node::Node;
+use crate::reach::{Reach, rect_reach, style_reach};
+use rd_geom::{NoMemory, Rect};
+use rd_keys::{Arena, BoxKey, BoxMark, Refused};
+use rd_style::{StyleChange, changed};
+use std::alloc::Global;
+use std::marker::Model;
+
+/// Nodes under the keys of their boxes.
+#[derive(Drop)]
+pub(crate) struct Nodes {
+    held: Arena<Node, BoxMark>,
+    glances: Vec<Glance>,
+}
+
+impl Model for Nodes {
+    ghost use Rattle.rd_keys.specs.Arena as arena;
+    ghost use Rattle.rd_keys.specs.Internal.Coding.{arena_code};
+    ghost use Rattle.rd_tree.specs.declared.node.Node.{Node};
+    ghost use Rattle.rd_tree.specs.contracts.node.Node as node;
+    ghost use Rattle.rd_tree.specs.Internal.Glances.{AreGlances};
+
+    ghost Value = { arena.Arena Node };
+
+    ghost coded = { arena_code node.the_row.coded };
+
+    ghost view = { λ n. n.held };
+
+    ghost invariant = { λ n. AreGlances n.held n.glances.items };
+}
+
+impl Nodes {
+    /// No node, and room for so many slots.
+    pub(crate) fn new(alloc: Global, limit: u32) -> Nodes
+        requires { limit ≤ 2147483647 }
+        ensures { result ≡ empty_arena limit 0 }
+    {
+        Nodes {
+            held: Arena::new(alloc, limit),
+            glances: Vec::new(alloc),
+        }
+    }
+
+    /// How many nodes there are.
+    pub(crate) fn live(&self) -> u32
+        ensures { result ≡ live self.now }
+    {
+        self.held.live()
+    }
+
+    /// How many slots never give a key again.
+    pub(crate) fn retired(&self) -> u32
+        ensures retired { result ≡ retired self.now }
+        ensures together { live self.now + result ≡ occupied self.now }
+    {
+        self.held.retired()
+    }
+
+    /// The node under a key. None exactly where the key is not live.
+    #[inline(always)]
+    pub(crate) fn get(&self, key: BoxKey) -> Option<&Node>
+        ensures { option_copied result ≡ value self.now key.slot key.generation }
+    {
+        self.held.get(key)
+    }
+
+    /// What a walk reads of the box under a key. None exactly where the key is not live.
+    #[inline(always)]
+    pub(crate) fn glance(&self, key: BoxKey) -> Option<Glance>
+        ensures { result ≡ option_map (glance_of key.generation) (value self.now key.slot key.generation) }
+    {
+        let at = key.slot() as usize;
+        if at < self.glances.len()
+            && self.glances[at].live
+            && self.glances[at].generation == key.generation()
+        {
+            Some(self.glances[at])
+        } else {
+            None
+        }
+    }
+
+    /// Is the box under a key touched? A key that is not live counts as touched.
+    #[inline(always)]
+    pub(crate) fn touched(&self, key: BoxKey) -> bool
+        ensures { result ≡ option_map_or (λ n. n.item.touched) (value self.now key.slot key.generation) true }
+    {
+        let at = key.slot() as usize;
+        at >= self.glances.len()
+            || self.glances[at].touched
+            || self.glances[at].generation != key.generation()
+    }
+
+    /// Stores a node under a key that was never given. After a refusal nothing has changed.
+    pub(crate) fn insert(&mut self, node: Node) -> Result<BoxKey, NoMemory>
+        requires room { occupied self.old < self.old.limit }
+        ensures stored { IfOk result (λ k. Enters self.old self.new k.slot k.generation node) }
+        ensures kept { OnErr result (self.new ≡ self.old) }
+    {
+        self.glances.reserve(1)?;
+        let glance = glance_at(0, &node);
+        let key = match self.held.insert(node) {
+            Ok(key) => key,
+            Err(Refused::Full(_)) => unreachable!(),
+            Err(Refused::NoMemory(_)) => return Err(NoMemory),
+        };
+        put(
+            &mut self.glances,
+            key.slot(),
+            renamed(glance, key.generation()),
+        );
+        Ok(key)
+    }
+
+    /// Takes out the node under a key, which is never live again. None exactly where the key is not live.
+    pub(crate) fn remove(&mut self, key: BoxKey) -> Option<Node>
+        ensures value { result ≡ value self.old key.slot key.generation }
+        ensures removed { OnSome result (self.new ≡ without_value self.old key.slot key.generation) }
+        ensures absent { IfNone result (self.new ≡ self.old) }
+    {
+        match self.held.remove(key) {
+            Some(node) => {
+                write(&mut self.glances, key.slot(), none());
+                Some(node)
+            }
+            None => None,
+        }
+    }
+
+    /// Gives a box another next sibling.
+    pub(crate) fn set_next(&mut self, at: Option<BoxKey>, next: Option<BoxKey>)
+        ensures { Relinks self.old self.new (edit_if same_key at (with_next next)
+            (linked self.old)) }
+    {
+        if let Some(key) = at
+            && let Some(node) = self.held.get_mut(key)
+        {
+            node.links.next = next;
+            let glance = glance_at(key.generation(), node);
+            write(&mut self.glances, key.slot(), glance);
+        }
+    }
+
+    /// Gives a box another sibling before it.
+    pub(crate) fn set_prev(&mut self, at: Option<BoxKey>, prev: Option<BoxKey>)
+        ensures { Relinks self.old self.new (edit_if same_key at (with_prev prev)
+            (linked self.old)) }
+    {
+        if let Some(key) = at
+            && let Some(node) = self.held.get_mut(key)
+        {
+            node.links.prev = prev;
+            let glance = glance_at(key.generation(), node);
+            write(&mut self.glances, key.slot(), glance);
+        }
+    }
+
+    /// Gives a box another first and another last child.
+    pub(crate) fn set_ends(&mut self, at: BoxKey, first: Option<BoxKey>, last: Option<BoxKey>)
+        ensures { Relinks self.old self.new (edit same_key at (with_ends first last)
+            (linked self.old)) }
+    {
+        if let Some(node) = self.held.get_mut(at) {
+            node.links.first = first;
+            node.links.last = last;
+            let glance = glance_at(at.generation(), node);
+            write(&mut self.glances, at.slot(), glance);
+        }
+    }
+
+    /// Says of a box whose child it is, and between which siblings it stands.
+    pub(crate) fn set_place(
+        &mut self,
+        key: BoxKey,
+        parent: BoxKey,
+        prev: Option<BoxKey>,
+        next: Option<BoxKey>,
+    )
+        ensures { Relinks self.old self.new (edit same_key key (with_place (Some parent) prev next)
+            (linked self.old)) }
+    {
+        if let Some(node) = self.held.get_mut(key) {
+            node.links.up = Some(parent);
+            node.links.prev = prev;
+            node.links.next = next;
+            let glance = glance_at(key.generation(), node);
+            write(&mut self.glances, key.slot(), glance);
+        }
+    }
+
+    /// Does the work on one box. Its first child and its next sibling.
+    pub(crate) fn work_on(&mut self, key: BoxKey, work: Work) -> (Option<BoxKey>, Option<BoxKey>)
+        requires { AllowsAt work (linked self.old key) }
+        ensures worked { Relinks self.old self.new (edit same_key key (with_item (done work))
+            (linked self.old)) }
+        ensures onward { result ≡ child_and_sibling (linked self.old key) }
+    {
+        match self.held.get_mut(key) {
+            Some(node) => {
+                do_work(&mut node.item, work);
+                let glance = glance_at(key.generation(), node);
+                write(&mut self.glances, key.slot(), glance);
+                (glance.first, glance.next)
+            }
+            None => (None, None),
+        }
+    }
+
+    /// Changes the style of a box. How far that touches.
+    pub(crate) fn restyle(&mut self, key: BoxKey, is_root: bool, c: &StyleChange) -> Reach
+        ensures restyled { Relinks self.old self.new (edit same_key key (with_item (changes.restyle
+            c.now)) (linked self.old)) }
+        ensures reach { result ≡ option_map_or (λ d. reaching.style_reach d.style is_root c.now)
+            (item_under (linked self.old key)) Reach.Nothing }
+    {
+        match self.held.get_mut(key) {
+            Some(node) => {
+                let reach = style_reach(&node.item.style, is_root, c);
+                node.item.style = changed(&node.item.style, c);
+                let glance = glance_at(key.generation(), node);
+                write(&mut self.glances, key.slot(), glance);
+                reach
+            }
+            None => Reach::Nothing,
+        }
+    }
+
+    /// Gives a box another rectangle. How far that touches.
+    pub(crate) fn put_rect(&mut self, key: BoxKey, is_root: bool, rect: Rect) -> Reach
+        ensures put { Relinks self.old self.new (edit same_key key (with_item (changes.with_rect
+            rect)) (linked self.old)) }
+        ensures reach { result ≡ option_map_or (λ d. reaching.rect_reach d.style is_root) (item_under
+            (linked self.old key)) Reach.Nothing }
+    {
+        match self.held.get_mut(key) {
+            Some(node) => {
+                node.item.rect = rect;
+                let glance = glance_at(key.generation(), node);
+                write(&mut self.glances, key.slot(), glance);
+                rect_reach(&node.item.style, is_root)
+            }
+            None => Reach::Nothing,
+        }
+    }
+}
