@@ -113,6 +113,14 @@ impl Area {
         Ok(())
     }
 
+    /// A rectangle of the canvas outside of which the area has no pixel.
+    #[inline(always)]
+    pub fn frame(&self) -> Rect
+        ensures { (x y : ℤ) → IsTrue (in_area self.now x y) → IsTrue (holds_pixel result x y) }
+    {
+        self.used
+    }
+
     /// Is a pixel of the rectangle in the area?
     #[inline(always)]
     pub fn meets(&self, r: Rect) -> bool
