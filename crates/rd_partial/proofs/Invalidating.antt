@@ -1,6 +1,6 @@
 -- The area of touched boxes, from the list that was painted and from the tree.
 use Rattle.std.proofs.Common.{◌≡◌, refl, ap, ◌∙◌, sym, subst, Bool, true, false, cond, ◌&&◌, ◌||◌, ℤ, ℕ, ◌+◌, ◌≤◌, arith}
-use Rattle.std.specs.Prelude.{Option, Some}
+use Rattle.std.specs.Prelude.{Some}
 use Rattle.rd_geom.specs.Plane.{holds_pixel}
 use Rattle.rd_geom.specs.Canvas.{canvas_of}
 use Rattle.rd_geom.specs.Areas.{Region, in_area}
@@ -18,7 +18,6 @@ use Rattle.rd_partial.specs.Invalid.{any_shows, is_invalid}
 use Rattle.rd_partial.specs.Internal.Counting.{looks_below}
 use Rattle.rd_partial.specs.Internal.Standing.{Standing, at_root}
 use Rattle.rd_partial.specs.Internal.Touched.{Joins, touched_shows, leads_to_touched}
-use Rattle.rd_stack.specs.Fresh.{fresh_list}
 use Rattle.rd_partial.proofs.Marked.{fresh_shows}
 use Rattle.rd_partial.proofs.Visits.{visits_bound, looks}
 

@@ -27,5 +27,7 @@ pub mod Everything
 pub mod Adding
 pub mod Listing
 pub mod Touching
+pub mod Searching
+pub mod Framed
 pub mod Marked
 pub mod Invalidating

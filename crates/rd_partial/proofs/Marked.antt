@@ -1,11 +1,10 @@
 -- The leaves of touched boxes in a fresh list are those that a walk to the touched boxes finds.
-use Rattle.std.proofs.Common.{◌≡◌, refl, ap, ◌∙◌, sym, subst, Bool, true, false, not, cond, ◌&&◌, ◌||◌, ℤ, ℕ, zero, suc, ◌+◌, List, [], ◌∷◌, ◌++◌, length, arith}
+use Rattle.std.proofs.Common.{◌≡◌, refl, ap, ◌∙◌, sym, subst, Bool, true, false, cond, ◌&&◌, ◌||◌, ℤ, ℕ, suc, ◌+◌, List, [], ◌∷◌, length, arith}
 use Rattle.std.specs.Prelude.{Option, Some, None, nat_lt, filter}
 use Rattle.std.specs.List.{list_any}
-use Rattle.rd_geom.specs.Plane.{Rectangle, meet, has_none, holds_pixel}
+use Rattle.rd_geom.specs.Plane.{Rectangle, meet, has_none}
 use Rattle.rd_geom.specs.Canvas.{canvas_of}
 use Rattle.rd_geom.specs.declared.color.Color.{Color}
-use Rattle.rd_clip.specs.Standing.{clips_of}
 use Rattle.rd_keys.specs.Keys.{BoxKey, same_key}
 use Rattle.rd_keys.proofs.Keys.{same_key-sound, same_key-refl}
 use Rattle.rd_keys.specs.declared.entry.Part.{Part}
@@ -20,8 +19,7 @@ use Rattle.rd_tree.specs.Forest.{empty, tree, has, IsApart}
 use Rattle.rd_tree.specs.declared.node.Item.{Item}
 use Rattle.rd_tree.specs.Document.{BoxForest, Document, IsRooted, is_touched}
 use Rattle.rd_tree.proofs.Linking.Standing.{from_left, from_right, differs, apart_back}
-use Rattle.rd_stack.specs.Paths.{BoxData, BoxPath, is_none}
-use Rattle.rd_stack.specs.Clips.{clip_of, entered}
+use Rattle.rd_stack.specs.Paths.{BoxData, is_none}
 use Rattle.rd_stack.specs.Parts.{leaf_at, leaf_of, shown, shape_of, is_seen, takes_hits}
 use Rattle.rd_stack.specs.Fresh.{box_data, fresh_list}
 use Rattle.rd_partial.specs.Invalid.{shows_touched, any_shows}

@@ -1,10 +1,9 @@
 -- The loop over siblings that adds what touched boxes show.
-use Rattle.std.proofs.Common.{◌≡◌, refl, ap, ◌∙◌, sym, subst, Bool, true, false, cond, ◌&&◌, ◌||◌, ℤ, ℕ, ◌+◌, ◌≤◌, ◌<◌, arith}
-use Rattle.std.specs.Prelude.{Option, Some, None}
+use Rattle.std.proofs.Common.{◌≡◌, refl, ap, ◌∙◌, sym, subst, Bool, true, false, ◌&&◌, ◌||◌, ℤ, ℕ, ◌+◌, ◌≤◌, ◌<◌, arith}
+use Rattle.std.specs.Prelude.{Option, Some}
 use Rattle.rd_geom.specs.Areas.{Region}
 use Rattle.rd_keys.specs.Keys.{BoxKey, same_key}
-use Rattle.rd_tree.specs.Forest.{empty, tree, starting_at, from_some, size, head}
-use Rattle.rd_tree.specs.declared.node.Item.{Item}
+use Rattle.rd_tree.specs.Forest.{empty, tree, starting_at, from_some, size}
 use Rattle.rd_tree.specs.Document.{BoxForest, Document}
 use Rattle.rd_tree.specs.Hulls.{any_touched}
 use Rattle.rd_tree.specs.Shown.{Shown, shown}

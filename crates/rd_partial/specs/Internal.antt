@@ -10,3 +10,4 @@ pub mod Held
 pub mod Work
 pub mod Growing
 pub mod Touched
+pub mod Seeking

@@ -9,6 +9,7 @@ mod give;
 pub mod laws;
 mod look;
 mod order;
+mod seeking;
 mod standing;
 mod touched;
 mod walk;

@@ -3,14 +3,14 @@ ghost use Rattle.std.specs.Prelude.{◌≡◌, ◌+◌, MatchOption, IfSome};
 ghost use Rattle.rd_keys.specs.Keys.{same_key};
 ghost use Rattle.rd_stack.specs.Paths.{OutlineFits};
 ghost use Rattle.rd_tree.specs.Forest.{empty, starting_at};
-ghost use Rattle.rd_partial.specs.Internal.Looked.{Onward, here_of};
+ghost use Rattle.rd_partial.specs.Internal.Looked.{Onward, here_of, looked_of};
 ghost use Rattle.rd_partial.specs.Internal.Touched.{HasMarks};
 
 use rd_geom::{Rect, Steps};
 use rd_keys::BoxKey;
 use rd_stack::BoxData;
 use rd_style::Style;
-use rd_tree::Tree;
+use rd_tree::{BoxView, Tree};
 use std::sync::ledger::Ledger;
 
 /// What a walk needs of a box: the box, where to go on, what all below it may cover, and what was touched. Its style is
@@ -38,6 +38,23 @@ impl<'a> Looked<'a> {
     }
 }
 
+/// What a walk needs of what a look gave.
+#[inline(always)]
+pub(crate) fn looked_of(view: BoxView<'_>) -> Looked<'_>
+    ensures { result ≡ looked_of view.entry }
+{
+    Looked {
+        key: view.key,
+        rect: view.rect,
+        style: view.style,
+        first_child: view.first_child,
+        next_sibling: view.next_sibling,
+        hull: view.hull,
+        touched: view.touched,
+        touched_below: view.touched_below,
+    }
+}
+
 /// Looks at a box: none where no box has the key.
 #[inline(always)]
 pub fn look_at<'a, B: Ledger>(
@@ -52,16 +69,7 @@ pub fn look_at<'a, B: Ledger>(
     ensures cost { looks.new ≡ looks.old + 1 }
 {
     match tree.look(key, looks) {
-        Some(view) => Some(Looked {
-            key: view.key,
-            rect: view.rect,
-            style: view.style,
-            first_child: view.first_child,
-            next_sibling: view.next_sibling,
-            hull: view.hull,
-            touched: view.touched,
-            touched_below: view.touched_below,
-        }),
+        Some(view) => Some(looked_of(view)),
         None => None,
     }
 }

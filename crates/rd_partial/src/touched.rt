@@ -11,7 +11,8 @@ ghost use Rattle.rd_partial.specs.Internal.Standing.{leaf_in};
 ghost use Rattle.rd_partial.specs.Internal.Looked.{here_of};
 ghost use Rattle.rd_partial.specs.Internal.Touched.{Joins, leaf_shows, box_shows, own_shows, shows_below, shows_from, touched_looks, looks_under};
 
-use crate::look::{Looked, look_at};
+use crate::look::Looked;
+use crate::seeking::next_marked;
 use crate::standing::Standing;
 use rd_area::Area;
 use rd_geom::{NoMemory, Steps};
@@ -100,17 +101,16 @@ fn add_siblings<B: Ledger>(
     ensures area { OnOk result (Joins (shows_from s.now first tree.now) area.old area.new) }
     ensures looks { looks.new ≤ looks.old + touched_looks first tree.now }
 {
-    let mut next = first;
-    while let Some(key) = next {
-        let looked = match look_at(tree, key, looks) {
+    let mut at = first;
+    loop {
+        let looked = match next_marked(tree, at, looks) {
             Some(looked) => looked,
-            None => break,
+            None => return Ok(()),
         };
         add_if_touched(area, s, &looked)?;
         add_below(tree, area, s, &looked, looks)?;
-        next = looked.next_sibling;
+        at = looked.next_sibling;
     }
-    Ok(())
 }
 
 /// Adds what may be seen of the leaves of touched boxes in a level of a list, and in its groups.

@@ -22,6 +22,7 @@ use crate::bands::{Layers, Local, Stacked};
 use crate::give::give;
 use crate::look::look_at;
 use crate::order::{Begun, as_group, back_border, begin, finish};
+use crate::seeking::next_wanted;
 use crate::standing::Standing;
 use crate::wanted::Wanted;
 use rd_geom::{NoMemory, Steps};
@@ -595,31 +596,28 @@ fn children<A: Ledger, B: Ledger, W: Wanted>(
     ensures most { made.new ≤ made.old + siblings_cost (W.wants wanted.now) number s.now first tree.now }
     ensures looks { looks.new ≤ looks.old + visits_from (W.wants wanted.now) first tree.now }
 {
-    let mut next = first;
-    while let Some(key) = next {
-        let looked = match look_at(tree, key, looks) {
+    let mut at = first;
+    loop {
+        let looked = match next_wanted(tree, wanted, at, looks) {
             Some(looked) => looked,
-            None => break,
+            None => return Ok(()),
         };
-        if wanted.meets(looked.hull) {
-            let here = looked.here();
-            one(
-                alloc,
-                tree,
-                wanted,
-                number,
-                s,
-                &here,
-                looked.first_child,
-                local,
-                layers,
-                made,
-                looks,
-            )?;
-        }
-        next = looked.next_sibling;
+        let here = looked.here();
+        one(
+            alloc,
+            tree,
+            wanted,
+            number,
+            s,
+            &here,
+            looked.first_child,
+            local,
+            layers,
+            made,
+            looks,
+        )?;
+        at = looked.next_sibling;
     }
-    Ok(())
 }
 
 /// The fresh list of a tree as far as it is wanted, each item made by paint `number` (CSS 2.2 Appendix E).

@@ -1,6 +1,7 @@
 //! Which part of a list is wanted.
 ghost use Rattle.std.specs.Prelude.{◌≡◌, Bool, true};
 ghost use Rattle.rd_geom.specs.Plane.{Rectangle, IsWithin};
+ghost use Rattle.rd_tree.specs.Seeking.{reaches};
 
 use rd_area::Area;
 use rd_geom::{Rect, meets};
@@ -13,6 +14,10 @@ pub trait Wanted {
     /// Has the rectangle, in canvas pixels, a pixel that is wanted?
     fn meets(&self, r: Rect) -> bool
         ensures { result ≡ wants self.now r };
+
+    /// A rectangle into which each one reaches that has a wanted pixel.
+    fn frame(&self) -> Rect
+        ensures { (r : Rectangle) → wants self.now r ≡ true → reaches result r ≡ true };
 
     // what holds a rectangle with a wanted pixel has one
     ghost grows: { (s : Self) (a b : Rectangle) → IsWithin a b → wants s a ≡ true → wants s b ≡ true };
@@ -34,6 +39,11 @@ impl Wanted for Within {
         meets(self.rect, r)
     }
 
+    #[inline(always)]
+    fn frame(&self) -> Rect {
+        self.rect
+    }
+
     ghost grows = { λ s a b w h. meets_grows s.rect a b w h };
 }
 
@@ -45,6 +55,11 @@ impl Wanted for Area {
 
     fn meets(&self, r: Rect) -> bool {
         Area::meets(self, r)
+    }
+
+    #[inline(always)]
+    fn frame(&self) -> Rect {
+        Area::frame(self)
     }
 
     ghost grows = { λ s a b w h. grows_area s a b w h };

@@ -8,7 +8,21 @@ use Rattle.rd_tree.specs.Document.{BoxForest}
 use Rattle.rd_stack.specs.Paths.{BoxData}
 use Rattle.rd_stack.specs.Fresh.{box_data}
 use Rattle.rd_partial.specs.Looks.{hull_at}
+use Rattle.rd_tree.specs.declared.view.BoxView.{BoxView}
 use Rattle.rd_partial.specs.declared.look.Looked.{Looked}
+
+-- what a walk needs of a view
+abbrev pub looked_of : BoxView → Looked
+looked_of v = record {
+  key = v.key;
+  rect = v.rect;
+  style = v.style;
+  first_child = v.first_child;
+  next_sibling = v.next_sibling;
+  hull = v.hull;
+  touched = v.touched;
+  touched_below = v.touched_below;
+}
 
 -- the box that a look shows
 abbrev pub here_of : Looked → BoxData

@@ -1,10 +1,9 @@
 -- What the walk to the touched boxes adds to an area.
-use Rattle.std.specs.Prelude.{◌≡◌, ℕ, ℤ, Bool, true, false, ◌&&◌, ◌||◌, if◌then◌else◌, Option, Some, None}
+use Rattle.std.specs.Prelude.{◌≡◌, ℕ, ℤ, Bool, false, ◌&&◌, ◌||◌, if◌then◌else◌, Option, Some, None}
 use Rattle.rd_geom.specs.Plane.{holds_pixel}
 use Rattle.rd_geom.specs.Canvas.{canvas_of}
 use Rattle.rd_geom.specs.Areas.{Region, in_area}
 use Rattle.rd_keys.specs.Keys.{BoxKey, same_key}
-use Rattle.rd_keys.specs.declared.entry.Part.{Part}
 use Rattle.rd_keys.specs.declared.entry.Part.TheVariants.{Back, Border, Content, Outline}
 use Rattle.rd_item.specs.declared.leaf.Leaf.{Leaf}
 use Rattle.rd_tree.specs.Forest.{empty, tree, from_some}

@@ -10,10 +10,10 @@ decreases-add_below g l = 2 * size (from_some same_key l.looked.now.first_child 
 abbrev pub decreases-add_siblings : goal.decreases-add_siblings
 decreases-add_siblings g l = 2 * size (from_some same_key l.first l.tree.now.boxes)
 
-abbrev pub decreases-add_siblings-loop-next : goal.decreases-add_siblings-loop-next
-decreases-add_siblings-loop-next g l = size (from_some same_key l.next l.tree.boxes)
+abbrev pub decreases-add_siblings-loop-looked : goal.decreases-add_siblings-loop-looked
+decreases-add_siblings-loop-looked g l = size (from_some same_key l.at l.tree.boxes)
 
-abbrev pub invariant-add_siblings-loop-next : goal.invariant-add_siblings-loop-next
-invariant-add_siblings-loop-next g l =
-    (l.next ≡ head (from_some same_key l.next l.tree.boxes))
-    × Added l.s (from_some same_key l.fn.first l.tree.boxes) (from_some same_key l.next l.tree.boxes) l.fn.area l.area l.fn.looks l.looks
+abbrev pub invariant-add_siblings-loop-looked : goal.invariant-add_siblings-loop-looked
+invariant-add_siblings-loop-looked g l =
+    (l.at ≡ head (from_some same_key l.at l.tree.boxes))
+    × Added l.s (from_some same_key l.fn.first l.tree.boxes) (from_some same_key l.at l.tree.boxes) l.fn.area l.area l.fn.looks l.looks

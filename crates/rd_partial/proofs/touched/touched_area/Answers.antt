@@ -1,4 +1,4 @@
-use Rattle.std.proofs.Common.{◌∙◌, ap, subst, sym}
+use Rattle.std.proofs.Common.{◌∙◌, ap, subst}
 use Rattle.rd_geom.specs.Canvas.{canvas_of}
 use Rattle.rd_list.specs.EntryNames.{kept_leaves}
 use Rattle.rd_partial.specs.Invalid.{any_shows}

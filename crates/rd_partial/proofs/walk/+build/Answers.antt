@@ -1,5 +1,5 @@
-use Rattle.std.proofs.Common.{◌≡◌, refl, ◌∙◌, sym, ap, subst, ℕ, Bool}
-use Rattle.std.specs.Prelude.{Option, OnOk}
+use Rattle.std.proofs.Common.{◌≡◌, refl, ◌∙◌, ap, subst, ℕ, Bool}
+use Rattle.std.specs.Prelude.{Option, Some, None, OnOk}
 use Rattle.rd_geom.specs.Plane.{Rectangle}
 use Rattle.rd_keys.specs.Keys.{BoxKey, same_key}
 use Rattle.rd_keys.specs.declared.entry.Part.TheVariants.{Back, Border, Content}
@@ -18,8 +18,9 @@ use Rattle.rd_partial.specs.Internal.Held.{held}
 use Rattle.rd_partial.specs.Internal.Looked.{here_of}
 use Rattle.rd_partial.specs.Internal.Work.{passes}
 use Rattle.rd_partial.proofs.Arms.{over_known, two_joined, context_order, aside_order, float_arm, atom_arm, inline_arm, block_arm, auto_arm, real_arm}
-use Rattle.rd_partial.proofs.Kids.{kept_one, kept_none, kept_end, kept_most, live_next, dead_end, onward_as, passes_none, cost_none_below}
+use Rattle.rd_partial.proofs.Kids.{kept_one, kept_end, kept_most, live_next, onward_as, passes_none, cost_none_below}
 use Rattle.rd_partial.proofs.Filled.{filled}
+use Rattle.rd_partial.proofs.Searching.{kept_over}
 use Rattle.rd_partial.proofs.walk.+build.Goals as goal
 
 abbrev inner : (Rectangle → Bool) → ℕ → Standing → BoxData → Option BoxKey → BoxForest → Bands Made
@@ -85,34 +86,46 @@ aside-returns-clause-list g t c =
     (rw (c.empty.ensures, c.empty-2.ensures, c.empty-3.ensures, c.in_ok-out.ensures.line, c.in_ok-out.ensures.outlines) refl)
     c.in_ok-those_below.ensures.list)
 
-pub children-loop-next-preserved-in_ok-one : goal.children-loop-next-preserved-in_ok-one
-children-loop-next-preserved-in_ok-one g t c =
-    (live_next c.args.tree.now.boxes c.in-Some.key (here_of c.in-Some-look_at.looked) c.in-Some-look_at.looked.first_child c.in-Some-look_at.looked.next_sibling c.in-Some-look_at.looked.hull c.in-Some-look_at.ensures.told, kept_one (g.W.Wanted.wants c.args.wanted.now) c.args.number c.args.s.now c.args.tree.now.boxes (from_some same_key c.args.first c.args.tree.now.boxes) c.in-Some.key c.here-here.result c.in-Some-look_at.looked.first_child c.in-Some-look_at.looked.next_sibling c.in-Some-look_at.looked.hull (onward_as c.here-here.ensures c.in-Some-look_at.ensures.told) (held c.args.local.now c.args.layers.now) (held c.loop-next.local c.loop-next.layers) c.args.made.now c.loop-next.made c.args.looks.now c.loop-next.looks c.loop-next.next (held c.one.new.local c.one.new.layers) c.one.new.made c.look_at.new.looks c.one.new.looks c.in-Some.is c.loop-next.invariant.1 (sym c.meets.ensures ∙ c.if-meets.true) c.in_ok-one.ensures.list c.in_ok-one.ensures.made c.look_at.ensures.cost c.one.ensures.looks)
-
-pub children-loop-next-preserved : goal.children-loop-next-preserved
-children-loop-next-preserved g t c =
-    (live_next c.args.tree.now.boxes c.in-Some.key (here_of c.in-Some-look_at.looked) c.in-Some-look_at.looked.first_child c.in-Some-look_at.looked.next_sibling c.in-Some-look_at.looked.hull c.in-Some-look_at.ensures.told, kept_none (g.W.Wanted.wants c.args.wanted.now) c.args.number c.args.s.now c.args.tree.now.boxes (from_some same_key c.args.first c.args.tree.now.boxes) c.in-Some.key (here_of c.in-Some-look_at.looked) c.in-Some-look_at.looked.first_child c.in-Some-look_at.looked.next_sibling c.in-Some-look_at.looked.hull c.in-Some-look_at.ensures.told (held c.args.local.now c.args.layers.now) (held c.loop-next.local c.loop-next.layers) c.args.made.now c.loop-next.made c.args.looks.now c.loop-next.looks c.loop-next.next c.look_at.new.looks c.in-Some.is c.loop-next.invariant.1 (sym c.meets.ensures ∙ c.if-meets.false) (g.met.W.Wanted.grows c.args.wanted.now) c.requires.root c.look_at.ensures.cost)
+pub children-loop-looked-preserved : goal.children-loop-looked-preserved
+children-loop-looked-preserved g t c =
+    let n = c.in-Some.ensures in
+    let v = c.in-Some.looked in (
+      live_next c.args.tree.now.boxes n.key (here_of v) v.first_child v.next_sibling v.hull n.told,
+      kept_one (g.W.Wanted.wants c.args.wanted.now) c.args.number c.args.s.now c.args.tree.now.boxes (from_some same_key c.args.first c.args.tree.now.boxes) n.key c.here-here.result
+          v.first_child v.next_sibling v.hull (onward_as c.here-here.ensures n.told) (held c.args.local.now c.args.layers.now) (held c.loop-looked.local c.loop-looked.layers) c.args.made.now c.loop-looked.made c.args.looks.now n.before (Some n.key)
+          (held c.one.new.local c.one.new.layers) c.one.new.made c.next_wanted.new.looks c.one.new.looks refl
+          (kept_over (g.W.Wanted.wants c.args.wanted.now) c.args.number c.args.s.now c.args.tree.now (from_some same_key c.args.first c.args.tree.now.boxes) c.loop-looked.at (Some n.key)
+          (held c.args.local.now c.args.layers.now) (held c.loop-looked.local c.loop-looked.layers) c.args.made.now c.loop-looked.made c.args.looks.now c.loop-looked.looks n.before c.requires.root c.loop-looked.invariant.1 n.passed)
+          n.wanted c.in_ok-one.ensures.list c.in_ok-one.ensures.made n.cost c.one.ensures.looks,
+    )
 
 pub children-returns-in_err-one-clause-most : goal.children-returns-in_err-one-clause-most
 children-returns-in_err-one-clause-most g t c =
-    kept_most (g.W.Wanted.wants c.args.wanted.now) c.args.number c.args.s.now c.args.tree.now.boxes (from_some same_key c.args.first c.args.tree.now.boxes) c.in-Some.key c.here-here.result c.in-Some-look_at.looked.first_child c.in-Some-look_at.looked.next_sibling c.in-Some-look_at.looked.hull (onward_as c.here-here.ensures c.in-Some-look_at.ensures.told) (held c.args.local.now c.args.layers.now) (held c.loop-next.local c.loop-next.layers) c.args.made.now c.loop-next.made c.args.looks.now c.loop-next.looks c.loop-next.next c.one.new.made c.in-Some.is c.loop-next.invariant.1 c.one.ensures.most
-
-pub children-returns-in_default-clause-list : goal.children-returns-in_default-clause-list
-children-returns-in_default-clause-list g t c =
-    (kept_end (g.W.Wanted.wants c.args.wanted.now) c.args.number c.args.s.now c.args.tree.now.boxes (from_some same_key c.args.first c.args.tree.now.boxes) (from_some same_key c.loop-next.next c.args.tree.now.boxes) (held c.args.local.now c.args.layers.now) (held c.loop-next.local c.loop-next.layers) c.args.made.now c.loop-next.made c.args.looks.now c.loop-next.looks (ap (λ o. from_some same_key o c.args.tree.now.boxes) c.in_default.is) c.loop-next.invariant.1).0
+    let n = c.in-Some.ensures in
+    let v = c.in-Some.looked in
+    kept_most (g.W.Wanted.wants c.args.wanted.now) c.args.number c.args.s.now c.args.tree.now.boxes (from_some same_key c.args.first c.args.tree.now.boxes) n.key c.here-here.result v.first_child v.next_sibling v.hull
+    (onward_as c.here-here.ensures n.told) (held c.args.local.now c.args.layers.now) (held c.loop-looked.local c.loop-looked.layers) c.args.made.now c.loop-looked.made c.args.looks.now n.before (Some n.key) c.one.new.made refl
+    (kept_over (g.W.Wanted.wants c.args.wanted.now) c.args.number c.args.s.now c.args.tree.now (from_some same_key c.args.first c.args.tree.now.boxes) c.loop-looked.at (Some n.key)
+    (held c.args.local.now c.args.layers.now) (held c.loop-looked.local c.loop-looked.layers) c.args.made.now c.loop-looked.made c.args.looks.now c.loop-looked.looks n.before c.requires.root c.loop-looked.invariant.1 n.passed)
+    c.one.ensures.most
 
 pub children-returns-in-None-clause-list : goal.children-returns-in-None-clause-list
-children-returns-in-None-clause-list g t c = absurd (dead_end c.args.tree.now.boxes c.in-Some.key c.loop-next.next c.in-Some.is c.loop-next.invariant.0 c.in-None.ensures.told)
-
-pub children-returns-in_default-clause-made : goal.children-returns-in_default-clause-made
-children-returns-in_default-clause-made g t c =
-    (kept_end (g.W.Wanted.wants c.args.wanted.now) c.args.number c.args.s.now c.args.tree.now.boxes (from_some same_key c.args.first c.args.tree.now.boxes) (from_some same_key c.loop-next.next c.args.tree.now.boxes) (held c.args.local.now c.args.layers.now) (held c.loop-next.local c.loop-next.layers) c.args.made.now c.loop-next.made c.args.looks.now c.loop-next.looks (ap (λ o. from_some same_key o c.args.tree.now.boxes) c.in_default.is) c.loop-next.invariant.1).1
+children-returns-in-None-clause-list g t c =
+    (kept_end (g.W.Wanted.wants c.args.wanted.now) c.args.number c.args.s.now c.args.tree.now.boxes (from_some same_key c.args.first c.args.tree.now.boxes) (from_some same_key None c.args.tree.now.boxes) (held c.args.local.now c.args.layers.now) (held c.loop-looked.local c.loop-looked.layers) c.args.made.now c.loop-looked.made c.args.looks.now c.next_wanted.new.looks refl
+    (kept_over (g.W.Wanted.wants c.args.wanted.now) c.args.number c.args.s.now c.args.tree.now (from_some same_key c.args.first c.args.tree.now.boxes) c.loop-looked.at None
+    (held c.args.local.now c.args.layers.now) (held c.loop-looked.local c.loop-looked.layers) c.args.made.now c.loop-looked.made c.args.looks.now c.loop-looked.looks c.next_wanted.new.looks c.requires.root c.loop-looked.invariant.1 c.in-None.ensures)).0
 
 pub children-returns-in-None-clause-made : goal.children-returns-in-None-clause-made
-children-returns-in-None-clause-made g t c = absurd (dead_end c.args.tree.now.boxes c.in-Some.key c.loop-next.next c.in-Some.is c.loop-next.invariant.0 c.in-None.ensures.told)
+children-returns-in-None-clause-made g t c =
+    (kept_end (g.W.Wanted.wants c.args.wanted.now) c.args.number c.args.s.now c.args.tree.now.boxes (from_some same_key c.args.first c.args.tree.now.boxes) (from_some same_key None c.args.tree.now.boxes) (held c.args.local.now c.args.layers.now) (held c.loop-looked.local c.loop-looked.layers) c.args.made.now c.loop-looked.made c.args.looks.now c.next_wanted.new.looks refl
+    (kept_over (g.W.Wanted.wants c.args.wanted.now) c.args.number c.args.s.now c.args.tree.now (from_some same_key c.args.first c.args.tree.now.boxes) c.loop-looked.at None
+    (held c.args.local.now c.args.layers.now) (held c.loop-looked.local c.loop-looked.layers) c.args.made.now c.loop-looked.made c.args.looks.now c.loop-looked.looks c.next_wanted.new.looks c.requires.root c.loop-looked.invariant.1 c.in-None.ensures)).1
 
 pub children-returns-in-None-clause-looks : goal.children-returns-in-None-clause-looks
-children-returns-in-None-clause-looks g t c = absurd (dead_end c.args.tree.now.boxes c.in-Some.key c.loop-next.next c.in-Some.is c.loop-next.invariant.0 c.in-None.ensures.told)
+children-returns-in-None-clause-looks g t c =
+    (kept_end (g.W.Wanted.wants c.args.wanted.now) c.args.number c.args.s.now c.args.tree.now.boxes (from_some same_key c.args.first c.args.tree.now.boxes) (from_some same_key None c.args.tree.now.boxes) (held c.args.local.now c.args.layers.now) (held c.loop-looked.local c.loop-looked.layers) c.args.made.now c.loop-looked.made c.args.looks.now c.next_wanted.new.looks refl
+    (kept_over (g.W.Wanted.wants c.args.wanted.now) c.args.number c.args.s.now c.args.tree.now (from_some same_key c.args.first c.args.tree.now.boxes) c.loop-looked.at None
+    (held c.args.local.now c.args.layers.now) (held c.loop-looked.local c.loop-looked.layers) c.args.made.now c.loop-looked.made c.args.looks.now c.loop-looked.looks c.next_wanted.new.looks c.requires.root c.loop-looked.invariant.1 c.in-None.ensures)).2
 
 pub those_below-returns-in-Some-clause-list : goal.those_below-returns-in-Some-clause-list
 those_below-returns-in-Some-clause-list g t c =

@@ -41,9 +41,9 @@ decreases-one g l = 6 * size (from_some same_key l.first l.tree.now.boxes) + 5
 abbrev pub decreases-children : goal.decreases-children
 decreases-children g l = 6 * size (from_some same_key l.first l.tree.now.boxes)
 
-abbrev pub decreases-children-loop-next : goal.decreases-children-loop-next
-decreases-children-loop-next g l = size (from_some same_key l.next l.tree.boxes)
+abbrev pub decreases-children-loop-looked : goal.decreases-children-loop-looked
+decreases-children-loop-looked g l = size (from_some same_key l.at l.tree.boxes)
 
-abbrev pub invariant-children-loop-next : goal.invariant-children-loop-next
-invariant-children-loop-next g l =
-    (l.next ≡ head (from_some same_key l.next l.tree.boxes)) × Kept (g.W.Wanted.wants l.wanted) l.number l.s l.tree.boxes (from_some same_key l.fn.first l.tree.boxes) (from_some same_key l.next l.tree.boxes) (held l.fn.local l.fn.layers) (held l.local l.layers) l.fn.made l.made l.fn.looks l.looks
+abbrev pub invariant-children-loop-looked : goal.invariant-children-loop-looked
+invariant-children-loop-looked g l =
+    (l.at ≡ head (from_some same_key l.at l.tree.boxes)) × Kept (g.W.Wanted.wants l.wanted) l.number l.s l.tree.boxes (from_some same_key l.fn.first l.tree.boxes) (from_some same_key l.at l.tree.boxes) (held l.fn.local l.fn.layers) (held l.local l.layers) l.fn.made l.made l.fn.looks l.looks

@@ -1,0 +1,68 @@
+//! Searches among siblings for the next box that a walk stops at.
+ghost use Rattle.std.specs.Prelude.{◌≡◌, ◌≤◌, None, MatchOption};
+ghost use Rattle.rd_stack.specs.Internal.Looks.{IsFirst};
+ghost use Rattle.rd_partial.specs.Internal.Seeking.{IsNextMarked, IsNextNear, IsNextWanted, PassesMarks, PassesWanted};
+
+use crate::look::{Looked, looked_of};
+use crate::wanted::Wanted;
+use rd_geom::Steps;
+use rd_keys::BoxKey;
+use rd_tree::Tree;
+use std::sync::ledger::Ledger;
+
+/// The first of some siblings, from one on, that is touched or has a touched box below it.
+pub(crate) fn next_marked<'a, B: Ledger>(
+    tree: &'a Tree<B>,
+    first: Option<BoxKey>,
+    looks: &mut Steps<B>,
+) -> Option<Looked<'a>>
+    requires live { IsFirst first tree.now }
+    ensures { MatchOption result (PassesMarks tree.now first None looks.old looks.new)
+        (λ v. IsNextMarked tree.now first v looks.old looks.new) }
+{
+    match tree.look_for_marked(first, looks) {
+        Some(view) => Some(looked_of(view)),
+        None => None,
+    }
+}
+
+/// The first of some siblings, from one on, whose hull reaches into the frame of what is wanted.
+fn next_near<'a, B: Ledger, W: Wanted>(
+    tree: &'a Tree<B>,
+    wanted: &W,
+    first: Option<BoxKey>,
+    looks: &mut Steps<B>,
+) -> Option<Looked<'a>>
+    requires live { IsFirst first tree.now }
+    ensures { MatchOption result (PassesWanted (W.wants wanted.now) tree.now first None looks.old looks.new)
+        (λ v. IsNextNear (W.wants wanted.now) tree.now first v looks.old looks.new) }
+{
+    match tree.look_for_hull(first, wanted.frame(), looks) {
+        Some(view) => Some(looked_of(view)),
+        None => None,
+    }
+}
+
+/// The first of some siblings, from one on, in whose hull something is wanted.
+pub(crate) fn next_wanted<'a, B: Ledger, W: Wanted>(
+    tree: &'a Tree<B>,
+    wanted: &W,
+    first: Option<BoxKey>,
+    looks: &mut Steps<B>,
+) -> Option<Looked<'a>>
+    requires live { IsFirst first tree.now }
+    ensures { MatchOption result (PassesWanted (W.wants wanted.now) tree.now first None looks.old looks.new)
+        (λ v. IsNextWanted (W.wants wanted.now) tree.now first v looks.old looks.new) }
+{
+    let mut at = first;
+    loop {
+        let looked = match next_near(tree, wanted, at, looks) {
+            Some(looked) => looked,
+            None => return None,
+        };
+        if wanted.meets(looked.hull) {
+            return Some(looked);
+        }
+        at = looked.next_sibling;
+    }
+}
