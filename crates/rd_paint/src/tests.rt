@@ -165,7 +165,7 @@ fn painted<A: Ledger>(
     Ok(canvas)
 }
 
-// The pixels of row 2 by hand; the others of the canvas stay clear.
+// The pixels at y = 2 by hand; the others of the canvas stay clear.
 fn is_right(canvas: &Canvas) -> bool {
     let table = [
         (0, 2, opaque(255, 255, 255)),
