@@ -1,4 +1,5 @@
 pub mod Merging
+pub mod Banded
 pub mod Spans
 pub mod Pixels
 pub mod Counting

@@ -1,5 +1,5 @@
-use Rattle.std.proofs.Common.{◌≡◌, ℕ, zero, suc, ℤ, pos, negsuc, ◌-ℤ◌, ◌≤ℤ◌, ◌<◌, ◌≤◌, ◌⊎◌, inl, inr, Bool, true, false, cond, ◌&&◌, ◌||◌, IsTrue, IsFalse, List, [], get_or, length, arith, refl, sym, ◌∙◌, ap, subst, ⊎_elim}
-use Rattle.std.specs.Prelude.{int_lt, if◌then◌else◌}
+use Rattle.std.proofs.Common.{◌≡◌, ℕ, ℤ, pos, negsuc, ◌-ℤ◌, ◌≤ℤ◌, ◌<◌, ◌≤◌, ◌⊎◌, inl, inr, Bool, true, false, cond, ◌&&◌, ◌||◌, IsTrue, IsFalse, List, [], ◌∷◌, get_or, length, arith, refl, sym, ◌∙◌, ap, subst, ⊎_elim}
+use Rattle.std.specs.Prelude.{int_le, int_lt, unsigned_abs, if◌then◌else◌}
 use Rattle.std.specs.Int.{int_max, int_min}
 use Rattle.std.proofs.lemmas.Int.{ints, clamps}
 use Rattle.rd_geom.specs.Plane.{Rectangle, right, bottom, holds_pixel, is_among, has_none, spanning, meet, no_pixels, hull_of, around, IsWithin}
@@ -9,10 +9,14 @@ use Rattle.rd_geom.specs.declared.rect.Size.{Size}
 use Rattle.rd_geom.specs.declared.span.Span.{Span}
 use Rattle.rd_geom.proofs.Areas.{AreaShares}
 use Rattle.rd_geom.proofs.Pixels.{common_pixels, both_true, right_of}
-use Rattle.rd_area.specs.Internal.Joining.{Joins, row_meets}
+use Rattle.rd_area.specs.Internal.Joining.{Joins, row_has, row_meets}
+use Rattle.rd_area.specs.Internal.Bands.{band_of, row_at, rows_of, AreBetween, HasRow, IsBanded}
+use Rattle.rd_area.proofs.Banded.{order, table_length, table_at, table_past, band_row, row_in}
+use Rattle.rd_area.proofs.Spans.{Row, at_place}
+use Rattle.std.proofs.lemmas.List.{length-map, get_or_past}
 use Rattle.rd_area.specs.Rows.{IsRising}
 use Rattle.rd_area.proofs.Merging.{SharesColumn}
-use Rattle.rd_area.specs.Internal.Normal.{IsOn, IsNormalized}
+use Rattle.rd_area.specs.Internal.Normal.{IsOn, IsNormalized, spans_of}
 use Rattle.rd_area.proofs.Merging.{meets_shares, shares_meets}
 
 and_true : (a : Bool) → (a && true) ≡ a
@@ -92,12 +96,6 @@ above_block : (s : Rectangle) (from to : ℕ) (span : Span) (x : ℤ) (n : ℕ) 
 above_block s from to span x n k =
     let row : is_among s.y s.h (negsuc n) ≡ false = grind (arith, ints, k.first, k.last) in
     rw row (and_false (is_among s.x s.w x))
-
-order : (m n : ℕ) → (m < n) ⊎ (n ≤ m)
-order zero zero = inr (omega arith)
-order zero (suc n) = inl (omega arith)
-order (suc m) zero = inr (omega arith)
-order (suc m) (suc n) = ⊎_elim (λ l. inl (omega arith)) (λ l. inr (omega arith)) (order m n)
 
 split : (from to n : ℕ) → ((from ≤ n) × (n < to)) ⊎ ((n < from) ⊎ (to ≤ n))
 split from to n = ⊎_elim (λ a. inr (inl a)) (λ b. ⊎_elim (λ c. inl (b, c)) (λ d. inr (inr d)) (order n to)) (order n from)
@@ -218,3 +216,119 @@ grown_from s from to span old mid new e g = subst (λ m. IsGrown s from to span 
 pub true_unless : (b : Bool) → (IsFalse b → ⊥) → IsTrue b
 true_unless true f = grind arith
 true_unless false f = absurd (f (grind arith))
+
+-- the rows of bands before and after a span joined those between two rows
+pub grown_rows : (s : Rectangle) (height from to first last : ℕ) (span : Span) (old new : List ℕ) (before parted after : List (List Span))
+    → IsBlock s from to span → to ≤ height → ((z : ℕ) → row_at new parted z ≡ row_at old before z) → AreBetween new from to first last
+    → ((k : ℕ) → first ≤ k → k < last → Joins (get_or parted k []) (get_or after k []) span)
+    → ((k : ℕ) → (k < first) ⊎ (last ≤ k) → get_or after k [] ≡ get_or parted k [])
+    → IsGrown s from to span (rows_of height old before) (rows_of height new after)
+grown_rows s height from to first last span old new before parted after block top same between joined others = record {
+  block = block;
+  count = table_length height (row_at new after) ∙ sym (table_length height (row_at old before));
+  joined = λ y f l.
+      let i = between.inside y f l in
+      let a : get_or (rows_of height old before) y [] ≡ get_or parted (band_of new y) [] = table_at height (row_at old before) y (omega (arith, l, top)) ∙ sym (same y) in
+      let b : get_or (rows_of height new after) y [] ≡ get_or after (band_of new y) [] = table_at height (row_at new after) y (omega (arith, l, top)) in
+      rw (a, b) (joined (band_of new y) i.0 i.1);
+  others = λ y o. ⊎_elim
+      (λ l.
+      let a : get_or (rows_of height old before) y [] ≡ get_or parted (band_of new y) [] = table_at height (row_at old before) y l ∙ sym (same y) in
+      let b : get_or (rows_of height new after) y [] ≡ get_or after (band_of new y) [] = table_at height (row_at new after) y l in
+      b ∙ (others (band_of new y) (between.outside y o) ∙ sym a))
+      (λ l. table_past height (row_at new after) y l ∙ sym (table_past height (row_at old before) y l))
+      (order y height);
+}
+
+-- a block has a row, and none of them below the canvas
+pub block_order : (s : Rectangle) (from to : ℕ) (span : Span) → IsBlock s from to span → has_none s ≡ false → from < to
+block_order s from to span k e = grind (arith, ints, k.first, k.last)
+
+pub block_top : (s : Rectangle) (from to : ℕ) (span : Span) (size : Size) → IsBlock s from to span → IsCanvas size → IsOn s size → to ≤ unsigned_abs size.h
+block_top s from to span size k c o = omega (arith, ints, k.last, o.bottom, c.some_high)
+
+-- a span of a row that has it is in the row
+has_columns : (ss : List Span) (t : Span) (x : ℤ) → row_has ss t ≡ true → in_span t x ≡ true → in_spans ss x ≡ true
+has_columns [] t x e i = absurd (grind arith)
+has_columns (s ∷ ss) t x e i =
+    elim (int_le s.x0 t.x0 && int_le t.x1 s.x1) as (λ b. (int_le s.x0 t.x0 && int_le t.x1 s.x1) ≡ b → (b || row_has ss t) ≡ true → (in_span s x || in_spans ss x) ≡ true) [
+      | true ↦ λ h u. let w : in_span s x ≡ true = within_span s t x h i in rw w refl
+      | false ↦ λ h u. let w : in_spans ss x ≡ true = has_columns ss t x u i in or_true (in_span s x) (in_spans ss x) w
+    ] refl e
+  where
+    within_span : (s t : Span) (x : ℤ) → (int_le s.x0 t.x0 && int_le t.x1 s.x1) ≡ true → in_span t x ≡ true → in_span s x ≡ true
+    within_span s t x h i = grind (arith, ints)
+
+    or_true : (a b : Bool) → b ≡ true → (a || b) ≡ true
+    or_true a b h = grind arith
+
+-- nothing joins where each band has the span
+pub had_pixels : (s : Rectangle) (height from to first last : ℕ) (span : Span) (ends : List ℕ) (bands : List (List Span)) → IsBlock s from to span → to ≤ height
+    → ((y : ℕ) → from ≤ y → y < to → (first ≤ band_of ends y) × (band_of ends y < last))
+    → ((k : ℕ) → first ≤ k → k < last → IsTrue (row_has (get_or bands k []) span)) → (x y : ℤ)
+    → in_spans (spans_at (rows_of height ends bands) y) x ≡ (holds_pixel s x y || in_spans (spans_at (rows_of height ends bands) y) x)
+had_pixels s height from to first last span ends bands k top between has x (negsuc n) = rw (above_block s from to span x n k) refl
+had_pixels s height from to first last span ends bands k top between has x (pos n) =
+    ⊎_elim
+    (λ i.
+    let b = between n i.0 i.1 in
+    let r : get_or (rows_of height ends bands) n [] ≡ get_or bands (band_of ends n) [] = table_at height (row_at ends bands) n (omega (arith, i.1, top)) in
+    let h : row_has (get_or (rows_of height ends bands) n []) span ≡ true = rw r (has (band_of ends n) b.0 b.1) in
+    rw (in_block s from to span x n k i.0 i.1) (absorbs (in_span span x) (in_spans (get_or (rows_of height ends bands) n []) x) (has_columns _ span x h)))
+    (λ o. rw (outside_block s from to span x n k o) refl)
+    (split from to n)
+  where
+    absorbs : (a b : Bool) → (a ≡ true → b ≡ true) → b ≡ (a || b)
+    absorbs true b f = f refl
+    absorbs false b f = refl
+
+-- an area without a pixel
+pub none_sound : (size : Size) (rows : List (List Span)) → IsCanvas size → length rows ≡ unsigned_abs size.h → ((y : ℕ) → get_or rows y [] ≡ [])
+    → IsNormalized size no_pixels rows
+none_sound size rows c n e = record {
+  canvas = c;
+  height = omega (arith, ints, n, c.some_high);
+  rising = λ y. rw (e y) tt;
+  on = none_on size c;
+  within = λ x y h. absurd (clash false (subst (λ ss. IsTrue (in_spans ss x)) (e y) h) (grind arith));
+}
+
+pub none_in : (rows : List (List Span)) (x y : ℤ) → ((n : ℕ) → get_or rows n [] ≡ []) → in_spans (spans_at rows y) x ≡ false
+none_in rows x (pos n) e = rw (e n) refl
+none_in rows x (negsuc n) e = refl
+
+-- rows of bands in which one has a column of a span, or none
+pub row_of_band : (height : ℕ) (ends : List ℕ) (bands : List (List Span)) (from to k : ℕ) (r : HasRow ends from to k) → to ≤ height
+    → get_or (rows_of height ends bands) r.y [] ≡ get_or bands k []
+row_of_band height ends bands from to k r top = table_at height (row_at ends bands) r.y (omega (arith, r.last, top)) ∙ ap (λ b. get_or bands b []) r.band
+
+-- the spans of each band rise, since those of its rows do
+pub band_rising : (size : Size) (used : Rectangle) (ends : List ℕ) (bands : List Row) (m k : ℕ)
+    → IsNormalized size used (rows_of (unsigned_abs size.h) ends (spans_of bands)) → IsBanded (unsigned_abs size.h) ends m → length bands ≡ m
+    → IsRising (pos 0) size.w (get_or (spans_of bands) k [])
+band_rising size used ends bands m k i b size_is =
+    let n : length (spans_of bands) ≡ length bands = length-map _ _ in
+    ⊎_elim
+    (λ l. let r = band_row (unsigned_abs size.h) ends m k b l in
+    rw (← row_of_band (unsigned_abs size.h) ends (spans_of bands) 0 (unsigned_abs size.h) k r (omega arith)) (i.rising r.y))
+    (λ l. let e : get_or (spans_of bands) k [] ≡ [] = get_or_past (spans_of bands) k [] (omega (arith, l, n, b.count, size_is)) in rw e tt)
+    (order k (length ends))
+
+-- the spans of a row are those of its band
+pub band_spans : (height : ℕ) (ends : List ℕ) (bands : List Row) (m n : ℕ) (y : ℤ) (v : Row) → IsBanded height ends m → length bands ≡ m → y ≡ pos n
+    → band_of ends n < length bands → v ≡ get_or bands (band_of ends n) v → v.items ≡ spans_at (rows_of height ends (spans_of bands)) y
+band_spans height ends bands m n y v b size_is e h is =
+    let t = table_at height (row_at ends (spans_of bands)) n (row_in height ends m n b (omega (arith, h, size_is, b.count))) in
+    rw e (sym (t ∙ at_place (λ r. r.items) [] bands (band_of ends n) v h is))
+
+pub spans_rise : (size : Size) (used : Rectangle) (rows : List (List Span)) (y : ℤ) → IsNormalized size used rows → IsRising (pos 0) size.w (spans_at rows y)
+spans_rise size used rows (pos n) i = i.rising n
+spans_rise size used rows (negsuc n) i = tt
+
+-- a rectangle that joins an area without a pixel
+pub whole_pixels : (r : Rectangle) (x y : ℤ) (b c : Bool) → b ≡ (holds_pixel (meet r r) x y || c) → c ≡ false → b ≡ holds_pixel r x y
+whole_pixels r x y b c e f = e ∙ rw (f, common_pixels r r x y) (both_same (holds_pixel r x y))
+  where
+    both_same : (a : Bool) → ((a && a) || false) ≡ a
+    both_same true = refl
+    both_same false = refl

@@ -1,7 +1,8 @@
-use Rattle.std.proofs.Common.{◌≡◌, ℕ, zero, suc, ℤ, pos, ◌+◌, ◌-◌, ◌<◌, ◌≤◌, ◌≢◌, ◌⊎◌, inl, inr, List, [], ◌∷◌, map, set, get_or, length, Vec, vec_len, vec_capacity, IsFalse, arith, refl, sym, ◌∙◌, ap, subst, below_more}
+use Rattle.std.proofs.Common.{◌≡◌, ℕ, zero, suc, ℤ, pos, ◌+◌, ◌-◌, ◌<◌, ◌≤◌, ◌≢◌, ◌⊎◌, inl, inr, List, [], ◌∷◌, map, set, get_or, length, Vec, vec_len, vec_capacity, IsTrue, IsFalse, arith, refl, sym, ◌∙◌, ap, subst, below_more}
+use Rattle.std.specs.List.{insert}
 use Rattle.std.specs.declared.alloc.Global.{Global}
 use Rattle.rd_geom.specs.declared.span.Span.{Span}
-use Rattle.rd_area.specs.Internal.Joining.{Joins, row_meets}
+use Rattle.rd_area.specs.Internal.Joining.{Joins, row_has, row_meets}
 use Rattle.rd_area.specs.Rows.{IsRising}
 use Rattle.rd_area.specs.Internal.Normal.{spans_of}
 use Rattle.rd_area.specs.Internal.Room.{room_at}
@@ -81,3 +82,17 @@ meets_more vs i v from span h e not_it below y a b =
 pub rises_at : (vs : List Row) (i : ℕ) (v : Row) (w : ℤ) → i < length vs → v ≡ get_or vs i v → ((y : ℕ) → IsRising (pos 0) w (get_or (spans_of vs) y []))
     → IsRising (pos 0) w v.items
 rises_at vs i v w h e r = subst (λ ss. IsRising (pos 0) w ss) (at_place (λ r. r.items) [] vs i v h e) (r i)
+
+pub spans_inserted : (vs : List Row) (i : ℕ) (w : Row) → i ≤ length vs → spans_of (insert vs i w) ≡ insert (spans_of vs) i w.items
+spans_inserted vs zero w h = refl
+spans_inserted [] (suc i) w h = absurd (omega arith)
+spans_inserted (v ∷ vs) (suc i) w h = ap (λ x. v.items ∷ x) (spans_inserted vs i w (omega arith))
+
+pub has_more : (vs : List Row) (i : ℕ) (v : Row) (from : ℕ) (span : Span) → i < length vs → v ≡ get_or vs i v → IsTrue (row_has v.items span)
+    → ((y : ℕ) → from ≤ y → y < i → IsTrue (row_has (get_or (spans_of vs) y []) span))
+    → (y : ℕ) → from ≤ y → y < i + 1 → IsTrue (row_has (get_or (spans_of vs) y []) span)
+has_more vs i v from span h e has below y a b =
+    below_more (λ k. from ≤ k → IsTrue (row_has (get_or (spans_of vs) k []) span)) i
+    (λ k l g. below k g l)
+    (λ g. rw (at_place (λ r. r.items) [] vs i v h e) has)
+    y b a

@@ -5,31 +5,44 @@ ghost use Rattle.rd_geom.specs.Plane.{meet, right, bottom, holds_pixel, has_none
 ghost use Rattle.rd_geom.specs.Canvas.{IsCanvas, canvas_of};
 ghost use Rattle.rd_geom.specs.Areas.{in_area, spans_at, count_of, meets_area};
 ghost use Rattle.rd_area.specs.Rows.{IsRising};
+ghost use Rattle.rd_area.specs.Internal.Normal.{IsOn};
 
-use crate::{row, rows};
+use crate::{bands, row, rows};
 use rd_geom::{NoMemory, Rect, Size, Span, hull, meet};
 use std::alloc::Global;
 use std::marker::Model;
 
-/// A set of pixels of a canvas, as spans for each of its rows.
+/// A set of pixels of a canvas, as spans for each band of rows that have the same ones.
 #[derive(Drop)]
 pub struct Area {
     size: Size,
 
     /// No pixel of the area is outside.
     used: Rect,
-    rows: Vec<Vec<Span>>,
+
+    /// The row after the last of each band, from top to bottom.
+    ends: Vec<usize>,
+
+    /// The spans of each of a band's rows.
+    bands: Vec<Vec<Span>>,
 }
 
 impl Model for Area {
     ghost use Rattle.rd_geom.specs.Areas.{Region};
+    ghost use Rattle.std.specs.Prelude.{unsigned_abs, vec_len};
     ghost use Rattle.rd_area.specs.Internal.Normal.{spans_of, IsNormalized};
+    ghost use Rattle.rd_area.specs.Internal.Bands.{rows_of, IsBanded};
 
     ghost Value = { Region };
 
-    ghost view = { λ a. record { size = a.size; rows = spans_of a.rows.items } };
+    ghost view = { λ a. record {
+      size = a.size;
+      rows = rows_of (unsigned_abs a.size.h) a.ends.items (spans_of a.bands.items);
+    } };
 
-    ghost invariant = { λ a. IsNormalized a.size a.used (spans_of a.rows.items) };
+    ghost invariant = { λ a. IsNormalized a.size a.used
+        (rows_of (unsigned_abs a.size.h) a.ends.items (spans_of a.bands.items))
+        × IsBanded (unsigned_abs a.size.h) a.ends.items (vec_len a.bands) };
 }
 
 /// The columns of a rectangle.
@@ -75,11 +88,15 @@ impl Area {
         ensures size { IfOk result (λ a. a.size ≡ size) }
         ensures pixels { IfOk result (λ a. (x y : ℤ) → in_area a x y ≡ false) }
     {
-        let rows = rows::empty_rows(alloc, size.h as usize)?;
+        let mut ends = Vec::new(alloc);
+        ends.push(size.h as usize)?;
+        let mut bands = Vec::new(alloc);
+        bands.push(Vec::new(alloc))?;
         Ok(Area {
             size,
             used: Rect::EMPTY,
-            rows,
+            ends,
+            bands,
         })
     }
 
@@ -107,8 +124,25 @@ impl Area {
             return Ok(());
         }
         let (from, to) = rows_of(seen);
-        rows::reserve(&mut self.rows, from, to)?;
-        rows::join(&mut self.rows, from, to, columns(seen));
+        let (first, last) = bands::between(&self.ends, from, to);
+        if rows::have(&self.bands, first, last, columns(seen)) {
+            return Ok(());
+        }
+        self.join(seen)
+    }
+
+    /// The pixels of a rectangle on the canvas join. Without memory the area stays as it was.
+    fn join(&mut self, seen: Rect) -> Result<(), NoMemory>
+        requires some { has_none seen ≡ false }
+        requires on { IsOn seen self.old.size }
+        ensures size { OnOk result (self.new.size ≡ self.old.size) }
+        ensures pixels { OnOk result ((x y : ℤ) → in_area self.new x y ≡
+            (holds_pixel seen x y || in_area self.old x y)) }
+        ensures refused { OnErr result (self.new ≡ self.old) }
+    {
+        let (from, to) = rows_of(seen);
+        let (first, last) = bands::prepare(&mut self.ends, &mut self.bands, from, to)?;
+        rows::join(&mut self.bands, first, last, columns(seen));
         self.used = hull(self.used, seen);
         Ok(())
     }
@@ -141,7 +175,8 @@ impl Area {
             return false;
         }
         let (from, to) = rows_of(seen);
-        rows::meets(&self.rows, from, to, columns(seen))
+        let (first, last) = bands::between(&self.ends, from, to);
+        rows::meets(&self.bands, first, last, columns(seen))
     }
 
     /// Is the pixel in column `x` and row `y` in the area?
@@ -155,7 +190,7 @@ impl Area {
     pub fn count(&self) -> u64
         ensures { result ≡ count_of self.now }
     {
-        rows::count(&self.rows)
+        rows::count(&self.ends, &self.bands, self.size.h as usize)
     }
 
     /// The pixels of row `y` as rising spans, which neither touch nor are empty; none for a row off the canvas.
@@ -166,7 +201,7 @@ impl Area {
         if y < 0 {
             return &[];
         }
-        match self.rows.get(y as usize) {
+        match self.bands.get(bands::band_of(&self.ends, y as usize)) {
             Some(row) => row,
             None => &[],
         }

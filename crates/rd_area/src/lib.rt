@@ -4,6 +4,7 @@
 #![tactic(auto)]
 
 mod area;
+mod bands;
 mod row;
 mod rows;
 #[cfg(test)]

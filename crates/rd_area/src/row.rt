@@ -5,7 +5,7 @@ ghost use Rattle.std.specs.Int.{int_max, int_min};
 ghost use Rattle.rd_geom.specs.Areas.{in_span, in_spans, columns_in};
 ghost use Rattle.rd_geom.specs.declared.span.Span.{Span};
 ghost use Rattle.rd_geom.specs.declared.rect.TheConstants.{MAX_CANVAS_SIDE};
-ghost use Rattle.rd_area.specs.Internal.Joining.{Joins, overlaps, row_meets, with_span, absorbing};
+ghost use Rattle.rd_area.specs.Internal.Joining.{Joins, overlaps, row_has, row_meets, with_span, absorbing};
 ghost use Rattle.rd_area.specs.Rows.{IsRising};
 
 use rd_geom::Span;
@@ -90,6 +90,18 @@ pub(crate) fn meets(row: &[Span], span: Span) -> bool
 {
     for s in row {
         if overlaps(*s, span) {
+            return true;
+        }
+    }
+    false
+}
+
+/// Are all of the span's columns in one of the row's spans?
+pub(crate) fn has(row: &[Span], span: Span) -> bool
+    ensures { result ≡ row_has row.now span }
+{
+    for s in row {
+        if s.x0 <= span.x0 && span.x1 <= s.x1 {
             return true;
         }
     }

@@ -1,5 +1,5 @@
 -- How a span joins a row, and which spans a row meets.
-use Rattle.std.specs.Prelude.{◌≡◌, ℤ, ◌≤ℤ◌, Bool, false, ◌||◌, if◌then◌else◌, int_lt, int_le, List, [], ◌∷◌}
+use Rattle.std.specs.Prelude.{◌≡◌, ℤ, ◌≤ℤ◌, Bool, false, ◌&&◌, ◌||◌, if◌then◌else◌, int_lt, int_le, List, [], ◌∷◌}
 use Rattle.std.specs.Int.{int_max, int_min}
 use Rattle.rd_geom.specs.Areas.{in_span, in_spans}
 use Rattle.rd_geom.specs.declared.span.Span.{Span}
@@ -20,6 +20,11 @@ overlaps s t = int_lt (int_max s.x0 t.x0) (int_min s.x1 t.x1)
 abbrev pub row_meets : List Span → Span → Bool
 row_meets [] t = false
 row_meets (s ∷ ss) t = overlaps s t || row_meets ss t
+
+-- has one of a row's spans all columns of a span?
+abbrev pub row_has : List Span → Span → Bool
+row_has [] t = false
+row_has (s ∷ ss) t = (int_le s.x0 t.x0 && int_le t.x1 s.x1) || row_has ss t
 
 -- a span with the first spans of a row, as far as these touch it, and then the rest
 abbrev pub absorbing : Span → List Span → List Span
