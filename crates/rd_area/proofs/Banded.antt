@@ -359,3 +359,10 @@ band_row height es n (suc k) b h = record {
   last = let t = b.rising k (suc k) (omega arith) h in let u = b.within (suc k) h in omega (arith, t, u);
   band = band_is es (get_or es k 0) (suc k) (omega (arith, h)) (λ i l. never_falling es b.rising i k (omega (arith, l)) (omega (arith, h))) (λ l. b.rising k (suc k) (omega arith) l);
 }
+
+-- the ends up to a row tell its band
+pub band_before_next : (es : List ℕ) (y i : ℕ) → i ≤ length es → EndsBefore es (y + 1) i → i ≡ band_of es y
+band_before_next es y i h e =
+    sym (band_is es y i h
+    (λ k l. let n = e.before k l in omega (arith, n))
+    (λ l. let n = e.rest i (omega arith) l in omega (arith, n)))

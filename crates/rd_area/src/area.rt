@@ -167,6 +167,7 @@ impl Area {
     }
 
     /// Is a pixel of the rectangle in one of the rows?
+    #[inline(never)]
     fn has_pixel_of(&self, r: Rect) -> bool
         ensures { result ≡ meets_area self.now r }
     {

@@ -67,7 +67,7 @@ pub(crate) fn between(ends: &[usize], from: usize, to: usize) -> (usize, usize)
         → (result.0 ≤ band_of ends.now y) × (band_of ends.now y < result.1) }
     ensures rows { (k : ℕ) → result.0 ≤ k → k < result.1 → HasRow ends.now from to k }
 {
-    let first = band_of(ends, from);
+    let first = ends_before(ends, from + 1);
     (first, ends_before_from(ends, first, to) + 1)
 }
 
