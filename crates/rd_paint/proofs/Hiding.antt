@@ -1,6 +1,9 @@
 -- Entries that hide what is below them.
-use Rattle.std.proofs.Common.{◌≡◌, refl, ◌∙◌, sym, ap, ℤ, pos, ℕ, ◌+ℤ◌, ◌<◌, ◌≤◌, arith, Bool, true, false, ◌||◌}
+use Rattle.std.proofs.Common.{◌≡◌, refl, ◌∙◌, sym, ap, ℤ, pos, ℕ, ◌+ℤ◌, ◌<◌, ◌≤◌, arith, Bool, true, false, ◌&&◌}
 use Rattle.rd_geom.specs.Colors.{Premultiplied, premultiplied}
+use Rattle.rd_geom.specs.Areas.{in_span}
+use Rattle.rd_geom.specs.Plane.{IsWithin, holds_pixel, is_among, right}
+use Rattle.rd_geom.specs.declared.span.Span.{Span}
 use Rattle.rd_item.specs.declared.leaf.Leaf as item
 use Rattle.rd_item.specs.Leaves.{covers}
 use Rattle.rd_list.specs.Entries.{Entries, nil, leaf, ◌▷◌}
@@ -11,14 +14,19 @@ use Rattle.rd_list.proofs.Composing.{composed-join}
 use Rattle.rd_list.proofs.Joins.{join_assoc}
 use Rattle.rd_paint.specs.Internal.Picks.{Hides}
 use Rattle.rd_paint.proofs.Depths.{join_has, levels_by}
-use Rattle.rd_paint.proofs.Pieces.{opaque_over}
+use Rattle.rd_paint.proofs.Pieces.{shown_covers, opaque_over}
 
-pub or_left : (a b : Bool) → a ≡ true → (a || b) ≡ true
-or_left a b h = rw h refl
+-- a leaf covers what may be seen of it where its hole is not
+pub shown_fills : (l : item.Leaf) (s : Span) (x y : ℤ) → IsWithin l.visible l.shape.outer → is_among l.visible.y l.visible.h y ≡ true → s ≡ record { x0 = l.visible.x; x1 = right l.visible }
+    → in_span s x ≡ true → holds_pixel l.shape.inner x y ≡ false → covers l x y ≡ true
+shown_fills l s x y w r e i h = sym (shown_covers l s y w r e x) ∙ rw (i, h) refl
 
-pub or_right : (a b : Bool) → b ≡ true → (a || b) ≡ true
-or_right true b h = refl
-or_right false b h = h
+pub no_row : (i y : Bool) → y ≡ false → (i && y) ≡ false
+no_row true y h = h
+no_row false y h = refl
+
+pub no_column : (i y : Bool) → i ≡ false → (i && y) ≡ false
+no_column i y h = rw h refl
 
 -- an opaque leaf hides what is below it where it covers
 pub leaf_hides : (l : item.Leaf) (x y : ℤ) (d e : Premultiplied) → l.color.a ≡ 255 → covers l x y ≡ true → composed x y d (leaf l nil) ≡ composed x y e (leaf l nil)

@@ -1,6 +1,6 @@
 //! Entries that hide what is below them.
 
-ghost use Rattle.std.specs.Prelude.{◌≡◌, ℕ, ℤ, pos, ◌+◌, ◌≤◌, ◌<◌, ◌+ℤ◌, ◌≤ℤ◌, true, IsTrue, IfSome, ◌∷◌, [], List, length, drop};
+ghost use Rattle.std.specs.Prelude.{◌≡◌, ℕ, ℤ, pos, ◌+◌, ◌≤◌, ◌<◌, ◌+ℤ◌, ◌≤ℤ◌, true, false, IsTrue, IfSome, ◌∷◌, [], List, length, drop};
 ghost use Rattle.rd_geom.specs.Colors.{Premultiplied};
 ghost use Rattle.rd_geom.specs.Areas.{in_span};
 ghost use Rattle.rd_item.specs.Leaves as leaves;
@@ -12,10 +12,9 @@ ghost use Rattle.rd_paint.specs.Internal.Picks.{Hides, chosen, picked};
 ghost use Rattle.rd_paint.specs.declared.picks.Pick as named;
 
 use crate::picks::{Pick, pick_at};
-use crate::runs::pieces;
-use crate::spans::leaf_of;
+use crate::runs::{columns, has_row};
 use rd_geom::Span;
-use rd_item::{Item, Leaf};
+use rd_item::Item;
 use rd_list::Entry;
 use std::sync::ledger::Ledger;
 
@@ -29,14 +28,28 @@ fn is_whole(span: Span, x0: i32, count: usize) -> bool
     span.x0 <= x0 && end <= span.x1
 }
 
-/// Does the leaf cover so many pixels of row `y` from column `x0` on?
-fn fills(leaf: &Leaf, y: i32, x0: i32, count: usize) -> bool
+/// Is none of so many columns from `x0` on in the span?
+fn is_beside(span: Span, x0: i32, count: usize) -> bool
     requires from { pos 0 ≤ℤ x0 }
     requires within { (x0 +ℤ pos count) ≤ℤ pos 4096 }
-    ensures { IsTrue result → (k : ℕ) → k < count → leaves.covers leaf.now (x0 +ℤ pos k) y ≡ true }
+    ensures { IsTrue result → (k : ℕ) → k < count → in_span span (x0 +ℤ pos k) ≡ false }
 {
-    let (before, after) = pieces(leaf, y);
-    is_whole(before, x0, count) || is_whole(after, x0, count)
+    let end = x0 + count as i32;
+    end <= span.x0 || span.x1 <= x0
+}
+
+/// Does the item cover so many pixels of row `y` from column `x0` on?
+fn fills<A: Ledger>(item: &Item<A>, y: i32, x0: i32, count: usize) -> bool
+    requires from { pos 0 ≤ℤ x0 }
+    requires within { (x0 +ℤ pos count) ≤ℤ pos 4096 }
+    ensures { IsTrue result → (k : ℕ) → k < count → leaves.covers item.now.leaf (x0 +ℤ pos k) y ≡ true }
+{
+    let seen = item.visible();
+    if !has_row(seen, y) || !is_whole(columns(seen), x0, count) {
+        return false;
+    }
+    let hole = item.shape().inner;
+    !has_row(hole, y) || is_beside(columns(hole), x0, count)
 }
 
 /// Is the item opaque, and does it cover so many pixels of row `y` from column `x0` on?
@@ -45,11 +58,10 @@ fn item_hides<A: Ledger>(item: &Item<A>, y: i32, x0: i32, count: usize) -> bool
     requires within { (x0 +ℤ pos count) ≤ℤ pos 4096 }
     ensures { IsTrue result → Hides (list.leaf item.now.leaf list.nil) y x0 count }
 {
-    let leaf = leaf_of(item);
-    if leaf.visible.w() < count as i32 {
+    if item.visible().w() < count as i32 {
         return false;
     }
-    leaf.color.a == 255 && fills(&leaf, y, x0, count)
+    item.color().a == 255 && fills(item, y, x0, count)
 }
 
 /// Is the entry an opaque leaf that covers so many pixels of row `y` from column `x0` on?

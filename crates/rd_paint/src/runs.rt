@@ -4,12 +4,9 @@ ghost use Rattle.std.specs.Prelude.{◌≡◌, ℕ, ℤ, pos, ◌+◌, ◌*◌, 
 ghost use Rattle.rd_geom.specs.Colors.{Premultiplied, clear};
 ghost use Rattle.rd_geom.specs.Plane.{is_among, right};
 ghost use Rattle.rd_geom.specs.Areas.{in_span};
-ghost use Rattle.rd_item.specs.Leaves as leaves;
-ghost use Rattle.rd_list.specs.Entries as list;
-ghost use Rattle.rd_paint.specs.Internal.Runs.{laid_along, row_laid, tinted, piece_laid};
+ghost use Rattle.rd_paint.specs.Internal.Runs.{row_laid, tinted, piece_laid, round_laid, holed_laid};
 
 use rd_geom::{Px, Rect, Span, over, px_of, scale};
-use rd_item::Leaf;
 
 /// Makes each pixel the same.
 pub(crate) fn fill(out: &mut [Px], px: Px)
@@ -150,17 +147,6 @@ pub(crate) fn clipped(span: Span, x0: i32, count: usize) -> (usize, usize)
     if to < from { (from, from) } else { (from, to) }
 }
 
-/// Lays one pixel over those of the pixels from column `x0` on that are in the span, which mostly has no column.
-fn lay_piece(px: Px, span: Span, x0: i32, out: &mut [Px])
-    requires from { pos 0 ≤ℤ x0 }
-    requires within { (x0 +ℤ pos (length out.old)) ≤ℤ pos 4096 }
-    ensures { out.new ≡ piece_laid span px x0 out.old }
-{
-    if span.x0 < span.x1 {
-        lay_columns(px, span, x0, out);
-    }
-}
-
 /// Lays one pixel over those of the pixels from column `x0` on that are in the span.
 fn lay_columns(px: Px, span: Span, x0: i32, out: &mut [Px])
     requires from { pos 0 ≤ℤ x0 }
@@ -190,11 +176,16 @@ pub(crate) fn columns(r: Rect) -> Span
     }
 }
 
-/// The columns that are in both.
-fn both(a: Span, b: Span) -> Span
-    ensures { (x : ℤ) → in_span result x ≡ (in_span a x && in_span b x) }
+/// Lays one pixel over those of the pixels from column `x0` on that are in the span and not in the columns of a hole.
+fn lay_round(px: Px, span: Span, hole: Rect, x0: i32, out: &mut [Px])
+    requires from { pos 0 ≤ℤ x0 }
+    requires within { (x0 +ℤ pos (length out.old)) ≤ℤ pos 4096 }
+    ensures { out.new ≡ round_laid span hole px x0 out.old }
 {
-    left_of(right_from(a, b.x0), b.x1)
+    let before = left_of(span, hole.x());
+    let after = right_from(span, hole.right());
+    lay_columns(px, before, x0, out);
+    lay_columns(px, after, x0, out);
 }
 
 /// The columns of a span left of column `edge`.
@@ -217,48 +208,15 @@ fn right_from(run: Span, edge: i32) -> Span
     }
 }
 
-/// No column.
-fn no_columns() -> Span
-    ensures { (x : ℤ) → in_span result x ≡ false }
-{
-    Span { x0: 0, x1: 0 }
-}
-
-/// The columns of row `y` that a leaf covers, as two spans without a common column.
-pub(crate) fn pieces(leaf: &Leaf, y: i32) -> (Span, Span)
-    ensures covered { (x : ℤ) → leaves.covers leaf.now x y ≡ (in_span result.0 x || in_span result.1 x) }
-    ensures apart { (x : ℤ) → (in_span result.0 x && in_span result.1 x) ≡ false }
-{
-    let none = no_columns();
-    if !has_row(leaf.shape.outer, y) {
-        return (none, none);
-    }
-    if !has_row(leaf.visible, y) {
-        return (none, none);
-    }
-    let outer = columns(leaf.shape.outer);
-    let seen = columns(leaf.visible);
-    let run = both(outer, seen);
-    let hole = columns(leaf.shape.inner);
-    if !has_row(leaf.shape.inner, y) {
-        return (run, none);
-    }
-    if hole.x1 <= hole.x0 {
-        return (run, none);
-    }
-    let before = left_of(run, hole.x0);
-    let after = right_from(run, hole.x1);
-    (before, after)
-}
-
-/// Lays a leaf over the pixels of row `y` from column `x0` on.
-pub(crate) fn lay_leaf(leaf: &Leaf, y: i32, x0: i32, out: &mut [Px])
+/// Lays one pixel over those of the pixels of row `y` from column `x0` on that are in the span and not in a hole.
+pub(crate) fn lay_row_of(px: Px, span: Span, hole: Rect, y: i32, x0: i32, out: &mut [Px])
     requires from { pos 0 ≤ℤ x0 }
     requires within { (x0 +ℤ pos (length out.old)) ≤ℤ pos 4096 }
-    ensures { out.new ≡ laid_along y x0 (list.leaf leaf.now list.nil) out.old }
+    ensures { out.new ≡ holed_laid span hole px y x0 out.old }
 {
-    let px = px_of(leaf.color);
-    let (before, after) = pieces(leaf, y);
-    lay_columns(px, before, x0, out);
-    lay_piece(px, after, x0, out);
+    if has_row(hole, y) {
+        lay_round(px, span, hole, x0, out);
+    } else {
+        lay_columns(px, span, x0, out);
+    }
 }

@@ -8,9 +8,9 @@ ghost use Rattle.rd_list.specs.KeptView.{kept_entries};
 ghost use Rattle.rd_list.specs.Views.{levels, deeper};
 ghost use Rattle.rd_paint.specs.Internal.Runs.{laid_along, laid_along_group};
 
-use crate::runs::{fill, has_row, lay_leaf, lay_row};
-use rd_geom::Px;
-use rd_item::{Item, Leaf};
+use crate::runs::{columns, fill, has_row, lay_row, lay_row_of};
+use rd_geom::{Px, px_of};
+use rd_item::Item;
 use rd_list::{Entry, Kept};
 use std::sync::ledger::Ledger;
 
@@ -72,29 +72,21 @@ fn lay_group<A: Ledger>(
     lay_row(out, row, opacity);
 }
 
-/// The leaf that an item is.
-pub(crate) fn leaf_of<A: Ledger>(item: &Item<A>) -> Leaf
-    ensures { result ≡ item.now.leaf }
-{
-    Leaf {
-        owner: item.owner(),
-        part: item.part(),
-        visible: item.visible(),
-        shape: item.shape(),
-        color: item.color(),
-        hits: item.hits(),
-    }
-}
-
 /// Lays an item over the pixels of row `y` from column `x0` on.
 pub(crate) fn lay_item<A: Ledger>(item: &Item<A>, y: i32, x0: i32, out: &mut [Px])
     requires from { pos 0 ≤ℤ x0 }
     requires within { (x0 +ℤ pos (length out.old)) ≤ℤ pos 4096 }
     ensures { out.new ≡ laid_along y x0 (list.leaf item.now.leaf list.nil) out.old }
 {
-    if !has_row(item.visible(), y) {
-        return;
+    let seen = item.visible();
+    if has_row(seen, y) {
+        lay_row_of(
+            px_of(item.color()),
+            columns(seen),
+            item.shape().inner,
+            y,
+            x0,
+            out,
+        );
     }
-    let leaf = leaf_of(item);
-    lay_leaf(&leaf, y, x0, out);
 }

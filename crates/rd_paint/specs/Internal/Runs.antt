@@ -1,7 +1,8 @@
 -- Lists laid over a run of pixels.
-use Rattle.std.specs.Prelude.{ℕ, suc, ℤ, pos, ◌+ℤ◌, if◌then◌else◌, List, [], ◌∷◌, get_or}
+use Rattle.std.specs.Prelude.{ℕ, suc, ℤ, pos, ◌+ℤ◌, ◌&&◌, not, if◌then◌else◌, List, [], ◌∷◌, get_or}
 use Rattle.rd_geom.specs.Colors.{Premultiplied, laid_over, scaled, clear}
 use Rattle.rd_geom.specs.Areas.{in_span}
+use Rattle.rd_geom.specs.Plane.{Rectangle, is_among, holds_pixel}
 use Rattle.rd_geom.specs.declared.span.Span.{Span}
 use Rattle.rd_item.specs.declared.leaf.Leaf.{Leaf}
 use Rattle.rd_list.specs.Wrappers.{Wrapper}
@@ -37,3 +38,13 @@ tinted q ps = each_at (λ k p. laid_over q p) ps
 -- one pixel laid over those of the pixels from column x on that are in a span
 abbrev pub piece_laid : Span → Premultiplied → ℤ → List Premultiplied → List Premultiplied
 piece_laid s q x ps = each_at (λ k p. if in_span s (x +ℤ pos k) then laid_over q p else p) ps
+
+-- one pixel laid over those of the pixels from column x on that are in a span and not in the columns of a hole
+abbrev pub round_laid : Span → Rectangle → Premultiplied → ℤ → List Premultiplied → List Premultiplied
+round_laid s h q x ps = each_at (λ k p.
+    if in_span s (x +ℤ pos k) && not (is_among h.x h.w (x +ℤ pos k)) then laid_over q p else p) ps
+
+-- one pixel laid over those of the pixels of row y from column x on that are in a span and not in a hole
+abbrev pub holed_laid : Span → Rectangle → Premultiplied → ℤ → ℤ → List Premultiplied → List Premultiplied
+holed_laid s h q y x ps = each_at (λ k p.
+    if in_span s (x +ℤ pos k) && not (holds_pixel h (x +ℤ pos k) y) then laid_over q p else p) ps
