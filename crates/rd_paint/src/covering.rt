@@ -61,7 +61,8 @@ fn item_hides<A: Ledger>(item: &Item<A>, y: i32, x0: i32, count: usize) -> bool
     if item.visible().w() < count as i32 {
         return false;
     }
-    item.color().a == 255 && fills(item, y, x0, count)
+    let color = item.color();
+    color.a == 255 && fills(item, y, x0, count)
 }
 
 /// Is the entry an opaque leaf that covers so many pixels of row `y` from column `x0` on?

@@ -1,10 +1,10 @@
 //! Runs of pixels of one row.
 
 ghost use Rattle.std.specs.Prelude.{◌≡◌, ℕ, ℤ, pos, ◌+◌, ◌*◌, ◌≤◌, ◌<◌, ◌+ℤ◌, ◌≤ℤ◌, ◌&&◌, ◌||◌, IsTrue, false, get_or, nat_le, nat_lt, int_le, int_lt, List, length, replicate};
-ghost use Rattle.rd_geom.specs.Colors.{Premultiplied, clear};
+ghost use Rattle.rd_geom.specs.Colors.{Premultiplied, clear, laid_over};
 ghost use Rattle.rd_geom.specs.Plane.{is_among, right};
 ghost use Rattle.rd_geom.specs.Areas.{in_span};
-ghost use Rattle.rd_paint.specs.Internal.Runs.{row_laid, tinted, piece_laid, round_laid, holed_laid};
+ghost use Rattle.rd_paint.specs.Internal.Runs.{IsTurned, row_laid, tinted, piece_laid, round_laid, holed_laid};
 
 use rd_geom::{Px, Rect, Span, over, px_of, scale};
 
@@ -35,34 +35,57 @@ fn four_same(out: &[Px], at: usize, px: Px) -> bool
     same(out[at], px) & same(out[at + 1], px) & same(out[at + 2], px) & same(out[at + 3], px)
 }
 
-/// Up to where, by fours, the pixels from `from` on are the same.
-fn fours_until(out: &[Px], from: usize) -> usize
-    requires { from < length out.now }
-    ensures more { from < result }
-    ensures within { result ≤ length out.now }
-    ensures same { (k : ℕ) → from ≤ k → k < result → get_or out.now k clear ≡ get_or out.now from clear }
+/// Are the eight pixels from place `at` on all the same as this one?
+fn eight_same(out: &[Px], at: usize, px: Px) -> bool
+    requires { at + 8 ≤ length out.now }
+    ensures { IsTrue result → (k : ℕ) → at ≤ k → k < at + 8 → get_or out.now k clear ≡ px }
 {
-    let px = out[from];
-    let mut end = from + 1;
-    while out.len() - end >= 4 && four_same(out, end, px) {
-        end += 4;
+    four_same(out, at, px) & four_same(out, at + 4, px)
+}
+
+/// Makes pixels `laid`, by eights, as long as they are `was`: from place `from` up to which?
+fn turn_eights(out: &mut [Px], from: usize, was: Px, laid: Px) -> usize
+    requires { from ≤ length out.old }
+    ensures from { from ≤ result }
+    ensures within { result ≤ length out.old }
+    ensures turned { IsTurned was laid from result out.old out.new }
+{
+    let mut end = from;
+    while out.len() - end >= 8 && eight_same(out, end, was) {
+        fill(&mut out[end..end + 8], laid);
+        end += 8;
     }
     end
 }
 
-/// Up to where the pixels from `from` on are the same.
-fn same_until(out: &[Px], from: usize) -> usize
-    requires { from < length out.now }
-    ensures more { from < result }
-    ensures within { result ≤ length out.now }
-    ensures same { (k : ℕ) → from ≤ k → k < result → get_or out.now k clear ≡ get_or out.now from clear }
+/// The same, one pixel after another.
+fn turn_ones(out: &mut [Px], from: usize, was: Px, laid: Px) -> usize
+    requires { from ≤ length out.old }
+    ensures from { from ≤ result }
+    ensures within { result ≤ length out.old }
+    ensures turned { IsTurned was laid from result out.old out.new }
 {
-    let px = out[from];
-    let mut end = fours_until(out, from);
-    while end < out.len() && same(out[end], px) {
+    let mut end = from;
+    while end < out.len() && same(out[end], was) {
+        out[end] = laid;
         end += 1;
     }
     end
+}
+
+/// Lays one pixel over the pixel at place `from` and over those behind it that are the same; says up to where.
+fn tint_run(out: &mut [Px], from: usize, px: Px) -> usize
+    requires { from < length out.old }
+    ensures more { from < result }
+    ensures within { result ≤ length out.old }
+    ensures turned { IsTurned (get_or out.old from clear) (laid_over px (get_or out.old from clear)) from result
+        out.old out.new }
+{
+    let was = out[from];
+    let laid = over(px, was);
+    out[from] = laid;
+    let end = turn_eights(out, from + 1, was, laid);
+    turn_ones(out, end, was, laid)
 }
 
 /// Lays one pixel over each of the pixels.
@@ -72,10 +95,7 @@ fn tint(out: &mut [Px], px: Px)
 {
     let mut from = 0;
     while from < out.len() {
-        let end = same_until(out, from);
-        let laid = over(px, out[from]);
-        fill(&mut out[from..end], laid);
-        from = end;
+        from = tint_run(out, from, px);
     }
 }
 

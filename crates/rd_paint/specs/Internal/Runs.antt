@@ -1,5 +1,5 @@
 -- Lists laid over a run of pixels.
-use Rattle.std.specs.Prelude.{ℕ, suc, ℤ, pos, ◌+ℤ◌, ◌&&◌, not, if◌then◌else◌, List, [], ◌∷◌, get_or}
+use Rattle.std.specs.Prelude.{◌≡◌, ◌<◌, ◌≤◌, length, ℕ, suc, ℤ, pos, ◌+ℤ◌, ◌&&◌, not, if◌then◌else◌, List, [], ◌∷◌, get_or}
 use Rattle.rd_geom.specs.Colors.{Premultiplied, laid_over, scaled, clear}
 use Rattle.rd_geom.specs.Areas.{in_span}
 use Rattle.rd_geom.specs.Plane.{Rectangle, is_among, holds_pixel}
@@ -48,3 +48,11 @@ round_laid s h q x ps = each_at (λ k p.
 abbrev pub holed_laid : Span → Rectangle → Premultiplied → ℤ → ℤ → List Premultiplied → List Premultiplied
 holed_laid s h q y x ps = each_at (λ k p.
     if in_span s (x +ℤ pos k) && not (holds_pixel h (x +ℤ pos k) y) then laid_over q p else p) ps
+
+-- the pixels from place i up to place j were all p and became q, and no other pixel changed
+pub record IsTurned (p q : Premultiplied) (i j : ℕ) (old new : List Premultiplied) : Type 0 where
+  pub count : length new ≡ length old
+  pub were : (k : ℕ) → i ≤ k → k < j → get_or old k clear ≡ p
+  pub are : (k : ℕ) → i ≤ k → k < j → get_or new k clear ≡ q
+  pub before : (k : ℕ) → k < i → get_or new k clear ≡ get_or old k clear
+  pub after : (k : ℕ) → j ≤ k → get_or new k clear ≡ get_or old k clear

@@ -1,7 +1,6 @@
 use Rattle.std.proofs.Common.{◌∙◌, ap, FitsSigned, w32, rules, List}
 use Rattle.std.proofs.lemmas.Int.{to_z-of_z}
 use Rattle.rd_geom.specs.Colors.{Premultiplied}
-use Rattle.rd_geom.specs.Plane.{right}
 use Rattle.rd_paint.specs.Internal.Runs.{piece_laid}
 use Rattle.rd_paint.proofs.Pieces.{round_pieces, hole_order}
 use Rattle.rd_paint.proofs.runs.lay_round.Goals as goal
