@@ -119,7 +119,7 @@ fn paint_rows<A: Ledger>(
 }
 
 /// Of so many rows no half gets picks of its own: to look past an entry is cheaper than to write picks.
-const FEW: usize = 4;
+const FEW: usize = 8;
 
 /// Paints the rows `y0` up to `y1`: each half of them with its own picks, as long as there is room to write these.
 #[cycle(halving)]
