@@ -11,6 +11,7 @@ use rd_item::Item;
 use rd_keys::BoxKey;
 use std::alloc::{AllocError, Global};
 use std::marker::Model;
+use std::mem::replace;
 use std::sync::ledger::Ledger;
 
 /// A new list, from bottom to top, that is put together of entries and of whole lists, which are moved as they are.
@@ -78,7 +79,40 @@ impl<A: Ledger> Pieces<A> {
     pub fn push_item(&mut self, item: Item<A>) -> Result<(), AllocError>
         ensures { OnOk result (laid_out self.new ≡ laid_out self.old ▷ one_leaf item) }
     {
+        self.make_room()?;
         self.pieces.push(Piece::Entry(NewEntry::Leaf(item)))?;
+        Ok(())
+    }
+
+    /// Makes room for a piece, where there is none.
+    #[inline(always)]
+    fn make_room(&mut self) -> Result<(), AllocError>
+        ensures { OnOk result (laid_out self.new ≡ laid_out self.old) }
+    {
+        if self.pieces.len() < self.pieces.capacity() {
+            return Ok(());
+        }
+        self.widen()
+    }
+
+    /// Makes room on top: a long list becomes the first piece of one with room for twice as many, and no piece is moved.
+    fn widen(&mut self) -> Result<(), AllocError>
+        ensures { OnOk result (laid_out self.new ≡ laid_out self.old) }
+    {
+        let len = self.pieces.len();
+        if self.is_empty() {
+            self.pieces.reserve(1)?;
+            return Ok(());
+        }
+        if len < 16 {
+            self.pieces.reserve(1)?;
+            return Ok(());
+        }
+        let wider = Pieces {
+            pieces: Vec::with_capacity(*self.pieces.allocator(), len.saturating_add(len))?,
+        };
+        let full = replace(self, wider);
+        self.pieces.push(Piece::List(full))?;
         Ok(())
     }
 
@@ -111,6 +145,7 @@ impl<A: Ledger> Pieces<A> {
             return Ok(());
         }
         if from.pieces.len() <= 4 {
+            self.make_room()?;
             let Pieces { mut pieces } = from;
             self.pieces.append(&mut pieces)?;
             return Ok(());
@@ -120,8 +155,15 @@ impl<A: Ledger> Pieces<A> {
     }
 
     /// Lays the entries out on top of a list, each moved once.
-    #[cycle(lay)]
     pub fn lay_out(self, out: &mut NewList<A>) -> Result<(), AllocError>
+        ensures { OnOk result (out.new ≡ out.old ▷ laid_out self) }
+    {
+        out.entries.reserve(entries_in(&self))?;
+        self.lay(out)
+    }
+
+    #[cycle(lay)]
+    fn lay(self, out: &mut NewList<A>) -> Result<(), AllocError>
         ensures { OnOk result (out.new ≡ out.old ▷ laid_out self) }
     {
         let Pieces { pieces } = self;
@@ -141,6 +183,24 @@ fn lay_piece<A: Ledger>(piece: Piece<A>, out: &mut NewList<A>) -> Result<(), All
             out.entries.push(entry)?;
             Ok(())
         }
-        Piece::List(inner) => inner.lay_out(out),
+        Piece::List(inner) => inner.lay(out),
+    }
+}
+
+/// How many entries there are, in whole lists and outside.
+#[cycle(count)]
+fn entries_in<A: Ledger>(list: &Pieces<A>) -> usize {
+    let mut count: usize = 0;
+    for piece in &list.pieces {
+        count = count.saturating_add(entries_of(piece));
+    }
+    count
+}
+
+#[cycle(count)]
+fn entries_of<A: Ledger>(piece: &Piece<A>) -> usize {
+    match piece {
+        Piece::Entry(_) => 1,
+        Piece::List(inner) => entries_in(inner),
     }
 }

@@ -9,13 +9,13 @@ pub lay_piece-returns-in_ok-push-in-Entry : goal.lay_piece-returns-in_ok-push-in
 lay_piece-returns-in_ok-push-in-Entry g t c = rw (c.in_ok-push-in-Entry.ensures.items, c.in-Entry.is, ← c.out.view_is, laid-entry c.in-Entry.entry) (new_entries-append _ _)
 
 pub lay_piece-returns-in-List : goal.lay_piece-returns-in-List
-lay_piece-returns-in-List g t c = rw (c.in-List.is, join-nil (laid_out c.in-List.inner)) c.lay_out.ensures
+lay_piece-returns-in-List g t c = rw (c.in-List.is, join-nil (laid_out c.in-List.inner)) c.lay.ensures
 
-pub Pieces::lay_out-loop-piece-preserved : goal.Pieces::lay_out-loop-piece-preserved
-Pieces::lay_out-loop-piece-preserved g t c =
+pub Pieces::lay-loop-piece-preserved : goal.Pieces::lay-loop-piece-preserved
+Pieces::lay-loop-piece-preserved g t c =
     lay_more (into_iter_items c.loop-piece.piece-iterator) (into_iter_items c.next.new.self) c.in-Some.piece c.loop-piece.out c.args.out.now c.lay_piece.new.out c.args.self
     c.in-Some.ensures.steps.0 c.in_ok-lay_piece.ensures c.loop-piece.invariant
 
-pub Pieces::lay_out-returns : goal.Pieces::lay_out-returns
-Pieces::lay_out-returns g t c = none_left (into_iter_items c.loop-piece.piece-iterator) c.loop-piece.out c.args.out.now c.args.self
+pub Pieces::lay-returns : goal.Pieces::lay-returns
+Pieces::lay-returns g t c = none_left (into_iter_items c.loop-piece.piece-iterator) c.loop-piece.out c.args.out.now c.args.self
     (sym c.loop-piece.piece-iterator.rest.ok.0 ∙ c.in-None.ensures.steps.0) c.loop-piece.invariant

@@ -6,5 +6,5 @@ use Rattle.rd_list.specs.Internal.Piled.{nested_size}
 use Rattle.rd_list.specs.Internal.Piled.{piled}
 use Rattle.rd_list.proofs.pieces.+lay.Given as goal
 
-abbrev pub invariant-Pieces::lay_out-loop-piece : goal.invariant-Pieces::lay_out-loop-piece
-invariant-Pieces::lay_out-loop-piece g l = (nested_size (piled (into_iter_items l.piece-iterator)) ≤ nested_size l.fn.self) × (l.out ▷ laid_out (piled (into_iter_items l.piece-iterator)) ≡ l.fn.out ▷ laid_out l.fn.self)
+abbrev pub invariant-Pieces::lay-loop-piece : goal.invariant-Pieces::lay-loop-piece
+invariant-Pieces::lay-loop-piece g l = (nested_size (piled (into_iter_items l.piece-iterator)) ≤ nested_size l.fn.self) × (l.out ▷ laid_out (piled (into_iter_items l.piece-iterator)) ≡ l.fn.out ▷ laid_out l.fn.self)
