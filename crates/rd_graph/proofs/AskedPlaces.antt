@@ -1,7 +1,7 @@
 -- The places of those names of a chain that have their marks.
 use Rattle.std.proofs.Common.{◌≡◌, refl, ap, ◌∙◌, sym, subst, ℕ, zero, suc, ◌+◌, ◌<◌, ◌≤◌, Bool, true, false, cond, List, [], ◌∷◌, length, take, get_or, arith, inl, inr, Option, Some}
 use Rattle.std.specs.Prelude.{slice_set, Contains}
-use Rattle.std.specs.declared.vec.Vec.{Vec}
+use Rattle.smallvec.specs.SmallVec.{SmallVec}
 use Rattle.std.proofs.lemmas.Bool.{cases_lt}
 use Rattle.std.proofs.lemmas.List.{take_more, length-set, length-take-le, get_or-set_same, get_or-set_other}
 use Rattle.rd_keys.specs.declared.entry.EntryKey.{EntryKey}
@@ -45,7 +45,7 @@ mark_next names i d mark start marks l e w kept was =
     )
 
 -- the loop over lists
-lists_more : {A : Type 0} (ls : List (ℕ × Vec EntryKey A)) (i : ℕ) (d : ℕ × Vec EntryKey A) (marks next : List Bool) → i < length ls
+lists_more : (ls : List (ℕ × SmallVec EntryKey)) (i : ℕ) (d : ℕ × SmallVec EntryKey) (marks next : List Bool) → i < length ls
     → ((l : ℕ × List EntryKey) → Has (take i (lists_seen ls)) l → 1 < length l.1 → (k : EntryKey) → Contains l.1 k → HasMark marks k) → KeepsMarks marks next
     → (1 < length (get_or ls i d).1.items → (k : EntryKey) → Contains (get_or ls i d).1.items k → HasMark next k)
     → (l : ℕ × List EntryKey) → Has (take (suc i) (lists_seen ls)) l → 1 < length l.1 → (k : EntryKey) → Contains l.1 k → HasMark next k
@@ -58,13 +58,13 @@ lists_more (x ∷ ls) (suc i) d marks next l was kept new m (inr h) = lists_more
 one_more : (i : ℕ) → i + 1 ≡ suc i
 one_more i = omega arith
 
-pub lists_next : {A : Type 0} (ls : List (ℕ × Vec EntryKey A)) (i : ℕ) (d : ℕ × Vec EntryKey A) (marks next : List Bool) → i < length ls
+pub lists_next : (ls : List (ℕ × SmallVec EntryKey)) (i : ℕ) (d : ℕ × SmallVec EntryKey) (marks next : List Bool) → i < length ls
     → ((l : ℕ × List EntryKey) → Has (take i (lists_seen ls)) l → 1 < length l.1 → (k : EntryKey) → Contains l.1 k → HasMark marks k) → KeepsMarks marks next
     → (1 < length (get_or ls i d).1.items → (k : EntryKey) → Contains (get_or ls i d).1.items k → HasMark next k)
     → (l : ℕ × List EntryKey) → Has (take (i + 1) (lists_seen ls)) l → 1 < length l.1 → (k : EntryKey) → Contains l.1 k → HasMark next k
 lists_next ls i d marks next l was kept new m h = lists_more ls i d marks next l was kept new m (subst (λ (n : ℕ). Has (take n (lists_seen ls)) m) (one_more i) h)
 
-pub take_lists : {A : Type 0} (ls : List (ℕ × Vec EntryKey A)) (i : ℕ) → length ls ≤ i → take i (lists_seen ls) ≡ lists_seen ls
+pub take_lists : (ls : List (ℕ × SmallVec EntryKey)) (i : ℕ) → length ls ≤ i → take i (lists_seen ls) ≡ lists_seen ls
 take_lists [] zero l = refl
 take_lists [] (suc i) l = refl
 take_lists (x ∷ ls) zero l = absurd (omega arith)

@@ -3,6 +3,7 @@ use Rattle.std.proofs.Common.{◌≡◌, refl, ap, ◌∙◌, sym, subst, List, 
 use Rattle.std.proofs.lemmas.List.{take_more, append-nil, map-append}
 use Rattle.std.specs.Prelude.{map, Option, Some, option_map, vec_len}
 use Rattle.std.specs.declared.vec.Vec.{Vec}
+use Rattle.smallvec.specs.SmallVec.{SmallVec}
 use Rattle.rd_keys.specs.declared.entry.EntryKey.{EntryKey}
 use Rattle.rd_graph.specs.Graphs.{Graph}
 use Rattle.rd_graph.specs.Gathered.{gathered, arranged, IsLine}
@@ -37,19 +38,19 @@ pub seen-length : (ns : List Node) → length (seen ns) ≡ length ns
 seen-length [] = refl
 seen-length (n ∷ ns) = ap suc (seen-length ns)
 
-module _ {A : Type 0} (start now : List Node) (all yielded rest more : List (ℕ × Vec EntryKey A)) (x : ℕ × Vec EntryKey A)
+module _ (start now : List Node) (all yielded rest more : List (ℕ × SmallVec EntryKey)) (x : ℕ × SmallVec EntryKey)
     (lists : all ≡ yielded ++ rest) (is : rest ≡ x ∷ more) (put : seen now ≡ with_lists (lists_seen yielded) (seen start)) where
   pub list_within : AreWithin (lists_seen all) (seen start) → x.0 < length now
   list_within within =
       let there : Has all x = rw (lists, is) (has_right yielded (x ∷ more) x (inl refl)) in
-      let seen_there : Has (lists_seen all) (x.0, x.1.items) = has_map (λ (l : ℕ × Vec EntryKey A). (l.0, l.1.items)) all x there in
+      let seen_there : Has (lists_seen all) (x.0, x.1.items) = has_map (λ (l : ℕ × SmallVec EntryKey). (l.0, l.1.items)) all x there in
       let w : x.0 < length (seen start) = within (x.0, x.1.items) (contains_from (lists_seen all) (x.0, x.1.items) seen_there) in
       let e = with_lists-length (lists_seen yielded) (seen start) in
       let f : length (seen now) ≡ length (with_lists (lists_seen yielded) (seen start)) = ap length put in
       let g = seen-length now in
       omega (arith, w, e, f, g)
 
-  lists_more : (ys : List (ℕ × Vec EntryKey A)) → lists_seen (ys ++ x ∷ []) ≡ lists_seen ys ++ (x.0, x.1.items) ∷ []
+  lists_more : (ys : List (ℕ × SmallVec EntryKey)) → lists_seen (ys ++ x ∷ []) ≡ lists_seen ys ++ (x.0, x.1.items) ∷ []
   lists_more [] = refl
   lists_more (y ∷ ys) = ap (λ ls. (y.0, y.1.items) ∷ ls) (lists_more ys)
 

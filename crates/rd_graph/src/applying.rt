@@ -6,13 +6,13 @@ ghost use Rattle.rd_graph.specs.Internal.Patching.{lists_seen, HasRoom};
 ghost use Rattle.rd_graph.specs.Internal.Seen.{seen};
 ghost use Rattle.rd_graph.specs.Internal.Taking.{KeepsOthers};
 
+use crate::before::{Before, nothing};
 use crate::graph::Node;
-use rd_keys::EntryKey;
 use std::alloc::Global;
 use std::mem;
 
 /// The node at a place has these predecessors.
-fn put_list(nodes: &mut Vec<Node>, place: usize, before: Vec<EntryKey>)
+fn put_list(nodes: &mut Vec<Node>, place: usize, before: Before)
     requires { place < vec_len nodes.old }
     ensures { seen nodes.new.items ≡ with_list place before.items (seen nodes.old.items) }
 {
@@ -21,7 +21,7 @@ fn put_list(nodes: &mut Vec<Node>, place: usize, before: Vec<EntryKey>)
 }
 
 /// The nodes at these places have new lists of predecessors.
-pub(crate) fn put_lists(nodes: &mut Vec<Node>, lists: Vec<(usize, Vec<EntryKey>)>)
+pub(crate) fn put_lists(nodes: &mut Vec<Node>, lists: Vec<(usize, Before)>)
     requires { AreWithin (lists_seen lists.items) (seen nodes.old.items) }
     ensures { seen nodes.new.items ≡ with_lists (lists_seen lists.items) (seen nodes.old.items) }
 {
@@ -36,11 +36,9 @@ fn take_at(alloc: Global, nodes: &mut Vec<Node>, i: usize) -> Node
     ensures taken { result ≡ slice_index_or nodes.old.items i result }
     ensures kept { KeepsOthers i nodes.old.items nodes.new.items }
 {
-    let hole = Node {
-        key: nodes[i].key,
-        before: Vec::new(alloc),
-    };
-    mem::replace(&mut nodes[i], hole)
+    let key = nodes[i].key;
+    let before = mem::replace(&mut nodes[i].before, nothing(alloc));
+    Node { key, before }
 }
 
 /// Takes an old node or a made one, the made ones counted on from the old ones.

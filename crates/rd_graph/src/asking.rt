@@ -8,6 +8,7 @@ ghost use Rattle.rd_graph.specs.Internal.Tables.{at};
 ghost use Rattle.rd_graph.specs.Internal.Trimming.{AreAsked, HasMark, KeepsMarks};
 ghost use Rattle.rd_graph.specs.Internal.Words.{IsPut};
 
+use crate::before::{Before, Name};
 use crate::changing::mark_of;
 use crate::tables::put;
 use indexmap::IndexMap;
@@ -15,19 +16,19 @@ use rd_keys::EntryKey;
 use std::alloc::{AllocError, Global};
 
 /// Sets the marks of these names.
-fn mark_names(marks: &mut Vec<bool>, names: &[EntryKey])
+fn mark_names(marks: &mut Vec<bool>, names: &[Name])
     requires { length marks.old.items ≡ 4096 }
     ensures whole { length marks.new.items ≡ 4096 }
     ensures kept { KeepsMarks marks.old.items marks.new.items }
     ensures marked { (k : EntryKey) → Contains names.now k → HasMark marks.new.items k }
 {
     for name in names {
-        marks[mark_of(name)] = true;
+        marks[mark_of(&name.key)] = true;
     }
 }
 
 /// Sets the marks of the names of a list that has more than one.
-fn mark_list(marks: &mut Vec<bool>, names: &[EntryKey])
+fn mark_list(marks: &mut Vec<bool>, names: &[Name])
     requires { length marks.old.items ≡ 4096 }
     ensures whole { length marks.new.items ≡ 4096 }
     ensures kept { KeepsMarks marks.old.items marks.new.items }
@@ -40,10 +41,7 @@ fn mark_list(marks: &mut Vec<bool>, names: &[EntryKey])
 }
 
 /// The marks of the names of those lists that have more than one.
-pub(crate) fn marks_asked(
-    alloc: Global,
-    lists: &[(usize, Vec<EntryKey>)],
-) -> Result<Vec<bool>, AllocError>
+pub(crate) fn marks_asked(alloc: Global, lists: &[(usize, Before)]) -> Result<Vec<bool>, AllocError>
     ensures { IfOk result (λ v. AreAsked (lists_seen lists.now) v.items) }
 {
     let mut marks = vec![in alloc; false; 4096]?;

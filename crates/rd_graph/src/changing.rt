@@ -13,6 +13,7 @@ ghost use Rattle.rd_graph.specs.Internal.Tables.{fits_list, has_it};
 ghost use Rattle.rd_graph.specs.Internal.Words.{NotesIf, resolved_once};
 
 use crate::arranging::met_after;
+use crate::before::{Before, Name, copied, nothing, push};
 use crate::graph::Node;
 use crate::stitch::resolve;
 use crate::tables::{has, put};
@@ -30,8 +31,8 @@ struct Gone {
 /// What one pass over the nodes gives: notes of those that go, and new lists of late ones.
 #[derive(Drop)]
 struct Passed {
-    notes: IndexMap<EntryKey, Vec<EntryKey>>,
-    lists: Vec<(usize, Vec<EntryKey>)>,
+    notes: IndexMap<EntryKey, Before>,
+    lists: Vec<(usize, Before)>,
 }
 
 /// Where a name has its mark.
@@ -99,12 +100,12 @@ fn goes(gone: &Gone, key: &EntryKey) -> bool
 }
 
 /// Does one of the names go?
-fn some_goes(gone: &Gone, keys: &[EntryKey]) -> bool
+fn some_goes(gone: &Gone, keys: &[Name]) -> bool
     requires { AreMarked gone.now.marks.items gone.now.names }
     ensures { result ≡ some_gone (has_it gone.now.names) keys.now }
 {
     for key in keys {
-        if goes(gone, key) {
+        if goes(gone, &key.key) {
             return true;
         }
     }
@@ -115,7 +116,7 @@ fn some_goes(gone: &Gone, keys: &[EntryKey]) -> bool
 fn note(
     alloc: Global,
     gone: &Gone,
-    notes: &mut IndexMap<EntryKey, Vec<EntryKey>>,
+    notes: &mut IndexMap<EntryKey, Before>,
     node: &Node,
 ) -> Result<(), AllocError>
     ensures { OnOk result (NotesIf true node.now.key
@@ -134,11 +135,11 @@ fn is_same(key: &EntryKey, name: &EntryKey) -> bool
 }
 
 /// Is the name one of these?
-pub(crate) fn is_among(keys: &[EntryKey], name: EntryKey) -> bool
+pub(crate) fn is_among(keys: &[Name], name: EntryKey) -> bool
     ensures { result ≡ is_in same_entry keys.now name }
 {
     for key in keys {
-        if is_same(key, &name) {
+        if is_same(&key.key, &name) {
             return true;
         }
     }
@@ -149,8 +150,8 @@ pub(crate) fn is_among(keys: &[EntryKey], name: EntryKey) -> bool
 fn relist(
     alloc: Global,
     gone: &Gone,
-    notes: &IndexMap<EntryKey, Vec<EntryKey>>,
-    lists: &mut Vec<(usize, Vec<EntryKey>)>,
+    notes: &IndexMap<EntryKey, Before>,
+    lists: &mut Vec<(usize, Before)>,
     place: usize,
     node: &Node,
 ) -> Result<(), AllocError>
@@ -166,8 +167,8 @@ fn relist(
 fn pass(
     alloc: Global,
     gone: &Gone,
-    notes: &mut IndexMap<EntryKey, Vec<EntryKey>>,
-    lists: &mut Vec<(usize, Vec<EntryKey>)>,
+    notes: &mut IndexMap<EntryKey, Before>,
+    lists: &mut Vec<(usize, Before)>,
     place: usize,
     node: &Node,
 ) -> Result<(), AllocError>
@@ -190,18 +191,36 @@ fn pass(
     Ok(())
 }
 
+/// Has a name the mark of one that goes?
+#[inline(always)]
+fn is_marked(marks: &[bool], name: &Name) -> bool
+    requires { length marks.now ≡ 4096 }
+    ensures { result ≡ has_mark marks.now name.now }
+{
+    marks[mark_of(&name.key)]
+}
+
+/// Has one of these names the mark of one that goes?
+#[inline(always)]
+fn any_marked(marks: &[bool], names: &[Name]) -> bool
+    requires { length marks.now ≡ 4096 }
+    ensures { result ≡ some_gone (has_mark marks.now) names.now }
+{
+    for name in names {
+        if is_marked(marks, name) {
+            return true;
+        }
+    }
+    false
+}
+
 /// Has a predecessor of a node the mark of a name that goes?
 #[inline(never)]
 fn some_marked(marks: &[bool], node: &Node) -> bool
     requires { length marks.now ≡ 4096 }
     ensures { result ≡ some_gone (has_mark marks.now) node.now.before.items }
 {
-    for key in &node.before {
-        if marks[mark_of(key)] {
-            return true;
-        }
-    }
-    false
+    any_marked(marks, &node.before)
 }
 
 /// Has a node one predecessor, without the mark of a name that goes?
@@ -210,7 +229,8 @@ fn follows_one(marks: &[bool], node: &Node) -> bool
     requires { length marks.now ≡ 4096 }
     ensures { result ≡ true → some_gone (has_mark marks.now) node.now.before.items ≡ false }
 {
-    node.before.len() == 1 && !marks[mark_of(&node.before[0])]
+    let before = node.before.as_slice();
+    before.len() == 1 && !is_marked(marks, &before[0])
 }
 
 /// Has a node two predecessors, both without the mark of a name that goes?
@@ -219,7 +239,8 @@ fn follows_two(marks: &[bool], node: &Node) -> bool
     requires { length marks.now ≡ 4096 }
     ensures { result ≡ true → some_gone (has_mark marks.now) node.now.before.items ≡ false }
 {
-    node.before.len() == 2 && !marks[mark_of(&node.before[0])] && !marks[mark_of(&node.before[1])]
+    let before = node.before.as_slice();
+    before.len() == 2 && !is_marked(marks, &before[0]) && !is_marked(marks, &before[1])
 }
 
 /// The place past a run of nodes that follow one node each, and past a run after it of nodes that follow two. None of
@@ -302,17 +323,6 @@ fn pass_all(
     Ok(Passed { notes, lists })
 }
 
-/// A list once more.
-pub(crate) fn copied(alloc: Global, keys: &[EntryKey]) -> Result<Vec<EntryKey>, AllocError>
-    ensures { IfOk result (λ v. v.items ≡ keys.now) }
-{
-    let mut all = Vec::with_capacity(alloc, keys.len())?;
-    for key in keys {
-        all.push(*key)?;
-    }
-    Ok(all)
-}
-
 /// The name right before a place of a chain.
 fn name_before(chain: &[EntryKey], i: usize) -> Option<EntryKey>
     requires { i < length chain.now }
@@ -325,7 +335,7 @@ fn name_before(chain: &[EntryKey], i: usize) -> Option<EntryKey>
 }
 
 /// Does a list have the edge from a name? So it does too where there is none.
-fn has_edge(keys: &[EntryKey], name: Option<EntryKey>) -> bool
+fn has_edge(keys: &[Name], name: Option<EntryKey>) -> bool
     ensures { result ≡ has_all same_entry keys.now (listed name) }
 {
     match name {
@@ -335,7 +345,7 @@ fn has_edge(keys: &[EntryKey], name: Option<EntryKey>) -> bool
 }
 
 /// A list with the edge from a name, which it may have already.
-fn with_edge(keys: Vec<EntryKey>, name: Option<EntryKey>) -> Result<Vec<EntryKey>, AllocError>
+fn with_edge(keys: Before, name: Option<EntryKey>) -> Result<Before, AllocError>
     ensures { IfOk result (λ v. v.items ≡ joined same_entry keys.items (listed name)) }
 {
     let mut keys = keys;
@@ -343,7 +353,7 @@ fn with_edge(keys: Vec<EntryKey>, name: Option<EntryKey>) -> Result<Vec<EntryKey
         return Ok(keys);
     }
     if let Some(name) = name {
-        keys.push(name)?;
+        push(&mut keys, name)?;
     }
     Ok(keys)
 }
@@ -352,15 +362,15 @@ fn with_edge(keys: Vec<EntryKey>, name: Option<EntryKey>) -> Result<Vec<EntryKey
 fn own(
     alloc: Global,
     gone: &Gone,
-    notes: &IndexMap<EntryKey, Vec<EntryKey>>,
+    notes: &IndexMap<EntryKey, Before>,
     node: &Node,
-) -> Result<Vec<EntryKey>, AllocError>
+) -> Result<Before, AllocError>
     requires { AreMarked gone.now.marks.items gone.now.names }
     ensures { IfOk result (λ v. v.items
         ≡ own (has_it gone.now.names) (resolved_once gone.now.names notes.now) (seen_one node.now)) }
 {
     if goes(gone, &node.key) {
-        return Ok(Vec::new(alloc));
+        return Ok(nothing(alloc));
     }
     if some_goes(gone, &node.before) {
         return resolve(alloc, &gone.names, notes, &node.before);
@@ -380,8 +390,8 @@ fn keeps_list(gone: &Gone, node: &Node, name: Option<EntryKey>) -> bool
 fn go_along(
     alloc: Global,
     gone: &Gone,
-    notes: &IndexMap<EntryKey, Vec<EntryKey>>,
-    lists: &mut Vec<(usize, Vec<EntryKey>)>,
+    notes: &IndexMap<EntryKey, Before>,
+    lists: &mut Vec<(usize, Before)>,
     place: usize,
     node: &Node,
     name: Option<EntryKey>,
@@ -409,8 +419,8 @@ fn go_along_at(
     alloc: Global,
     nodes: &[Node],
     gone: &Gone,
-    notes: &IndexMap<EntryKey, Vec<EntryKey>>,
-    lists: &mut Vec<(usize, Vec<EntryKey>)>,
+    notes: &IndexMap<EntryKey, Before>,
+    lists: &mut Vec<(usize, Before)>,
     place: Option<usize>,
     name: Option<EntryKey>,
 ) -> Result<(), AllocError>
@@ -431,10 +441,10 @@ fn go_along_all(
     alloc: Global,
     nodes: &[Node],
     gone: &Gone,
-    notes: &IndexMap<EntryKey, Vec<EntryKey>>,
+    notes: &IndexMap<EntryKey, Before>,
     chain: &[EntryKey],
     found: &[Option<usize>],
-    lists: &mut Vec<(usize, Vec<EntryKey>)>,
+    lists: &mut Vec<(usize, Before)>,
 ) -> Result<(), AllocError>
     requires sound { IsInOrder (seen nodes.now) }
     requires once { Once chain.now }
@@ -458,7 +468,7 @@ pub(crate) fn changed(
     gone: &[usize],
     chain: &[EntryKey],
     found: &[Option<usize>],
-) -> Result<Vec<(usize, Vec<EntryKey>)>, AllocError>
+) -> Result<Vec<(usize, Before)>, AllocError>
     requires sound { IsInOrder (seen nodes.now) }
     requires can { CanBePatched gone.now chain.now found.now (seen nodes.now) }
     ensures { IfOk result (λ v. IsRelisted gone.now chain.now (seen nodes.now) (lists_seen v.items)) }

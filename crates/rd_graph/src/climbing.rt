@@ -5,7 +5,8 @@ ghost use Rattle.rd_graph.specs.Names.{place_of, same_entry};
 ghost use Rattle.rd_graph.specs.Internal.Seen.{seen};
 ghost use Rattle.rd_graph.specs.Internal.Thinning.{AreImplied, AddsOf, AddsBefore, MayAdd};
 
-use crate::changing::{copied, is_among};
+use crate::before::{Before, Name, copied, nothing, push};
+use crate::changing::is_among;
 use crate::graph::Node;
 use crate::places::Places;
 use rd_keys::EntryKey;
@@ -16,34 +17,34 @@ const STEPS: usize = 64;
 
 /// Puts a name at the end of those that are found, if it is in a list, or else of those that are still looked at.
 fn sort_one(
-    list: &[EntryKey],
+    list: &[Name],
     key: EntryKey,
-    left: &mut Vec<EntryKey>,
-    found: &mut Vec<EntryKey>,
+    left: &mut Before,
+    found: &mut Before,
 ) -> Result<(), AllocError>
     ensures left { OnOk result (MayAdd key left.old.items left.new.items) }
     ensures found { OnOk result (MayAdd key found.old.items found.new.items) }
 {
     if is_among(list, key) {
-        found.push(key)?;
+        push(found, key)?;
         return Ok(());
     }
-    left.push(key)?;
+    push(left, key)?;
     Ok(())
 }
 
 /// The same for the predecessors of a node.
 fn sort_out(
-    list: &[EntryKey],
-    before: &[EntryKey],
-    left: &mut Vec<EntryKey>,
-    found: &mut Vec<EntryKey>,
+    list: &[Name],
+    before: &[Name],
+    left: &mut Before,
+    found: &mut Before,
 ) -> Result<(), AllocError>
     ensures left { OnOk result (AddsOf before.now left.old.items left.new.items) }
     ensures found { OnOk result (AddsOf before.now found.old.items found.new.items) }
 {
     for key in before {
-        sort_one(list, *key, left, found)?;
+        sort_one(list, key.key, left, found)?;
     }
     Ok(())
 }
@@ -51,11 +52,11 @@ fn sort_out(
 /// Goes on from the name at a place to the predecessors of its node.
 fn go_on_at(
     nodes: &[Node],
-    list: &[EntryKey],
+    list: &[Name],
     key: EntryKey,
     place: usize,
-    left: &mut Vec<EntryKey>,
-    found: &mut Vec<EntryKey>,
+    left: &mut Before,
+    found: &mut Before,
 ) -> Result<(), AllocError>
     requires within { place < length nodes.now }
     requires named { Some place ≡ place_of same_entry (nodes_of (seen nodes.now)) key }
@@ -71,11 +72,11 @@ fn go_on_at(
 fn go_on(
     nodes: &[Node],
     places: &Places,
-    list: &[EntryKey],
+    list: &[Name],
     lowest: usize,
     key: EntryKey,
-    left: &mut Vec<EntryKey>,
-    found: &mut Vec<EntryKey>,
+    left: &mut Before,
+    found: &mut Before,
 ) -> Result<(), AllocError>
     requires { places.now ≡ nodes_of (seen nodes.now) }
     ensures left { OnOk result (AddsBefore (seen nodes.now) key left.old.items left.new.items) }
@@ -102,10 +103,10 @@ fn lower(places: &Places, lowest: usize, key: EntryKey) -> usize {
 }
 
 /// The lowest place of these names, or the given one. A climb need not go below it.
-fn lowest_of(places: &Places, end: usize, list: &[EntryKey]) -> usize {
+fn lowest_of(places: &Places, end: usize, list: &[Name]) -> usize {
     let mut lowest = end;
     for key in list {
-        lowest = lower(places, lowest, *key);
+        lowest = lower(places, lowest, key.key);
     }
     lowest
 }
@@ -115,23 +116,23 @@ pub(crate) fn implied(
     alloc: Global,
     nodes: &[Node],
     places: &Places,
-    list: &[EntryKey],
-) -> Result<Vec<EntryKey>, AllocError>
+    list: &[Name],
+) -> Result<Before, AllocError>
     requires { places.now ≡ nodes_of (seen nodes.now) }
     ensures { IfOk result (λ v. AreImplied (seen nodes.now) list.now v.items) }
 {
     let lowest = lowest_of(places, nodes.len(), list);
     let mut left = copied(alloc, list)?;
-    let mut found = Vec::new(alloc);
+    let mut found = nothing(alloc);
     for step in 0..STEPS {
         if left.len() <= step {
             return Ok(found);
         }
-        if list.len() <= found.len() + 1 {
+        if list.len().saturating_sub(found.len()) <= 1 {
             return Ok(found);
         }
-        let key = left[step];
-        go_on(nodes, places, list, lowest, key, &mut left, &mut found)?;
+        let name = left[step];
+        go_on(nodes, places, list, lowest, name.key, &mut left, &mut found)?;
     }
     Ok(found)
 }

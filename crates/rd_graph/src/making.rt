@@ -5,21 +5,20 @@ ghost use Rattle.rd_graph.specs.Internal.MadeNodes.{made_at, made_after};
 ghost use Rattle.rd_graph.specs.Internal.Patching.{HasRoom};
 ghost use Rattle.rd_graph.specs.Internal.Seen.{seen};
 
+use crate::before::{Before, nothing, one};
 use crate::graph::Node;
 use rd_keys::EntryKey;
 use std::alloc::{AllocError, Global};
 
 /// What comes right before a place of the chain.
-fn before_at(alloc: Global, chain: &[EntryKey], i: usize) -> Result<Vec<EntryKey>, AllocError>
+fn before_at(alloc: Global, chain: &[EntryKey], i: usize) -> Before
     requires { i < length chain.now }
-    ensures { IfOk result (λ v. v.items ≡ before_place chain.now (Some i)) }
+    ensures { result.items ≡ before_place chain.now (Some i) }
 {
-    let mut before = Vec::new(alloc);
     if i == 0 {
-        return Ok(before);
+        return nothing(alloc);
     }
-    before.push(chain[i - 1])?;
-    Ok(before)
+    one(alloc, chain[i - 1])
 }
 
 /// The node of a name of the chain, if the name was not found.
@@ -37,7 +36,7 @@ fn push_made(
     if found.is_some() {
         return Ok(());
     }
-    let before = before_at(alloc, chain, i)?;
+    let before = before_at(alloc, chain, i);
     made.push(Node { key, before })?;
     Ok(())
 }

@@ -4,6 +4,7 @@ ghost use Rattle.rd_graph.specs.Patches.{CanBePatched, FitsPatch, IsPatched, pat
 
 use crate::applying::{in_line, put_lists};
 use crate::arranging::arrange;
+use crate::before::Before;
 use crate::changing::changed;
 use crate::graph::{Node, OrderGraph};
 use crate::making::{make, room};
@@ -18,7 +19,7 @@ use std::marker::Model;
 #[derive(Drop)]
 pub struct Patch {
     pub(crate) alloc: Global,
-    pub(crate) lists: Vec<(usize, Vec<EntryKey>)>,
+    pub(crate) lists: Vec<(usize, Before)>,
     pub(crate) made: Vec<Node>,
     pub(crate) line: Option<Vec<usize>>,
     pub(crate) room: Vec<Node>,

@@ -5,7 +5,8 @@ ghost use Rattle.rd_graph.specs.Internal.Patching.{lists_seen};
 ghost use Rattle.rd_graph.specs.Internal.Seen.{seen, seen_one};
 ghost use Rattle.rd_graph.specs.Internal.Thinning.{AreImplied, Leaves, MayLeave, IsThinner, ThinsOne, IsThinned};
 
-use crate::changing::{copied, is_among};
+use crate::before::{Before, Name, copied, nothing, push};
+use crate::changing::is_among;
 use crate::climbing::implied;
 use crate::graph::Node;
 use crate::places::Places;
@@ -16,31 +17,27 @@ use std::alloc::{AllocError, Global};
 #[derive(Drop)]
 pub(crate) struct ThinNodes {
     pub(crate) nodes: Vec<Node>,
-    pub(crate) lists: Vec<(usize, Vec<EntryKey>)>,
+    pub(crate) lists: Vec<(usize, Before)>,
 }
 
 /// Puts a name at the end, unless it is one of some names.
-fn leave_one(names: &[EntryKey], left: &mut Vec<EntryKey>, key: EntryKey) -> Result<(), AllocError>
+fn leave_one(names: &[Name], left: &mut Before, key: EntryKey) -> Result<(), AllocError>
     ensures { OnOk result (MayLeave names.now key left.old.items left.new.items) }
 {
     if is_among(names, key) {
         return Ok(());
     }
-    left.push(key)?;
+    push(left, key)?;
     Ok(())
 }
 
 /// A list without some names.
-fn without(
-    alloc: Global,
-    list: &[EntryKey],
-    names: &[EntryKey],
-) -> Result<Vec<EntryKey>, AllocError>
+fn without(alloc: Global, list: &[Name], names: &[Name]) -> Result<Before, AllocError>
     ensures { IfOk result (λ v. Leaves names.now list.now v.items) }
 {
-    let mut left = Vec::with_capacity(alloc, list.len())?;
+    let mut left = nothing(alloc);
     for key in list {
-        leave_one(names, &mut left, *key)?;
+        leave_one(names, &mut left, key.key)?;
     }
     Ok(left)
 }
@@ -50,8 +47,8 @@ fn thinner(
     alloc: Global,
     nodes: &[Node],
     places: &Places,
-    list: &[EntryKey],
-) -> Result<Option<Vec<EntryKey>>, AllocError>
+    list: &[Name],
+) -> Result<Option<Before>, AllocError>
     requires { places.now ≡ nodes_of (seen nodes.now) }
     ensures { IfOk result (λ l. IfSome l (λ v. IsThinner (seen nodes.now) v.items list.now)) }
 {
@@ -72,7 +69,7 @@ fn thin_one(
     nodes: &[Node],
     places: &Places,
     thin: &mut Vec<Node>,
-    lists: &mut Vec<(usize, Vec<EntryKey>)>,
+    lists: &mut Vec<(usize, Before)>,
     place: usize,
     node: &Node,
 ) -> Result<(), AllocError>
@@ -126,9 +123,9 @@ pub(crate) fn thinned(alloc: Global, nodes: &[Node]) -> Result<ThinNodes, AllocE
 
 /// Lists of predecessors, and after them others.
 pub(crate) fn joined(
-    lists: Vec<(usize, Vec<EntryKey>)>,
-    more: Vec<(usize, Vec<EntryKey>)>,
-) -> Result<Vec<(usize, Vec<EntryKey>)>, AllocError>
+    lists: Vec<(usize, Before)>,
+    more: Vec<(usize, Before)>,
+) -> Result<Vec<(usize, Before)>, AllocError>
     ensures { IfOk result (λ v. lists_seen v.items ≡ lists_seen lists.items ++ lists_seen more.items) }
 {
     let mut all = lists;

@@ -7,6 +7,7 @@ ghost use Rattle.rd_graph.specs.Internal.Tables.{at};
 ghost use Rattle.rd_graph.specs.Internal.Trimming.{higher, highest, is_left, trimmed, all_trimmed};
 
 use crate::asking::{marks_asked, places_asked};
+use crate::before::{Before, Name, nothing, push};
 use crate::tables::find;
 use indexmap::IndexMap;
 use rd_keys::EntryKey;
@@ -23,12 +24,12 @@ fn raised(places: &IndexMap<EntryKey, usize>, top: usize, key: EntryKey) -> usiz
 }
 
 /// The highest place in the chain of these names, or 0.
-fn top_of(places: &IndexMap<EntryKey, usize>, keys: &[EntryKey]) -> usize
+fn top_of(places: &IndexMap<EntryKey, usize>, keys: &[Name]) -> usize
     ensures { result ≡ highest (at places.now) 0 keys.now }
 {
     let mut top = 0;
     for key in keys {
-        top = raised(places, top, *key);
+        top = raised(places, top, key.key);
     }
     top
 }
@@ -44,11 +45,11 @@ fn stays(places: &IndexMap<EntryKey, usize>, top: usize, key: EntryKey) -> bool
 }
 
 /// Puts a name at the end, if it is left.
-fn push_if(keys: &mut Vec<EntryKey>, stays: bool, key: EntryKey) -> Result<(), AllocError>
+fn push_if(keys: &mut Before, stays: bool, key: EntryKey) -> Result<(), AllocError>
     ensures { OnOk result (keys.new.items ≡ keys.old.items ++ (if stays then key ∷ [] else [])) }
 {
     if stays {
-        keys.push(key)?;
+        push(keys, key)?;
     }
     Ok(())
 }
@@ -57,15 +58,15 @@ fn push_if(keys: &mut Vec<EntryKey>, stays: bool, key: EntryKey) -> Result<(), A
 fn left_of(
     alloc: Global,
     places: &IndexMap<EntryKey, usize>,
-    keys: &[EntryKey],
-) -> Result<Vec<EntryKey>, AllocError>
+    keys: &[Name],
+) -> Result<Before, AllocError>
     ensures { IfOk result (λ v. v.items ≡ trimmed (at places.now) keys.now) }
 {
     let top = top_of(places, keys);
-    let mut left = Vec::new(alloc);
+    let mut left = nothing(alloc);
     for key in keys {
-        let stays = stays(places, top, *key);
-        push_if(&mut left, stays, *key)?;
+        let stays = stays(places, top, key.key);
+        push_if(&mut left, stays, key.key)?;
     }
     Ok(left)
 }
@@ -74,8 +75,8 @@ fn left_of(
 fn trim(
     alloc: Global,
     places: &IndexMap<EntryKey, usize>,
-    keys: Vec<EntryKey>,
-) -> Result<Vec<EntryKey>, AllocError>
+    keys: Before,
+) -> Result<Before, AllocError>
     ensures { IfOk result (λ v. v.items ≡ trimmed (at places.now) keys.items) }
 {
     if keys.len() < 2 {
@@ -88,8 +89,8 @@ fn trim(
 fn trim_all(
     alloc: Global,
     places: &IndexMap<EntryKey, usize>,
-    lists: Vec<(usize, Vec<EntryKey>)>,
-) -> Result<Vec<(usize, Vec<EntryKey>)>, AllocError>
+    lists: Vec<(usize, Before)>,
+) -> Result<Vec<(usize, Before)>, AllocError>
     ensures { IfOk result (λ v. lists_seen v.items
         ≡ all_trimmed (at places.now) (lists_seen lists.items)) }
 {
@@ -105,8 +106,8 @@ fn trim_all(
 pub(crate) fn trimmed(
     alloc: Global,
     chain: &[EntryKey],
-    lists: Vec<(usize, Vec<EntryKey>)>,
-) -> Result<Vec<(usize, Vec<EntryKey>)>, AllocError>
+    lists: Vec<(usize, Before)>,
+) -> Result<Vec<(usize, Before)>, AllocError>
     requires { Once chain.now }
     ensures { IfOk result (λ v. lists_seen v.items
         ≡ all_trimmed (place_of same_entry chain.now) (lists_seen lists.items)) }

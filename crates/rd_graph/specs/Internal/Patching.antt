@@ -1,11 +1,12 @@
 -- What a contract sees of patches.
 use Rattle.std.specs.Prelude.{◌≡◌, ℕ, ◌≤◌, List, map, length, Option, Some, None, vec_len, vec_capacity}
 use Rattle.std.specs.declared.vec.Vec.{Vec}
+use Rattle.smallvec.specs.SmallVec.{SmallVec}
 use Rattle.rd_keys.specs.declared.entry.EntryKey.{EntryKey}
 use Rattle.rd_graph.specs.declared.graph.Node.{Node}
 
 -- lists of predecessors with their places
-abbrev pub lists_seen : {A : Type 0} → List (ℕ × Vec EntryKey A) → List (ℕ × List EntryKey)
+abbrev pub lists_seen : List (ℕ × SmallVec EntryKey) → List (ℕ × List EntryKey)
 lists_seen ls = map (λ l. (l.0, l.1.items)) ls
 
 -- where there is a line, there is empty room for as many nodes

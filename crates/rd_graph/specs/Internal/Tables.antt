@@ -1,7 +1,7 @@
 -- Tables by the names of entries.
 use Rattle.std.specs.Prelude.{◌≡◌, ℕ, Bool, Option, Some, None, List, [], is_some, unwrap_or}
 use Rattle.indexmap.specs.IndexMap.{IndexMap, get_by}
-use Rattle.std.specs.declared.vec.Vec.{Vec}
+use Rattle.smallvec.specs.SmallVec.{SmallVec}
 use Rattle.rd_keys.specs.declared.entry.EntryKey.{EntryKey}
 use Rattle.rd_keys.specs.contracts.entry.EntryKeyPartialEq.TheImpl as block
 use Rattle.rd_graph.specs.Names.{is_in}
@@ -20,11 +20,11 @@ abbrev pub fits_list : {V S : Type 0} → IndexMap EntryKey V S → List EntryKe
 fits_list m xs = (k : EntryKey) → is_some (at m k) ≡ is_in same_entry xs k
 
 -- what a table notes of a name
-abbrev pub items_of : {V A : Type 0} → Option (Vec V A) → List V
+abbrev pub items_of : {V : Type 0} → Option (SmallVec V) → List V
 items_of None = []
 items_of (Some v) = v.items
 
-abbrev pub noted_in : {A S : Type 0} → IndexMap EntryKey (Vec EntryKey A) S → EntryKey → List EntryKey
+abbrev pub noted_in : {S : Type 0} → IndexMap EntryKey (SmallVec EntryKey) S → EntryKey → List EntryKey
 noted_in m k = items_of (at m k)
 
 abbrev pub has_it : {V S : Type 0} → IndexMap EntryKey V S → EntryKey → Bool

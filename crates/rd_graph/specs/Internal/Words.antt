@@ -1,7 +1,7 @@
 -- What the calls on tables and lists of nodes do, in a word each.
 use Rattle.std.specs.Prelude.{◌≡◌, ℕ, Bool, if◌then◌else◌, Some, List, [], ◌∷◌, ◌++◌, length}
 use Rattle.indexmap.specs.IndexMap.{IndexMap}
-use Rattle.std.specs.declared.vec.Vec.{Vec}
+use Rattle.smallvec.specs.SmallVec.{SmallVec}
 use Rattle.rd_keys.specs.declared.entry.EntryKey.{EntryKey}
 use Rattle.rd_graph.specs.Graphs.{Graph}
 use Rattle.rd_graph.specs.Names.{same_entry}
@@ -45,15 +45,15 @@ module _ {S : Type 0} (labels : IndexMap EntryKey ℕ S) (chain : List EntryKey)
   labelled_all nodes = labelled (label_in labels (length chain)) (old_part same_entry chain (seen nodes) ++ new_part same_entry chain (seen nodes))
 
 -- a predecessor, or what was noted in its place where it goes
-abbrev pub in_place_of : {V S A T : Type 0} → IndexMap EntryKey V S → IndexMap EntryKey (Vec EntryKey A) T → EntryKey → List EntryKey
+abbrev pub in_place_of : {V S T : Type 0} → IndexMap EntryKey V S → IndexMap EntryKey (SmallVec EntryKey) T → EntryKey → List EntryKey
 in_place_of gone notes k = if has_it gone k then noted_in notes k else k ∷ []
 
 -- predecessors so, each once
-abbrev pub resolved_once : {V S A T : Type 0} → IndexMap EntryKey V S → IndexMap EntryKey (Vec EntryKey A) T → List EntryKey → List EntryKey
+abbrev pub resolved_once : {V S T : Type 0} → IndexMap EntryKey V S → IndexMap EntryKey (SmallVec EntryKey) T → List EntryKey → List EntryKey
 resolved_once gone notes before = all_pushed same_entry [] (resolved same_entry (has_it gone) (noted_in notes) before)
 
 -- a node is noted, if it goes
-abbrev pub NotesIf : {A T : Type 0} → Bool → EntryKey → List EntryKey → IndexMap EntryKey (Vec EntryKey A) T → IndexMap EntryKey (Vec EntryKey A) T → Type 0
+abbrev pub NotesIf : {T : Type 0} → Bool → EntryKey → List EntryKey → IndexMap EntryKey (SmallVec EntryKey) T → IndexMap EntryKey (SmallVec EntryKey) T → Type 0
 NotesIf gone key before old new =
     (k : EntryKey) → noted_in new k ≡ (if gone then (if same_entry key k then before else noted_in old k) else noted_in old k)
 

@@ -3,6 +3,7 @@ use super::checked::{by_calls, by_patch, distinct};
 use super::drawing::{Change, Draws};
 use super::matrix::{COUNT, Matrix, is_set, put};
 use crate::OrderGraph;
+use crate::before::Name;
 use rd_keys::EntryKey;
 use std::alloc::{AllocError, Global};
 
@@ -47,9 +48,9 @@ fn number_of(names: &[EntryKey], name: EntryKey) -> usize {
 }
 
 /// Marks some names.
-fn mark_all(marks: &mut Vec<bool>, names: &[EntryKey], keys: &[EntryKey]) {
+fn mark_all(marks: &mut Vec<bool>, names: &[EntryKey], keys: &[Name]) {
     for key in keys {
-        put(marks, number_of(names, *key), true);
+        put(marks, number_of(names, key.key), true);
     }
 }
 

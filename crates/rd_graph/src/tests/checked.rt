@@ -7,6 +7,7 @@ ghost use Rattle.rd_graph.specs.Names.{place_of, same_entry};
 ghost use Rattle.rd_graph.specs.Orders.{Before, Once};
 ghost use Rattle.rd_graph.specs.Patches.{AreRising, found_in, is_gone};
 
+use crate::before::{Before, Name, nothing, push};
 use crate::graph::Node;
 use crate::tables::push_all;
 use crate::{OrderGraph, Places};
@@ -14,13 +15,37 @@ use indexmap::IndexMap;
 use rd_keys::EntryKey;
 use std::alloc::{AllocError, Global};
 
+/// The names as a list of predecessors.
+fn listed(alloc: Global, names: &[EntryKey]) -> Result<Before, AllocError>
+    ensures { IfOk result (λ v. v.items ≡ names.now) }
+{
+    let mut all = nothing(alloc);
+    for key in names {
+        push(&mut all, *key)?;
+    }
+    Ok(all)
+}
+
+/// The names of a list of predecessors.
+fn unlisted(alloc: Global, list: &[Name]) -> Result<Vec<EntryKey>, AllocError>
+    ensures { IfOk result (λ v. v.items ≡ list.now) }
+{
+    let mut all = Vec::new(alloc);
+    for name in list {
+        all.push(name.key)?;
+    }
+    Ok(all)
+}
+
 /// The names, each once.
 pub(super) fn distinct(alloc: Global, names: &[EntryKey]) -> Result<Vec<EntryKey>, AllocError>
     ensures { IfOk result (λ v. Once v.items) }
 {
-    let mut all = Vec::new(alloc);
+    let list = listed(alloc, names)?;
+    let mut found = nothing(alloc);
     let mut known = IndexMap::new(alloc);
-    push_all(&mut all, &mut known, names)?;
+    push_all(&mut found, &mut known, &list)?;
+    let all = unlisted(alloc, &found)?;
     Ok(all)
 }
 
@@ -35,11 +60,11 @@ fn is_before(line: &Places, a: EntryKey, b: EntryKey) -> bool
 }
 
 /// Do all these names come before another in a line?
-fn are_before(line: &Places, names: &[EntryKey], b: EntryKey) -> bool
+fn are_before(line: &Places, names: &[Name], b: EntryKey) -> bool
     ensures { result ≡ true → (a : EntryKey) → Contains names.now a → Before line.now a b }
 {
     for a in names {
-        if !is_before(line, *a, b) {
+        if !is_before(line, a.key, b) {
             return false;
         }
     }

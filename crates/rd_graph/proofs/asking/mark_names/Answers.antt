@@ -1,6 +1,7 @@
-use Rattle.std.proofs.Common.{◌∙◌, sym, subst, List}
+use Rattle.std.proofs.Common.{◌∙◌, ap, sym, subst, List}
 use Rattle.std.specs.Prelude.{Contains}
 use Rattle.rd_keys.specs.declared.entry.EntryKey.{EntryKey}
+use Rattle.rd_graph.specs.Internal.Relisting.{mark_of}
 use Rattle.rd_graph.proofs.Listing.{has_from}
 use Rattle.rd_graph.proofs.AskedPlaces.{mark_fits, mark_next}
 use Rattle.rd_graph.proofs.Marks.{take_whole}
@@ -14,7 +15,7 @@ index_mut-requires c = mark_fits _ _ _ c.mark_of.ensures (c.loop-name.marks.ok.0
 
 pub loop-name-preserved : goal.loop-name-preserved
 loop-name-preserved c =
-    let m = mark_next c.args.names.now c.loop-name.name-index _ c.mark_of.result c.args.marks.now.items c.loop-name.marks.items c.loop-name-test.true c.mark_of.ensures
+    let m = mark_next c.args.names.now c.loop-name.name-index _ c.mark_of.result c.args.marks.now.items c.loop-name.marks.items c.loop-name-test.true (c.mark_of.ensures ∙ ap (λ (k : EntryKey). mark_of k) (c.name.view_is ∙ c.name-item.is))
     c.loop-name.invariant.whole c.loop-name.invariant.kept c.loop-name.invariant.marked in
     record { whole = m.0; kept = m.1; marked = m.2 }
 

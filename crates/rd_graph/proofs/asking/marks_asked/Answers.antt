@@ -9,7 +9,7 @@ use Rattle.rd_graph.proofs.asking.marks_asked.Goals as goal
 pub loop-list-preserved : goal.loop-list-preserved
 loop-list-preserved c =
     let marked : 1 < length c.list-item.result.1.items → (k : EntryKey) → Contains c.list-item.result.1.items k → HasMark c.mark_list.new.marks.items k =
-    subst (λ (ks : List EntryKey). 1 < length ks → (k : EntryKey) → Contains ks k → HasMark c.mark_list.new.marks.items k) c.deref.ensures.value c.mark_list.ensures.marked
+    subst (λ (ks : List EntryKey). 1 < length ks → (k : EntryKey) → Contains ks k → HasMark c.mark_list.new.marks.items k) c.deref.ensures c.mark_list.ensures.marked
     in
     record {
       whole = c.mark_list.ensures.whole;

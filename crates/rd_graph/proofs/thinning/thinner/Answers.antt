@@ -3,4 +3,4 @@ use Rattle.rd_graph.proofs.Thinnings.{thinner_left}
 use Rattle.rd_graph.proofs.thinning.thinner.Goals as goal
 
 pub returns : goal.returns
-returns c = thinner_left (seen c.args.nodes.now) c.args.list.now c.in_ok-names.names.items c.deref.result.now c.in_ok-left.left.items c.deref.ensures.value c.in_ok-names.ensures c.in_ok-left.ensures
+returns c = thinner_left (seen c.args.nodes.now) c.args.list.now c.in_ok-names.names.items c.deref.result.now c.in_ok-left.left.items c.deref.ensures c.in_ok-names.ensures c.in_ok-left.ensures

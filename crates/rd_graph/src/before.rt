@@ -1,0 +1,66 @@
+//! Lists of the direct predecessors of a node. One of a single name takes no memory of its own.
+ghost use Rattle.std.specs.Prelude.{◌≡◌, [], ◌∷◌, ◌++◌, IfOk, OnOk};
+
+use rd_keys::{EntryKey, Key};
+use smallvec::SmallVec;
+use std::alloc::{AllocError, Global};
+use std::marker::Model;
+
+/// A name in a list of predecessors.
+#[derive(Clone, Copy)]
+pub(crate) struct Name {
+    pub(crate) key: EntryKey,
+}
+
+impl Model for Name {
+    ghost use Rattle.rd_keys.specs.declared.entry.EntryKey.{EntryKey};
+
+    ghost Value = { EntryKey };
+
+    ghost view = { λ n. n.key };
+
+    ghost inverse = { λ k. record { key = k } };
+}
+
+/// An unused place of a list has a name that stands for nothing.
+impl Default for Name {
+    fn default() -> Name {
+        Name {
+            key: EntryKey::Group(Key::new(0, 0)),
+        }
+    }
+}
+
+/// Names of predecessors.
+pub(crate) type Before = SmallVec<Name, 1>;
+
+/// No name.
+pub(crate) fn nothing(alloc: Global) -> Before
+    ensures { result.items ≡ [] }
+{
+    SmallVec::new(alloc)
+}
+
+/// Puts a name at the end.
+pub(crate) fn push(list: &mut Before, key: EntryKey) -> Result<(), AllocError>
+    ensures { OnOk result (list.new.items ≡ list.old.items ++ key ∷ []) }
+{
+    list.push(Name { key })?;
+    Ok(())
+}
+
+/// One name.
+pub(crate) fn one(alloc: Global, key: EntryKey) -> Before
+    ensures { result.items ≡ key ∷ [] }
+{
+    let mut list = nothing(alloc);
+    list.push_reserved(Name { key });
+    list
+}
+
+/// A list once more.
+pub(crate) fn copied(alloc: Global, list: &[Name]) -> Result<Before, AllocError>
+    ensures { IfOk result (λ v. v.items ≡ list.now) }
+{
+    SmallVec::from_slice(alloc, list)
+}
