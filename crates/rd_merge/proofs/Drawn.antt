@@ -1,5 +1,5 @@
 -- Merges of drawn levels can be made, and what comes of them is held.
-use Rattle.std.proofs.Common.{◌≡◌, refl, ap, ◌∙◌, sym, subst, ℕ, ◌+◌, ◌<◌, ◌≤◌, Bool, true, false, not, cond, ◌&&◌, ◌||◌, List, [], ◌∷◌, ◌++◌, map, take, length, get_or, arith, inl, inr}
+use Rattle.std.proofs.Common.{◌≡◌, refl, ap, ◌∙◌, sym, subst, ℕ, ◌+◌, ◌<◌, ◌≤◌, Bool, true, false, not, cond, List, [], ◌∷◌, ◌++◌, map, take, length, get_or, arith, inl, inr}
 use Rattle.std.specs.Prelude.{Contains, IsTrue}
 use Rattle.std.specs.List.{filter}
 use Rattle.std.proofs.lemmas.List.{take_more}
@@ -7,7 +7,6 @@ use Rattle.std.proofs.lemmas.List.Elements.{filter-append}
 use Rattle.std.proofs.lemmas.List.Sorted.{IsPermutation-refl}
 use Rattle.rd_geom.specs.declared.color.Color.{Color}
 use Rattle.rd_graph.specs.Names.{is_in}
-use Rattle.rd_geom.specs.Plane.{meets}
 use Rattle.rd_graph.proofs.Listing.{Has, cases, has_either, has_from, contains_from}
 use Rattle.rd_graph.proofs.Marks.{take_whole}
 use Rattle.rd_keys.specs.Keys.{BoxKey, same_key}

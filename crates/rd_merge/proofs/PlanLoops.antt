@@ -48,7 +48,7 @@ empty_kept = record { graph = []; entries = nil }
 pub steps_append : {A : Type 0} (xs ys : List (Step A)) → steps_seen (xs ++ ys) ≡ steps_seen xs ▷ steps_seen ys
 steps_append [] ys = refl
 steps_append (step.Leaf p ∷ xs) ys = ap (leaf p) (steps_append xs ys)
-steps_append (step.Group o n plan ∷ xs) ys = ap (group (record { old = o; is_new = n; patch = plan.patch }) plan.steps) (steps_append xs ys)
+steps_append (step.Group o n plan ∷ xs) ys = ap (group (record { old = o; is_new = n; patch = plan.value.patch }) plan.value.steps) (steps_append xs ys)
 
 pub whole_take : {B : Type 0} (xs : List B) (i : ℕ) → length xs ≤ i → take i xs ≡ xs
 whole_take [] zero h = refl

@@ -1,5 +1,5 @@
 -- Steps of a plan, one after another.
-use Rattle.std.proofs.Common.{◌≡◌, refl, ap, ◌∙◌, sym, subst, ℕ, suc, ◌+◌, Bool, true, false, List, [], ◌∷◌, length, arith}
+use Rattle.std.proofs.Common.{◌≡◌, refl, ap, ◌∙◌, sym, subst, ℕ, suc, ◌+◌, Bool, true, false, List, [], ◌∷◌, length, arith, Box, Global}
 use Rattle.std.specs.Prelude.{Option, Some, None, is_some, unwrap_or}
 use Rattle.std.specs.declared.vec.Vec.{Vec}
 use Rattle.rd_graph.specs.Gathered.{IsLine}
@@ -12,6 +12,7 @@ use Rattle.rd_merge.specs.Plans.{PlanList, Steps, IsGroupPlace, IsNamed, IsPlace
 use Rattle.rd_merge.specs.PlanView.{steps_seen}
 use Rattle.rd_merge.specs.Internal.Moving.{IsSameBut, NoneMade, left_after}
 use Rattle.rd_merge.specs.Internal.PlanRoom.{HasLineRoom}
+use Rattle.rd_merge.specs.declared.plan.Plan.{Plan}
 use Rattle.rd_merge.specs.declared.plan.Step.{Step}
 use Rattle.rd_merge.specs.declared.plan.Step.TheVariants as step
 use Rattle.rd_list.specs.KeptView.{kept_entries}
@@ -113,12 +114,12 @@ module _ (k m : Olds) where
   put_same None k2 e h z same = ap (λ (x : Olds). (x ▷ m) ▷ e) same
   put_same (Some i) k2 e h z same = with-join i e k2 m (omega (arith, h, z)) ∙ ap (λ (x : Olds). x ▷ m) (same e) ∙ sym (with-join i e k m h)
 
-module _ {A : Type 0} (s : Step A) (o : Option ℕ) (b : Bool) (plan : PlanList) (is : s ≡ step.Group o b plan) where
+module _ {A : Type 0} (s : Step A) (o : Option ℕ) (b : Bool) (boxed : Box (Plan A) Global) (is : s ≡ step.Group o b boxed) (plan : PlanList) (unboxed : plan ≡ boxed.value) where
   abbrev the_group : Step A
-  the_group = step.Group o b plan
+  the_group = step.Group o b boxed
 
   pub group_size : list_size (steps_seen (s ∷ [])) ≡ suc (list_size plan.steps)
-  group_size = ap (λ (z : Step A). list_size (steps_seen (z ∷ []))) is ∙ omega arith
+  group_size = ap (λ (z : Step A). list_size (steps_seen (z ∷ []))) is ∙ omega (arith, ap (λ (p : PlanList). list_size p.steps) unboxed)
 
   module _ (size : ℕ) (k m : Olds) (n : News) (e : size_of k ≡ size) (fits : StepsFit size (steps_seen (s ∷ [])) (k ▷ m) n) where
     so : StepsFit (size_of k) (steps_seen (the_group ∷ [])) (k ▷ m) n
@@ -131,10 +132,12 @@ module _ {A : Type 0} (s : Step A) (o : Option ℕ) (b : Bool) (plan : PlanList)
     group_named = so.0.2
 
     pub group_fits : PlacesFit plan (old_list o k) (list_for b n)
-    group_fits = subst (λ (x : KeptList EntryKey Wrapper Made). PlacesFit plan x (list_for b n)) (old_list-join k m o so.0.0) (record { patch = so.0.3; line = so.0.4; still = so.0.5; steps = so.0.6 })
+    group_fits =
+        subst (λ p. PlacesFit p (old_list o k) (list_for b n)) (sym unboxed)
+        (subst (λ (x : KeptList EntryKey Wrapper Made). PlacesFit boxed.value x (list_for b n)) (old_list-join k m o so.0.0) (record { patch = so.0.3; line = so.0.4; still = so.0.5; steps = so.0.6 }))
 
     pub group_stepped : (k2 entry : Olds) → size_of k2 ≡ size_of k → IsSameBut o k k2 → entry ≡ grouped_as (wrapper_for b o k n) (filled plan (old_list o k) (list_for b n)) → put_entry o entry (k2 ▷ m) ≡ stepped (steps_seen (s ∷ [])) (k ▷ m) n
     group_stepped k2 entry z same made =
         put_same k m o k2 entry so.0.0 z same
-        ∙ ap (λ (x : Olds). put_entry o x (k ▷ m)) (made ∙ sym (ap (λ w. grouped_as w (filled plan (old_list o (k ▷ m)) (list_for b n))) (wrapper_for-join k m b o n so.0.0) ∙ ap (λ (x : KeptList EntryKey Wrapper Made). grouped_as (wrapper_for b o k n) (filled plan x (list_for b n))) (old_list-join k m o so.0.0)))
+        ∙ ap (λ (x : Olds). put_entry o x (k ▷ m)) (made ∙ ap (λ p. grouped_as (wrapper_for b o k n) (filled p (old_list o k) (list_for b n))) unboxed ∙ sym (ap (λ w. grouped_as w (filled boxed.value (old_list o (k ▷ m)) (list_for b n))) (wrapper_for-join k m b o n so.0.0) ∙ ap (λ (x : KeptList EntryKey Wrapper Made). grouped_as (wrapper_for b o k n) (filled boxed.value x (list_for b n))) (old_list-join k m o so.0.0)))
         ∙ sym (ap (λ (t : Step A). stepped (steps_seen (t ∷ [])) (k ▷ m) n) is)

@@ -8,4 +8,4 @@ use Rattle.rd_merge.specs.declared.plan.Step.TheVariants.{Leaf, Group}
 abbrev pub steps_seen : {A : Type 0} → List (Step A) → Steps
 steps_seen [] = nil
 steps_seen (Leaf place ∷ rest) = leaf place (steps_seen rest)
-steps_seen (Group o n plan ∷ rest) = group (record { old = o; is_new = n; patch = plan.patch }) plan.steps (steps_seen rest)
+steps_seen (Group o n plan ∷ rest) = group (record { old = o; is_new = n; patch = plan.value.patch }) plan.value.steps (steps_seen rest)

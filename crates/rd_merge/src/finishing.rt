@@ -69,7 +69,7 @@ fn finish_step<A: Ledger>(
             put(entries, made, place, entry);
         }
         Step::Group { old, is_new, plan } => {
-            let entry = finish_group(alloc, entries, fresh, old, is_new, plan);
+            let entry = finish_group(alloc, entries, fresh, old, is_new, Box::into_inner(plan));
             put(entries, made, old, entry);
         }
     }

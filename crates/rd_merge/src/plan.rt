@@ -27,7 +27,7 @@ pub enum Step<A: Ledger> {
     Group {
         old: Option<usize>,
         is_new: bool,
-        plan: Plan<A>,
+        plan: Box<Plan<A>>,
     },
 }
 

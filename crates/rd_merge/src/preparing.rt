@@ -120,7 +120,7 @@ fn plan_entry<A: Ledger, T: Touches>(
     match entry {
         NewEntry::Leaf(_) => Ok(Step::Leaf(place)),
         NewEntry::Group { inner, .. } => {
-            let plan = plan_new_group(alloc, kept, place, inner, tree)?;
+            let plan = Box::new(alloc, plan_new_group(alloc, kept, place, inner, tree)?)?;
             Ok(Step::Group {
                 old: place,
                 is_new: true,
@@ -187,7 +187,7 @@ fn plan_kept_group<A: Ledger, T: Touches>(
         Entry::Leaf(_) => unreachable!(),
         Entry::Group(group) => {
             let none = NewList::empty(alloc);
-            let plan = plan_level(alloc, &group.inner, &none, tree)?;
+            let plan = Box::new(alloc, plan_level(alloc, &group.inner, &none, tree)?)?;
             Ok(Step::Group {
                 old: Some(place),
                 is_new: false,

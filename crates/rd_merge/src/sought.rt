@@ -25,14 +25,14 @@ fn mark_of(is_wide: bool, key: EntryKey) -> usize
         EntryKey::Leaf(name, _) => name.slot() as usize,
         EntryKey::Group(name) => name.slot() as usize,
     };
-    if is_wide { slot % 8192 } else { slot % 256 }
+    if is_wide { slot % 2048 } else { slot % 256 }
 }
 
 /// How many marks there are.
 fn mark_count(is_wide: bool) -> usize
     ensures { result ≡ mark_count is_wide }
 {
-    if is_wide { 8192 } else { 256 }
+    if is_wide { 2048 } else { 256 }
 }
 
 /// Are they the same name?

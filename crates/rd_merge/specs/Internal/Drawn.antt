@@ -1,6 +1,5 @@
 -- Drawn levels for the tests: the backs of boxes, each in its rectangle.
 use Rattle.std.specs.Prelude.{◌≡◌, true, false, not, Bool, List, [], ◌∷◌, Contains, AllPairs, IsTrue}
-use Rattle.std.specs.List.{filter}
 use Rattle.rd_geom.specs.Plane.{Rectangle, meets}
 use Rattle.rd_geom.specs.declared.color.Color.{Color}
 use Rattle.rd_graph.specs.Names.{is_in}

@@ -5,7 +5,7 @@ use Rattle.rd_keys.specs.declared.entry.EntryKey.TheVariants as key
 
 -- how many marks there are
 abbrev pub mark_count : Bool → ℕ
-mark_count true = 8192
+mark_count true = 2048
 mark_count false = 256
 
 -- where a name has its mark

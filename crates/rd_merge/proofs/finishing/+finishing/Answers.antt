@@ -123,15 +123,15 @@ finish_step-finish_group-entry-requires g t c κs within =
     let n = new_entries (into_iter_items c.args.fresh.now) in
     let size = kept-size c.args.entries.now.items in
     let long : size_of k ≡ vec_len c.args.entries.now = omega (arith, size, ok.0) in
-    let smaller = group_size c.args.step i.old i.is_new i.plan i.is in (
+    let smaller = group_size c.args.step i.old i.is_new i.plan i.is c.into_inner.result c.into_inner.ensures in (
       omega (arith, smaller, c.decreases),
       (
         within,
         (
-          group_there c.args.step i.old i.is_new i.plan i.is (vec_len c.args.entries.now) k m n long c.requires.fits,
+          group_there c.args.step i.old i.is_new i.plan i.is c.into_inner.result c.into_inner.ensures (vec_len c.args.entries.now) k m n long c.requires.fits,
           (
-            group_named c.args.step i.old i.is_new i.plan i.is (vec_len c.args.entries.now) k m n long c.requires.fits,
-            group_fits c.args.step i.old i.is_new i.plan i.is (vec_len c.args.entries.now) k m n long c.requires.fits,
+            group_named c.args.step i.old i.is_new i.plan i.is c.into_inner.result c.into_inner.ensures (vec_len c.args.entries.now) k m n long c.requires.fits,
+            group_fits c.args.step i.old i.is_new i.plan i.is c.into_inner.result c.into_inner.ensures (vec_len c.args.entries.now) k m n long c.requires.fits,
           ),
         ),
       ),
@@ -150,5 +150,5 @@ finish_step-returns-in-Group-clause-stepped g t c =
     let len = c.finish_group-entry.ensures.len in
     let long : size_of k ≡ vec_len c.args.entries.now = omega (arith, size, ok.0) in
     c.put-in-Group.ensures.put
-    ∙ group_stepped c.args.step i.old i.is_new i.plan i.is (vec_len c.args.entries.now) k m n long c.requires.fits (kept_entries c.finish_group-entry.new.entries.items) (kept_entries (c.finish_group-entry.result ∷ []))
+    ∙ group_stepped c.args.step i.old i.is_new i.plan i.is c.into_inner.result c.into_inner.ensures (vec_len c.args.entries.now) k m n long c.requires.fits (kept_entries c.finish_group-entry.new.entries.items) (kept_entries (c.finish_group-entry.result ∷ []))
     (omega (arith, size, size_later, ok.0, later.0, len)) c.finish_group-entry.ensures.others c.finish_group-entry.ensures.made

@@ -108,7 +108,8 @@ plan_kept_group-returns g t c =
         old_is = refl;
         new_is = refl;
         there = c.requires.there;
-        plan = list_plan (g.T.Touches.is_touched c.args.tree.now) c.in-Group.group.inner (old_list (Some c.args.place) xs) c.empty-none.result c.in_ok-plan-in-Group.plan is c.empty-none.ensures c.in_ok-plan-in-Group.ensures;
+        plan = list_plan (g.T.Touches.is_touched c.args.tree.now) c.in-Group.group.inner (old_list (Some c.args.place) xs) c.empty-none.result c.in_ok-plan-in-Group.plan.value is c.empty-none.ensures
+            (subst (IsPlan (g.T.Touches.is_touched c.args.tree.now) c.in-Group.group.inner c.empty-none.result) (sym c.in_ok-plan-in-Group.ensures.ok) c.in_ok-plan_level-in-Group.ensures);
       },
       tt,
     )
