@@ -1,6 +1,6 @@
 -- What each kind of box does to the lists.
 use Rattle.std.proofs.Common.{◌≡◌, refl, ap, ◌∙◌, sym, Bool, true, false, not, ◌&&◌, ◌||◌, [], ◌++◌, ℤ, pos, ℕ}
-use Rattle.std.specs.Prelude.{Option, Some, None, is_some, int_lt}
+use Rattle.std.specs.Prelude.{Option, Some, None, is_some, int_lt, map}
 use Rattle.std.proofs.lemmas.List.{append-nil}
 use Rattle.rd_geom.specs.Plane.{Rectangle}
 use Rattle.rd_style.specs.Classes.{class, real, level, blocky}
@@ -17,11 +17,11 @@ use Rattle.rd_list.specs.Wrappers.{Wrapper}
 use Rattle.rd_partial.specs.Internal.Standing.{Standing}
 use Rattle.rd_partial.specs.declared.bands.Local.{Local}
 use Rattle.rd_partial.specs.declared.bands.Layers.{Layers}
-use Rattle.rd_partial.specs.Internal.Bands.{Bands, ◌⊕◌, entries_if, list_if, stacked, by_level}
+use Rattle.rd_partial.specs.Internal.Bands.{Bands, no_bands, ◌⊕◌, entries_if, list_if, stacked, by_level}
 use Rattle.rd_partial.specs.Internal.Pass.{order_of, box_bands, as_group, level_in}
 use Rattle.rd_partial.specs.Internal.Standing.{below}
 use Rattle.rd_partial.specs.Internal.Given.{gives}
-use Rattle.rd_partial.specs.Internal.Held.{held}
+use Rattle.rd_partial.specs.Internal.Held.{held, held_stack}
 use Rattle.rd_partial.proofs.Same.{same_bands}
 use Rattle.rd_partial.specs.Internal.Work.{paints, boxed, layers_of, held_layers, layer_bands}
 
@@ -139,24 +139,40 @@ module _ (wants : Rectangle → Bool) (n : ℕ) (s : Standing) (b : BoxData) (in
         (ap (λ z. z ▷ inner.outlines) m ∙ join_assoc (laid_out loc.outlines) Ol inner.outlines)
         ∙ ap (λ z. held loc l1 ⊕ z) (sym (box_inline (order_of below (gives wants n) false s b inner) c))
 
-    pub block_arm : (loc1 loc3 loc4 : Local A) (l3 : Layers A) (line contents : Nested Wrapper Made) → class b.style false ≡ Block → line ≡ loc.line → contents ≡ loc.contents
-        → loc1.floats ≡ loc.floats → laid_out loc1.backgrounds ≡ laid_out loc.backgrounds ▷ (Bk ▷ Bd) → laid_out loc1.line ≡ Ct → laid_out loc1.contents ≡ nil → laid_out loc1.outlines ≡ laid_out loc.outlines ▷ Ol
-        → held loc3 l3 ≡ held loc1 l1 ⊕ inner
-        → loc4.backgrounds ≡ loc3.backgrounds → loc4.floats ≡ loc3.floats → loc4.line ≡ line → laid_out loc4.contents ≡ (laid_out contents ▷ laid_out loc3.line) ▷ laid_out loc3.contents → loc4.outlines ≡ loc3.outlines
+    pub block_arm : (loc1 loc2 loc3 loc4 : Local A) (l3 : Layers A) (line : Nested Wrapper Made) → class b.style false ≡ Block
+        → loc1.floats ≡ loc.floats → laid_out loc1.backgrounds ≡ laid_out loc.backgrounds ▷ (Bk ▷ Bd) → loc1.line ≡ loc.line → laid_out loc1.contents ≡ laid_out loc.contents ▷ Ct → laid_out loc1.outlines ≡ laid_out loc.outlines ▷ Ol
+        → line ≡ loc1.line → loc2.backgrounds ≡ loc1.backgrounds → loc2.floats ≡ loc1.floats → loc2.line ≡ loc1.contents → laid_out loc2.contents ≡ nil → loc2.outlines ≡ loc1.outlines
+        → held loc3 l3 ≡ held loc2 l1 ⊕ inner
+        → loc4.backgrounds ≡ loc3.backgrounds → loc4.floats ≡ loc3.floats → loc4.line ≡ line → laid_out loc4.contents ≡ laid_out loc3.line ▷ laid_out loc3.contents → loc4.outlines ≡ loc3.outlines
         → held loc4 l3 ≡ held loc l1 ⊕ boxed wants n s b inner
-    block_arm loc1 loc3 loc4 l3 line contents c e1 e2 f1 k1 k2 k3 k4 h g1 g2 g3 g4 g5 =
+    block_arm loc1 loc2 loc3 loc4 l3 line c f1 k1 e1 k3 k4 o1 o2 o3 o4 o5 o6 h g1 g2 g3 g4 g5 =
         same_bands (held loc4 l3) (held loc l1 ⊕ record inner { backgrounds = (Bk ▷ Bd) ▷ inner.backgrounds; line = nil; contents = (Ct ▷ inner.line) ▷ inner.contents; outlines = Ol ▷ inner.outlines })
         (ap (λ q. q.negatives) h)
-        (ap laid_out g1 ∙ ap (λ q. q.backgrounds) h ∙ ap (λ q. q ▷ inner.backgrounds) k1 ∙ join_assoc (laid_out loc.backgrounds) (Bk ▷ Bd) inner.backgrounds)
-        (ap laid_out g2 ∙ ap (λ q. q.floats) h ∙ ap (λ q. laid_out q ▷ inner.floats) f1)
-        (ap laid_out (g3 ∙ e1) ∙ sym (join-nil (laid_out loc.line)))
-        (g4 ∙ ap (λ q. (laid_out q ▷ laid_out loc3.line) ▷ laid_out loc3.contents) e2
-        ∙ ap (λ q. (laid_out loc.contents ▷ q) ▷ laid_out loc3.contents) (ap (λ q. q.line) h ∙ ap (λ q. q ▷ inner.line) k2)
-        ∙ ap (λ q. (laid_out loc.contents ▷ (Ct ▷ inner.line)) ▷ q) (ap (λ q. q.contents) h ∙ ap (λ q. q ▷ inner.contents) k3)
+        (ap laid_out g1 ∙ ap (λ q. q.backgrounds) h ∙ ap (λ q. q ▷ inner.backgrounds) (ap laid_out o2 ∙ k1) ∙ join_assoc (laid_out loc.backgrounds) (Bk ▷ Bd) inner.backgrounds)
+        (ap laid_out g2 ∙ ap (λ q. q.floats) h ∙ ap (λ q. laid_out q ▷ inner.floats) (o3 ∙ f1))
+        (ap laid_out (g3 ∙ o1 ∙ e1) ∙ sym (join-nil (laid_out loc.line)))
+        (g4 ∙ ap (λ q. q ▷ laid_out loc3.contents) (ap (λ q. q.line) h ∙ ap (λ q. q ▷ inner.line) (ap laid_out o4 ∙ k3) ∙ join_assoc (laid_out loc.contents) Ct inner.line)
+        ∙ ap (λ q. (laid_out loc.contents ▷ (Ct ▷ inner.line)) ▷ q) (ap (λ q. q.contents) h ∙ ap (λ q. q ▷ inner.contents) o5)
         ∙ join_assoc (laid_out loc.contents) (Ct ▷ inner.line) inner.contents)
         (ap (λ q. q.zeros) h)
         (ap (λ q. q.positives) h)
-        (ap laid_out g5 ∙ ap (λ q. q.outlines) h ∙ ap (λ q. q ▷ inner.outlines) k4 ∙ join_assoc (laid_out loc.outlines) Ol inner.outlines)
+        (ap laid_out g5 ∙ ap (λ q. q.outlines) h ∙ ap (λ q. q ▷ inner.outlines) (ap laid_out o6 ∙ k4) ∙ join_assoc (laid_out loc.outlines) Ol inner.outlines)
+        ∙ ap (λ q. held loc l1 ⊕ q) (sym (box_block (order_of below (gives wants n) false s b inner) c))
+
+    -- a block without boxes below it
+    pub lone_arm : (loc1 : Local A) → class b.style false ≡ Block → inner ≡ no_bands
+        → loc1.floats ≡ loc.floats → laid_out loc1.backgrounds ≡ laid_out loc.backgrounds ▷ (Bk ▷ Bd) → loc1.line ≡ loc.line → laid_out loc1.contents ≡ laid_out loc.contents ▷ Ct → laid_out loc1.outlines ≡ laid_out loc.outlines ▷ Ol
+        → held loc1 l1 ≡ held loc l1 ⊕ boxed wants n s b inner
+    lone_arm loc1 c e f1 k1 e1 k3 k4 =
+        same_bands (held loc1 l1) (held loc l1 ⊕ record inner { backgrounds = (Bk ▷ Bd) ▷ inner.backgrounds; line = nil; contents = (Ct ▷ inner.line) ▷ inner.contents; outlines = Ol ▷ inner.outlines })
+        (rw (e) (sym (append-nil (map held_stack l1.negatives.items))))
+        (k1 ∙ rw (e, join-nil (Bk ▷ Bd)) refl)
+        (ap laid_out f1 ∙ rw (e, join-nil (laid_out loc.floats)) refl)
+        (ap laid_out e1 ∙ sym (join-nil (laid_out loc.line)))
+        (k3 ∙ rw (e, join-nil Ct, join-nil Ct) refl)
+        (rw (e) (sym (join-nil (laid_out l1.zeros))))
+        (rw (e) (sym (append-nil (map held_stack l1.positives.items))))
+        (k4 ∙ rw (e, join-nil Ol) refl)
         ∙ ap (λ q. held loc l1 ⊕ q) (sym (box_block (order_of below (gives wants n) false s b inner) c))
 
     pub auto_arm : (l2 : Layers A) (z v : Nested Wrapper Made) (order : Entries Wrapper Made) → class b.style false ≡ Layer → real b.style false ≡ false → s.root ≡ false → order ≡ paints wants n s b inner

@@ -55,12 +55,18 @@ module _ (wants : Rectangle → Bool) (n : ℕ) (s : Standing) where
   unfolding cost
   cost_empty = refl
 
+  pub passes_of_none : (o : Option BoxKey) (f : BoxForest) → o ≡ None → passes wants n s (from_some same_key o f) ≡ no_bands
+  passes_of_none o f e = ap (λ z. passes wants n s (from_some same_key z f)) e ∙ passes_empty
+
+  pub cost_of_none : (o : Option BoxKey) (f : BoxForest) → o ≡ None → cost wants n s (from_some same_key o f) ≡ 0
+  cost_of_none o f e = ap (λ z. cost wants n s (from_some same_key z f)) e ∙ cost_empty
+
   -- where there are none, nothing is dropped
   pub passes_none : (o : Option BoxKey) (f : BoxForest) (a : Bands Made) → o ≡ None → a ≡ a ⊕ passes wants n s (from_some same_key o f)
   passes_none o f a e = sym (ap (λ z. a ⊕ passes wants n s (from_some same_key z f)) e ∙ ap (λ z. a ⊕ z) passes_empty ∙ plus_none a)
 
   pub cost_none_below : (o : Option BoxKey) (f : BoxForest) (made : ℕ) → o ≡ None → made ≡ made + cost wants n s (from_some same_key o f)
-  cost_none_below o f made e = let h : cost wants n s (from_some same_key o f) ≡ 0 = ap (λ z. cost wants n s (from_some same_key z f)) e ∙ cost_empty in omega (arith, h)
+  cost_none_below o f made e = let h : cost wants n s (from_some same_key o f) ≡ 0 = cost_of_none o f e in omega (arith, h)
 
   module _ (f : BoxForest) (k : BoxKey) (here : BoxData) (c nx : Option BoxKey) (hull : Rectangle) (w : Onward f k here c nx hull) where
     pub passes_more : passes wants n s (starting_at same_key k f) ≡ boxed wants n s here (passes wants n (below s here) (from_some same_key c f)) ⊕ passes wants n s (from_some same_key nx f)

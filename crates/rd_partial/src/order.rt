@@ -11,11 +11,10 @@ ghost use Rattle.rd_partial.specs.Internal.Given.{gives, gives_back_border, back
 ghost use Rattle.rd_partial.specs.Internal.Work.{own_cost};
 
 use crate::bands::{Layers, Local, Stacked};
-use crate::give::{give, give_leaf};
+use crate::give::{give_back, give_border, give_content, give_outline};
 use crate::standing::Standing;
 use crate::wanted::Wanted;
 use rd_geom::{NoMemory, Steps};
-use rd_keys::Part;
 use rd_list::{NewList, Pieces};
 use rd_stack::BoxData;
 use rd_style::{blocky, real};
@@ -37,8 +36,8 @@ pub fn back_border<A: Ledger, W: Wanted>(
     ensures made { OnOk result (made.new ≡ made.old + back_border_cost (W.wants wanted.now) number s.now b.now) }
     ensures most { made.new ≤ made.old + back_border_cost (W.wants wanted.now) number s.now b.now }
 {
-    give_leaf(out, wanted, number, s, b, Part::Back, made)?;
-    give(out, wanted, number, s, b, Part::Border, made)
+    give_back(out, wanted, number, s, b, made)?;
+    give_border(out, wanted, number, s, b, made)
 }
 
 /// What a box paints of itself before and in its line.
@@ -79,8 +78,8 @@ pub fn begin<A: Ledger, W: Wanted>(
     } else {
         line = own;
     }
-    give(&mut line, wanted, number, s, b, Part::Content, made)?;
-    give(&mut outlines, wanted, number, s, b, Part::Outline, made)?;
+    give_content(&mut line, wanted, number, s, b, made)?;
+    give_outline(&mut outlines, wanted, number, s, b, made)?;
     Ok(Begun {
         out,
         line,

@@ -1,36 +1,15 @@
 //! What is handed down to a box.
-ghost use Rattle.std.specs.Prelude.{◌≡◌, IsFalse, None};
-ghost use Rattle.rd_stack.specs.Parts.{has_border};
+ghost use Rattle.std.specs.Prelude.{◌≡◌};
+ghost use Rattle.rd_stack.specs.Parts.{background, solid};
 ghost use Rattle.rd_geom.specs.Canvas.{IsCanvas, canvas_of};
 ghost use Rattle.rd_partial.specs.Internal.Standing as spec;
 
 use rd_clip::Clips;
-use rd_geom::{Rect, Sides, Size};
-use rd_item::Leaf;
+use rd_geom::{Rect, Size};
+use rd_item::{Leaf, Shape};
 use rd_keys::Part;
-use rd_stack::{BoxData, leaf_of};
+use rd_stack::{BoxData, back_of, leaf_of};
 use std::marker::Model;
-
-/// Has a side a width?
-#[inline(always)]
-fn has_width(sides: &Sides) -> bool
-    ensures { result ≡ has_border sides.now }
-{
-    0 < sides.top || 0 < sides.right || 0 < sides.bottom || 0 < sides.left
-}
-
-/// May a box have the part? Every box has a background, and without a width it has no border and no outline.
-#[inline(always)]
-pub fn has_part(b: &BoxData, part: Part) -> bool
-    ensures { IsFalse result → (s : spec.Standing) → spec.leaf_in s b.now part ≡ None }
-{
-    match part {
-        Part::Back => true,
-        Part::Border => has_width(&b.style().border_width),
-        Part::Content => b.style().content.is_some(),
-        Part::Outline => 0 < b.style().outline_width,
-    }
-}
 
 /// What a box needs of the boxes above it: the canvas, whether there are none, and what may be seen of it.
 #[derive(Clone, Copy)]
@@ -81,6 +60,22 @@ impl Standing {
             root: false,
             clips: self.clips.enter(b.style(), b.rect(), self.root),
         }
+    }
+
+    /// What may be seen of a box.
+    #[inline(always)]
+    pub fn clip(&self, b: &BoxData) -> Rect
+        ensures { result ≡ spec.clip_in self.now b.now.style }
+    {
+        self.clips.for_box(b.style())
+    }
+
+    /// The shape of the background of a box.
+    #[inline(always)]
+    pub fn back(&self, b: &BoxData) -> Shape
+        ensures { result ≡ solid (background self.now.canvas self.now.root b.now) }
+    {
+        back_of(&self.canvas, self.root, b)
     }
 
     /// The leaf of a part of a box, where it has one.

@@ -19,14 +19,14 @@ ghost use Rattle.rd_partial.specs.Internal.Counting.{leaves_in, root_visits};
 ghost use Rattle.rd_partial.specs.Internal.Work.{layer_bands, layers_of, held_layers, own_cost, passes_from, passes_below, paints_from, boxed_from, cost_from, siblings_cost, visits_from};
 
 use crate::bands::{Layers, Local, Stacked};
-use crate::give::give;
+use crate::give::{give_content, give_outline};
 use crate::look::look_at;
 use crate::order::{Begun, as_group, back_border, begin, finish};
 use crate::seeking::next_wanted;
 use crate::standing::Standing;
 use crate::wanted::Wanted;
 use rd_geom::{NoMemory, Steps};
-use rd_keys::{BoxKey, Part};
+use rd_keys::BoxKey;
 use rd_list::{NewList, Pieces};
 use rd_stack::BoxData;
 use rd_style::{Class, class_of, level, real};
@@ -237,80 +237,64 @@ fn inline<A: Ledger, B: Ledger, W: Wanted>(
     ensures looks { looks.new ≤ looks.old + visits_from (W.wants wanted.now) first tree.now }
 {
     back_border(&mut local.line, wanted, number, s, b, made)?;
-    give(&mut local.line, wanted, number, s, b, Part::Content, made)?;
-    give(
-        &mut local.outlines,
-        wanted,
-        number,
-        s,
-        b,
-        Part::Outline,
-        made,
-    )?;
+    give_content(&mut local.line, wanted, number, s, b, made)?;
+    give_outline(&mut local.outlines, wanted, number, s, b, made)?;
     those_below(
         alloc, tree, wanted, number, s, b, first, local, layers, made, looks,
     )?;
     Ok(())
 }
 
-/// The lists of the box that paints a block, which wait while those below the block are dropped.
-#[derive(Drop)]
-struct Outer<A: Ledger> {
-    line: Pieces<A>,
-    contents: Pieces<A>,
-}
-
-/// Drops a block itself, and begins its line.
-fn open_block<A: Ledger, W: Wanted>(
-    alloc: Global,
+/// Drops a block itself.
+fn block_itself<A: Ledger, W: Wanted>(
     wanted: &W,
     number: u64,
     s: &Standing,
     b: &BoxData,
     local: &mut Local<A>,
     made: &mut Steps<A>,
-) -> Result<Outer<A>, NoMemory>
-    ensures outer { IfOk result (λ o. (o.line ≡ local.old.line) × (o.contents ≡ local.old.contents)) }
+) -> Result<(), NoMemory>
     ensures floats { OnOk result (local.new.floats ≡ local.old.floats) }
     ensures backgrounds { OnOk result (laid_out local.new.backgrounds ≡ laid_out local.old.backgrounds
         ▷ gives_back_border (W.wants wanted.now) number s.now b.now) }
-    ensures line { OnOk result (laid_out local.new.line ≡ gives (W.wants wanted.now) number s.now b.now parts.Content) }
-    ensures contents { OnOk result (laid_out local.new.contents ≡ nil) }
+    ensures line { OnOk result (local.new.line ≡ local.old.line) }
+    ensures contents { OnOk result (laid_out local.new.contents ≡ laid_out local.old.contents
+        ▷ gives (W.wants wanted.now) number s.now b.now parts.Content) }
     ensures outlines { OnOk result (laid_out local.new.outlines ≡ laid_out local.old.outlines
         ▷ gives (W.wants wanted.now) number s.now b.now parts.Outline) }
     ensures made { OnOk result (made.new ≡ made.old + own_cost (W.wants wanted.now) number s.now b.now) }
     ensures most { made.new ≤ made.old + own_cost (W.wants wanted.now) number s.now b.now }
 {
     back_border(&mut local.backgrounds, wanted, number, s, b, made)?;
-    let mut line = Pieces::empty(alloc);
-    give(&mut line, wanted, number, s, b, Part::Content, made)?;
-    give(
-        &mut local.outlines,
-        wanted,
-        number,
-        s,
-        b,
-        Part::Outline,
-        made,
-    )?;
-    Ok(Outer {
-        line: replace(&mut local.line, line),
-        contents: replace(&mut local.contents, Pieces::empty(alloc)),
-    })
+    give_content(&mut local.contents, wanted, number, s, b, made)?;
+    give_outline(&mut local.outlines, wanted, number, s, b, made)?;
+    Ok(())
 }
 
-/// Ends a block: its line, and then the lines of the blocks below it.
-fn close_block<A: Ledger>(local: &mut Local<A>, outer: Outer<A>) -> Result<(), NoMemory>
+/// Begins the line of a block on top of the contents. The line of the box that paints it, which waits while those below the
+/// block are dropped.
+fn open_line<A: Ledger>(alloc: Global, local: &mut Local<A>) -> Pieces<A>
+    ensures outer { result ≡ local.old.line }
+    ensures backgrounds { local.new.backgrounds ≡ local.old.backgrounds }
+    ensures floats { local.new.floats ≡ local.old.floats }
+    ensures line { local.new.line ≡ local.old.contents }
+    ensures contents { laid_out local.new.contents ≡ nil }
+    ensures outlines { local.new.outlines ≡ local.old.outlines }
+{
+    let line = replace(&mut local.contents, Pieces::empty(alloc));
+    replace(&mut local.line, line)
+}
+
+/// Ends the line of a block: the contents with it, and then the lines of the blocks below it.
+fn close_line<A: Ledger>(local: &mut Local<A>, outer: Pieces<A>) -> Result<(), NoMemory>
     ensures backgrounds { OnOk result (local.new.backgrounds ≡ local.old.backgrounds) }
     ensures floats { OnOk result (local.new.floats ≡ local.old.floats) }
-    ensures line { OnOk result (local.new.line ≡ outer.line) }
-    ensures contents { OnOk result (laid_out local.new.contents ≡ (laid_out outer.contents ▷ laid_out local.old.line)
-        ▷ laid_out local.old.contents) }
+    ensures line { OnOk result (local.new.line ≡ outer) }
+    ensures contents { OnOk result (laid_out local.new.contents ≡ laid_out local.old.line ▷ laid_out local.old.contents) }
     ensures outlines { OnOk result (local.new.outlines ≡ local.old.outlines) }
 {
-    let line = replace(&mut local.line, outer.line);
-    let contents = replace(&mut local.contents, outer.contents);
-    local.contents.join(line)?;
+    let line = replace(&mut local.line, outer);
+    let contents = replace(&mut local.contents, line);
     local.contents.join(contents)?;
     Ok(())
 }
@@ -340,11 +324,16 @@ fn block<A: Ledger, B: Ledger, W: Wanted>(
     ensures most { made.new ≤ made.old + cost_from (W.wants wanted.now) number s.now b.now first tree.now }
     ensures looks { looks.new ≤ looks.old + visits_from (W.wants wanted.now) first tree.now }
 {
-    let outer = open_block(alloc, wanted, number, s, b, local, made)?;
+    block_itself(wanted, number, s, b, local, made)?;
+    match first {
+        Some(_) => {}
+        None => return Ok(()),
+    }
+    let outer = open_line(alloc, local);
     those_below(
         alloc, tree, wanted, number, s, b, first, local, layers, made, looks,
     )?;
-    close_block(local, outer)?;
+    close_line(local, outer)?;
     Ok(())
 }
 

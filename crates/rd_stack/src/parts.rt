@@ -1,5 +1,6 @@
 //! The leaves of a box.
-ghost use Rattle.std.specs.Prelude.{◌≡◌, Some};
+ghost use Rattle.std.specs.Prelude.{◌≡◌, Some, option_map};
+ghost use Rattle.rd_stack.specs.Clips.{padding_box};
 ghost use Rattle.rd_stack.specs.Parts as parts;
 
 use crate::clip::{clip_of, padding_box};
@@ -45,19 +46,36 @@ fn background(canvas: &Rect, root: bool, b: &BoxData) -> Rect
 fn shape_of(canvas: &Rect, root: bool, b: &BoxData, part: Part) -> Option<(Shape, Color)>
     ensures { result ≡ parts.shape_of canvas.now root b.now part }
 {
-    let style = b.style();
     match part {
-        Part::Back => Some((solid(background(canvas, root, b)), style.background)),
-        Part::Border => border(b),
-        Part::Content => match style.content {
-            Some(color) => Some((solid(padding_box(b)), color)),
-            None => None,
-        },
-        Part::Outline => outline(b),
+        Part::Back => Some((back_of(canvas, root, b), b.style().background)),
+        Part::Border => border_of(b),
+        Part::Content => content_of(b),
+        Part::Outline => outline_of(b),
     }
 }
 
-fn border(b: &BoxData) -> Option<(Shape, Color)>
+/// The shape of the background.
+#[inline(always)]
+pub fn back_of(canvas: &Rect, root: bool, b: &BoxData) -> Shape
+    ensures { result ≡ parts.solid (parts.background canvas.now root b.now) }
+{
+    solid(background(canvas, root, b))
+}
+
+/// The shape and the colour of the content, where there is one.
+#[inline(always)]
+pub fn content_of(b: &BoxData) -> Option<(Shape, Color)>
+    ensures { result ≡ option_map (λ c. (parts.solid (padding_box b.now), c)) b.now.style.content }
+{
+    match b.style().content {
+        Some(color) => Some((solid(padding_box(b)), color)),
+        None => None,
+    }
+}
+
+/// The shape and the colour of the border, where there is one.
+#[inline(always)]
+pub fn border_of(b: &BoxData) -> Option<(Shape, Color)>
     ensures { result ≡ parts.border b.now }
 {
     if has_border(&b.style().border_width) {
@@ -67,7 +85,9 @@ fn border(b: &BoxData) -> Option<(Shape, Color)>
     }
 }
 
-fn outline(b: &BoxData) -> Option<(Shape, Color)>
+/// The shape and the colour of the outline, where there is one.
+#[inline(always)]
+pub fn outline_of(b: &BoxData) -> Option<(Shape, Color)>
     ensures { result ≡ parts.outline b.now }
 {
     if 0 < b.style.outline_width {
@@ -78,13 +98,17 @@ fn outline(b: &BoxData) -> Option<(Shape, Color)>
     }
 }
 
-fn is_seen(b: &BoxData) -> bool
+/// Is the box seen (CSS 2.2 section 11.2)?
+#[inline(always)]
+pub fn is_seen(b: &BoxData) -> bool
     ensures { result ≡ parts.is_seen b.now.style.visibility }
 {
     matches!(b.style().visibility, Visibility::Visible)
 }
 
-fn takes_hits(b: &BoxData) -> bool
+/// Can a pointer hit it?
+#[inline(always)]
+pub fn takes_hits(b: &BoxData) -> bool
     ensures { result ≡ parts.takes_hits b.now.style.pointer }
 {
     matches!(b.style().pointer, Pointer::Auto)

@@ -1,4 +1,4 @@
-use Rattle.std.proofs.Common.{◌≡◌, refl, ◌∙◌, ap, subst, ℕ, Bool}
+use Rattle.std.proofs.Common.{◌≡◌, refl, ◌∙◌, ap, arith, subst, ℕ, Bool}
 use Rattle.std.specs.Prelude.{Option, Some, None, OnOk}
 use Rattle.rd_geom.specs.Plane.{Rectangle}
 use Rattle.rd_keys.specs.Keys.{BoxKey, same_key}
@@ -17,8 +17,8 @@ use Rattle.rd_partial.specs.Internal.Given.{gives}
 use Rattle.rd_partial.specs.Internal.Held.{held}
 use Rattle.rd_partial.specs.Internal.Looked.{here_of}
 use Rattle.rd_partial.specs.Internal.Work.{passes}
-use Rattle.rd_partial.proofs.Arms.{over_known, two_joined, context_order, aside_order, float_arm, atom_arm, inline_arm, block_arm, auto_arm, real_arm}
-use Rattle.rd_partial.proofs.Kids.{kept_one, kept_end, kept_most, live_next, onward_as, passes_none, cost_none_below}
+use Rattle.rd_partial.proofs.Arms.{over_known, two_joined, context_order, aside_order, float_arm, atom_arm, inline_arm, block_arm, lone_arm, auto_arm, real_arm}
+use Rattle.rd_partial.proofs.Kids.{kept_one, kept_end, kept_most, live_next, onward_as, passes_none, passes_of_none, cost_none_below, cost_of_none}
 use Rattle.rd_partial.proofs.Filled.{filled}
 use Rattle.rd_partial.proofs.Searching.{kept_over}
 use Rattle.rd_partial.proofs.walk.+build.Goals as goal
@@ -48,17 +48,30 @@ atom-returns-clause-list g t c =
 
 pub inline-returns-clause-list : goal.inline-returns-clause-list
 inline-returns-clause-list g t c =
-    inline_arm (g.W.Wanted.wants c.args.wanted.now) c.args.number c.args.s.now c.args.b.now (inner (g.W.Wanted.wants c.args.wanted.now) c.args.number c.args.s.now c.args.b.now c.args.first c.args.tree.now.boxes) c.args.local.now c.args.layers.now c.give.new.out c.give-2.new.out (held c.those_below.new.local c.those_below.new.layers) c.requires.class
+    inline_arm (g.W.Wanted.wants c.args.wanted.now) c.args.number c.args.s.now c.args.b.now (inner (g.W.Wanted.wants c.args.wanted.now) c.args.number c.args.s.now c.args.b.now c.args.first c.args.tree.now.boxes) c.args.local.now c.args.layers.now c.give_content.new.out c.give_outline.new.out (held c.those_below.new.local c.those_below.new.layers) c.requires.class
     c.in_ok-those_below.ensures.list
-    (over_known (laid_out c.give.new.out) (laid_out c.back_border.new.out) (gives (g.W.Wanted.wants c.args.wanted.now) c.args.number c.args.s.now c.args.b.now Content) (laid_out c.args.local.now.line ▷ ((gives (g.W.Wanted.wants c.args.wanted.now) c.args.number c.args.s.now c.args.b.now Back) ▷ (gives (g.W.Wanted.wants c.args.wanted.now) c.args.number c.args.s.now c.args.b.now Border))) c.in_ok-give.ensures.list c.in_ok-back_border.ensures.list)
-    c.in_ok-give-2.ensures.list
+    (over_known (laid_out c.give_content.new.out) (laid_out c.back_border.new.out) (gives (g.W.Wanted.wants c.args.wanted.now) c.args.number c.args.s.now c.args.b.now Content) (laid_out c.args.local.now.line ▷ ((gives (g.W.Wanted.wants c.args.wanted.now) c.args.number c.args.s.now c.args.b.now Back) ▷ (gives (g.W.Wanted.wants c.args.wanted.now) c.args.number c.args.s.now c.args.b.now Border))) c.in_ok-give_content.ensures.list c.in_ok-back_border.ensures.list)
+    c.in_ok-give_outline.ensures.list
+
+pub block-same-outer : goal.block-same-outer
+block-same-outer g t c = refl
+
+pub block-returns-in-None-clause-list : goal.block-returns-in-None-clause-list
+block-returns-in-None-clause-list g t c =
+    lone_arm (g.W.Wanted.wants c.args.wanted.now) c.args.number c.args.s.now c.args.b.now (inner (g.W.Wanted.wants c.args.wanted.now) c.args.number c.args.s.now c.args.b.now c.args.first c.args.tree.now.boxes) c.args.local.now c.args.layers.now c.block_itself.new.local c.requires.class (passes_of_none (g.W.Wanted.wants c.args.wanted.now) c.args.number (standing.below c.args.s.now c.args.b.now) c.args.first c.args.tree.now.boxes c.in-None.is)
+    c.in_ok-block_itself.ensures.floats c.in_ok-block_itself.ensures.backgrounds c.in_ok-block_itself.ensures.line c.in_ok-block_itself.ensures.contents c.in_ok-block_itself.ensures.outlines
+
+pub block-returns-in-None-clause-made : goal.block-returns-in-None-clause-made
+block-returns-in-None-clause-made g t c =
+    let none = cost_of_none (g.W.Wanted.wants c.args.wanted.now) c.args.number (standing.below c.args.s.now c.args.b.now) c.args.first c.args.tree.now.boxes c.in-None.is in omega (arith, none, c.in_ok-block_itself.ensures.made)
 
 pub block-returns-clause-list : goal.block-returns-clause-list
 block-returns-clause-list g t c =
-    block_arm (g.W.Wanted.wants c.args.wanted.now) c.args.number c.args.s.now c.args.b.now (inner (g.W.Wanted.wants c.args.wanted.now) c.args.number c.args.s.now c.args.b.now c.args.first c.args.tree.now.boxes) c.args.local.now c.args.layers.now c.open_block.new.local c.those_below.new.local c.close_block.new.local c.those_below.new.layers c.in_ok-outer.outer.line c.in_ok-outer.outer.contents c.requires.class c.in_ok-outer.ensures.outer.0 c.in_ok-outer.ensures.outer.1
-    c.in_ok-outer.ensures.floats c.in_ok-outer.ensures.backgrounds c.in_ok-outer.ensures.line c.in_ok-outer.ensures.contents c.in_ok-outer.ensures.outlines
+    block_arm (g.W.Wanted.wants c.args.wanted.now) c.args.number c.args.s.now c.args.b.now (inner (g.W.Wanted.wants c.args.wanted.now) c.args.number c.args.s.now c.args.b.now c.args.first c.args.tree.now.boxes) c.args.local.now c.args.layers.now c.block_itself.new.local c.open_line-outer.new.local c.those_below.new.local c.close_line.new.local c.those_below.new.layers c.open_line-outer.result c.requires.class
+    c.in_ok-block_itself.ensures.floats c.in_ok-block_itself.ensures.backgrounds c.in_ok-block_itself.ensures.line c.in_ok-block_itself.ensures.contents c.in_ok-block_itself.ensures.outlines
+    c.open_line-outer.ensures.outer c.open_line-outer.ensures.backgrounds c.open_line-outer.ensures.floats c.open_line-outer.ensures.line c.open_line-outer.ensures.contents c.open_line-outer.ensures.outlines
     c.in_ok-those_below.ensures.list
-    c.in_ok-close_block.ensures.backgrounds c.in_ok-close_block.ensures.floats c.in_ok-close_block.ensures.line c.in_ok-close_block.ensures.contents c.in_ok-close_block.ensures.outlines
+    c.in_ok-close_line.ensures.backgrounds c.in_ok-close_line.ensures.floats c.in_ok-close_line.ensures.line c.in_ok-close_line.ensures.contents c.in_ok-close_line.ensures.outlines
 
 pub auto_layer-returns-clause-list : goal.auto_layer-returns-clause-list
 auto_layer-returns-clause-list g t c =

@@ -1,5 +1,0 @@
-use Rattle.std.proofs.Common.{refl}
-use Rattle.rd_partial.proofs.walk.close_block.Goals as goal
-
-pub same-contents : goal.same-contents
-same-contents g c = refl
