@@ -1,9 +1,9 @@
 #!/usr/bin/env python3
 """What one edit with its paint costs: `python3 bench/paints.py [--instructions|--long] PROGRAM [NAME=PROGRAM ..]`.
 
-Each scene is painted once, and then a paint follows each edit. A scene comes with K and with 2K edits, the first K of
-them the same, and the difference of the two runs over K is the cost of one edit with its paint, without start, reading
-and the first paint. It prints processor time (the least of three runs); with --instructions also what callgrind of
+Each scene is painted once, and then a paint follows each edit, or every tenth. A scene comes with K and with 2K edits,
+the first K of them the same, and the difference of the two runs over K is the cost of one edit with its paint, or a tenth
+of a paint, without start, reading and the first paint. It prints processor time (the least of three runs); with --instructions also what callgrind of
 valgrind counts, which is the same on every run. Any program that reads the same scripts may stand beside.
 With --long it prints what an edit with its paint costs in each of five stretches of 2,000 paints, from one run each.
 Run by hand; nothing in the gate looks at time.
@@ -83,25 +83,64 @@ def chain(count, rng):
     ]
 
 
-def scene(kind, count, edits):
+def tinted(found, number, rng):
+    """Another background of a box."""
+    return {"do": "style", "id": found[rng.randrange(len(found))]["id"], "style": {"background": ink(rng)}}
+
+
+def mixed(found, number, rng):
+    """An edit of any kind: half of them styles, and of the rest rectangles and shifts most."""
+    one, other = (found[rng.randrange(len(found))] for _ in range(2))
+    x, y, w, h = one["rect"]
+    kind = rng.random()
+    if kind < 0.5:
+        return tinted(found, number, rng)
+    if kind < 0.7:
+        rect = [x + rng.randint(-9, 9), y + rng.randint(-9, 9), max(w + rng.randint(-9, 9), 0), h]
+        return {"do": "rect", "id": one["id"], "rect": rect}
+    if kind < 0.8:
+        return {"do": "shift", "id": one["id"], "dx": rng.randint(-8, 8), "dy": rng.randint(-8, 8)}
+    if kind < 0.9:
+        new = [x + rng.randrange(max(w, 1)), y + rng.randrange(max(h, 1)), 40, 30]
+        style = {"background": ink(rng)}
+        return {"do": "insert", "id": f"n{number}", "parent": one["id"], "rect": new, "style": style}
+    if kind < 0.95:
+        return {"do": "remove", "id": one["id"]}
+    return {"do": "move", "id": one["id"], "parent": other["id"]}
+
+
+def scrolled(found, number, rng):
+    """The largest subtree goes up by three pixels."""
+    below = {box["id"]: 1 for box in found}
+    for box in reversed(found):
+        if box["parent"] in below:
+            below[box["parent"]] += below[box["id"]]
+    return {"do": "shift", "id": max(below, key=below.get), "dx": 0, "dy": -3}
+
+
+def scene(kind, count, edits, edit=tinted, each=1):
+    """A tree, a paint, and so many edits, a paint after as many of them each time."""
     (w, h), found = kind(count, random.Random(1))
     root = {"id": "b0", "parent": None, "rect": [0, 0, w, h], "style": {"background": "#ffffff"}}
     rng = random.Random(2)
     commands = [{"do": "paint"}]
-    for _ in range(edits):
-        one = found[rng.randrange(len(found))]
-        commands.append({"do": "style", "id": one["id"], "style": {"background": ink(rng)}})
-        commands.append({"do": "paint"})
+    for number in range(edits):
+        commands.append(edit(found, number, rng))
+        if (number + 1) % each == 0:
+            commands.append({"do": "paint"})
     return json.dumps({"version": 1, "canvas": {"w": w, "h": h}, "boxes": [root] + found, "script": commands})
 
 
 SCENES = [
-    (name, kind, count, edits)
-    for name, kind, sizes, edits in (
-        ("page", page, (1000, 5000, 20000), 200),
-        ("flat", flat, (1000, 5000, 20000), 50),
-        ("spread", spread, (1000, 5000, 20000), 200),
-        ("nested", nested, (64, 128, 250), 50),
+    (name, kind, count, edits, edit, each)
+    for name, kind, sizes, edits, edit, each in (
+        ("page", page, (1000, 5000, 20000), 200, tinted, 1),
+        ("page, mixed edits", page, (1000, 5000, 20000), 200, mixed, 1),
+        ("page, mixed edits, a paint after ten", page, (1000, 5000, 20000), 200, mixed, 10),
+        ("page, scrolled", page, (1000, 5000, 20000), 20, scrolled, 1),
+        ("flat", flat, (1000, 5000, 20000), 50, tinted, 1),
+        ("spread", spread, (1000, 5000, 20000), 200, tinted, 1),
+        ("nested", nested, (64, 128, 250), 10, tinted, 1),
     )
     for count in sizes
 ]
@@ -159,9 +198,9 @@ def main():
     columns = [f"{name}, {unit}" for name, _ in programs for unit in units]
     print("| Scene, boxes | " + " | ".join(columns) + " |")
     print("|---|" + "---|" * len(columns))
-    for name, kind, count, edits in SCENES:
+    for name, kind, count, edits, edit, each in SCENES:
         with tempfile.TemporaryDirectory() as folder:
-            paths = [written(folder, str(k), scene(kind, count, k * edits)) for k in (1, 2)]
+            paths = [written(folder, str(k), scene(kind, count, k * edits, edit, each)) for k in (1, 2)]
             cells = []
             for _, program in programs:
                 first, second = (seconds(program, path) for path in paths)
