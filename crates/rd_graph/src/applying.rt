@@ -8,6 +8,7 @@ ghost use Rattle.rd_graph.specs.Internal.Taking.{KeepsOthers};
 
 use crate::before::{Before, nothing};
 use crate::graph::Node;
+use crate::lining_up::{gather_rising, is_rising};
 use std::alloc::Global;
 use std::mem;
 
@@ -76,11 +77,30 @@ fn gather(
     }
 }
 
-/// The nodes as they are, or old and made ones in a line.
-pub(crate) fn in_line(
+/// Moves old and made nodes to the end of `room`, which has capacity for them. In one pass where each rise.
+fn line_up(
     alloc: Global,
     mut nodes: Vec<Node>,
     mut made: Vec<Node>,
+    line: &[usize],
+    room: &mut Vec<Node>,
+)
+    requires places { ArePlaces line.now (vec_len nodes + vec_len made) }
+    requires room { vec_len room.old + length line.now ≤ vec_capacity room.old }
+    ensures { room.new.items ≡ room.old.items ++ gathered line.now (nodes.items ++ made.items) }
+{
+    if is_rising(line, nodes.len(), made.len()) {
+        gather_rising(nodes, made, line, room);
+        return;
+    }
+    gather(alloc, &mut nodes, &mut made, line, room);
+}
+
+/// The nodes as they are, or old and made ones in a line.
+pub(crate) fn in_line(
+    alloc: Global,
+    nodes: Vec<Node>,
+    made: Vec<Node>,
     line: Option<Vec<usize>>,
     mut room: Vec<Node>,
 ) -> Vec<Node>
@@ -92,7 +112,7 @@ pub(crate) fn in_line(
     match line {
         None => nodes,
         Some(line) => {
-            gather(alloc, &mut nodes, &mut made, &line, &mut room);
+            line_up(alloc, nodes, made, &line, &mut room);
             room
         }
     }

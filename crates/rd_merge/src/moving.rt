@@ -1,18 +1,17 @@
 //! Entries of a level are moved to their places, and nothing takes memory.
 ghost use Rattle.std.specs.Prelude.{◌≡◌, ◌<◌, ◌≤◌, ◌+◌, ◌∷◌, ◌++◌, [], true, drop, slice_index_or, vec_len, vec_capacity, length, option_map};
-ghost use Rattle.std.specs.Vec.Iter.{into_iter_items};
 ghost use Rattle.rd_graph.specs.Gathered.{gathered, ArePlaces, IsLine};
 ghost use Rattle.rd_list.specs.Entries.{◌▷◌};
 ghost use Rattle.rd_list.specs.KeptView.{kept_entries};
 ghost use Rattle.rd_merge.specs.Plans.{arranged_entries, IsPlace, one_made, put_entry};
-ghost use Rattle.rd_merge.specs.Internal.Moving.{KeepsOthers, NoneMade, Rises};
+ghost use Rattle.rd_merge.specs.Internal.Moving.{KeepsOthers, NoneMade};
 ghost use Rattle.rd_merge.specs.Internal.PlanRoom.{HasLineRoom};
 
+use rd_graph::{gather_rising, is_rising};
 use rd_list::{Entry, Group, Kept};
 use std::alloc::Global;
 use std::mem;
 use std::sync::ledger::Ledger;
-use std::vec::IntoIter;
 
 /// Takes an entry out of its place, and leaves a group without entries there.
 pub(crate) fn take_at<A: Ledger>(alloc: Global, entries: &mut Vec<Entry<A>>, i: usize) -> Entry<A>
@@ -99,85 +98,6 @@ fn gather<A: Ledger>(
         let entry = take_entry(alloc, entries, made, *p);
         if room.push(entry).is_err() {
             return;
-        }
-    }
-}
-
-/// Do the places of old entries rise, and those of made ones, which are counted on from this many old ones?
-fn is_rising(line: &[usize], old: usize, made: usize) -> bool
-    requires { ArePlaces line.now (old + made) }
-    ensures { result ≡ true → Rises old 0 0 line.now }
-{
-    let mut next_old = 0;
-    let mut next_made = 0;
-    for p in line {
-        if *p < old {
-            if *p < next_old {
-                return false;
-            }
-            next_old = *p + 1;
-        } else {
-            let place = *p - old;
-            if place < next_made {
-                return false;
-            }
-            next_made = place + 1;
-        }
-    }
-    true
-}
-
-/// Drops the next so many entries.
-#[inline(always)]
-fn pass_over<A: Ledger>(rest: &mut IntoIter<Entry<A>, Global>, passed: usize)
-    ensures { into_iter_items rest.new ≡ drop passed (into_iter_items rest.old) }
-{
-    for _ in 0..passed {
-        let _passed = rest.next();
-    }
-}
-
-/// Takes the next entry after so many, which are dropped.
-#[inline(always)]
-fn take_after<A: Ledger>(rest: &mut IntoIter<Entry<A>, Global>, passed: usize) -> Entry<A>
-    requires { passed < length (into_iter_items rest.old) }
-    ensures taken { result ≡ slice_index_or (into_iter_items rest.old) passed result }
-    ensures left { into_iter_items rest.new ≡ drop (passed + 1) (into_iter_items rest.old) }
-{
-    pass_over(rest, passed);
-    match rest.next() {
-        Some(entry) => entry,
-        None => unreachable!(),
-    }
-}
-
-/// Moves old and made entries, each in rising order, to the end of `room`, which has capacity for them.
-fn gather_rising<A: Ledger>(
-    entries: Vec<Entry<A>>,
-    made: Vec<Entry<A>>,
-    line: &[usize],
-    room: &mut Vec<Entry<A>>,
-)
-    requires rising { Rises (vec_len entries) 0 0 line.now }
-    requires places { ArePlaces line.now (vec_len entries + vec_len made) }
-    requires room { vec_len room.old + length line.now ≤ vec_capacity room.old }
-    ensures { room.new.items ≡ room.old.items ++ gathered line.now (entries.items ++ made.items) }
-{
-    let old = entries.len();
-    let mut old_rest = entries.into_iter();
-    let mut made_rest = made.into_iter();
-    let mut next_old = 0;
-    let mut next_made = 0;
-    for p in line {
-        if *p < old {
-            let entry = take_after(&mut old_rest, *p - next_old);
-            next_old = *p + 1;
-            push_made(room, entry);
-        } else {
-            let place = *p - old;
-            let entry = take_after(&mut made_rest, place - next_made);
-            next_made = place + 1;
-            push_made(room, entry);
         }
     }
 }

@@ -20,12 +20,6 @@ abbrev pub NoneMade : Option (List ℕ) → ℕ → Type 0
 NoneMade None n = n ≡ 0
 NoneMade (Some line) n = Unit {0}
 
--- In a line over n old entries and made ones counted on from them, the places of old ones rise, none before `old`,
--- and those of made ones rise, none before `made`.
-abbrev pub Rises : ℕ → ℕ → ℕ → List ℕ → Type 0
-Rises n old made [] = Unit {0}
-Rises n old made (p ∷ ps) = ((p < n) × (old ≤ p) × Rises n (suc p) made ps) ⊎ ((n + made ≤ p) × Rises n old (suc (p - n)) ps)
-
 -- the new entries that are left after the first of these steps
 abbrev pub left_after : Steps → Entries Wrapper Made → Entries Wrapper Made
 left_after nil fresh = fresh
