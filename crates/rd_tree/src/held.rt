@@ -1,6 +1,6 @@
 //! The nodes of a tree. Beside each stands what a walk reads of its box, in a table by slot, so that a walk opens only the
 //! nodes of boxes with which it has something to do.
-ghost use Rattle.std.specs.Prelude.{◌≡◌, ◌+◌, ◌<◌, ◌≤◌, IfOk, IfNone, OnErr, OnSome, option_copied, option_map, true};
+ghost use Rattle.std.specs.Prelude.{◌≡◌, ◌+◌, ◌<◌, ◌≤◌, IfOk, IfNone, OnErr, OnSome, option_copied, option_map, Some, is_some, true};
 ghost use Rattle.std.specs.Option.{option_map_or};
 ghost use Rattle.rd_keys.specs.Arena.{empty_arena, live, occupied, retired, value, without_value, Enters};
 ghost use Rattle.rd_keys.specs.Keys.{same_key};
@@ -92,6 +92,26 @@ impl Nodes {
             Some(self.glances[at])
         } else {
             None
+        }
+    }
+
+    /// What a walk reads of the box under a live key.
+    #[inline(always)]
+    pub(crate) fn glance_at_live(&self, key: BoxKey) -> Glance
+        requires live { is_some (value self.now key.slot key.generation) ≡ true }
+        ensures { Some result ≡ option_map (glance_of key.generation) (value self.now key.slot key.generation) }
+    {
+        self.glances[key.slot() as usize]
+    }
+
+    /// Is a key live, if there is one?
+    #[inline(always)]
+    pub(crate) fn is_live_or_none(&self, key: Option<BoxKey>) -> bool
+        ensures { result ≡ option_map_or (λ k. is_some (value self.now k.slot k.generation)) key true }
+    {
+        match key {
+            Some(key) => self.glance(key).is_some(),
+            None => true,
         }
     }
 

@@ -1,6 +1,7 @@
 -- What a look among siblings tells of those that come after.
 use Rattle.std.proofs.Common.{◌≡◌, refl, ap, ◌∙◌, sym, subst, Bool, true, false, ℕ, ◌+◌, ◌<◌, arith}
-use Rattle.std.specs.Prelude.{Option, Some, None, option_map, nat_lt}
+use Rattle.std.specs.Prelude.{Option, Some, None, option_map, is_some, nat_lt}
+use Rattle.std.specs.Option.{option_map_or}
 use Rattle.rd_geom.specs.Plane.{hull_of}
 use Rattle.rd_keys.specs.Keys.{same_key}
 use Rattle.rd_keys.specs.Arena.{Arena, value}
@@ -8,14 +9,14 @@ use Rattle.rd_keys.proofs.Keys.{same_key-sound, same_key-refl}
 use Rattle.rd_tree.specs.declared.node.Node as inner
 use Rattle.rd_tree.specs.declared.glance.Glance.{Glance}
 use Rattle.rd_tree.specs.declared.table.row.Summary.{Summary}
-use Rattle.rd_tree.specs.Forest.{empty, tree, has, size, starting_at, from_some}
+use Rattle.rd_tree.specs.Forest.{empty, tree, has, head, size, starting_at, from_some}
 use Rattle.rd_tree.specs.Document.{BoxKey, Item, BoxForest}
 use Rattle.rd_tree.specs.Hulls.{extent, hull_in, any_touched}
 use Rattle.rd_tree.specs.Seeking.{siblings_from, looks_until}
 use Rattle.rd_tree.specs.Internal.Glances.{glance_of}
 use Rattle.rd_tree.specs.Internal.Linked.{plain, linked, IsTree, seen}
 use Rattle.rd_tree.specs.Internal.Summaries.{summary_of}
-use Rattle.rd_tree.proofs.Linking.Standing.{refute}
+use Rattle.rd_tree.proofs.Linking.Standing.{refute, never}
 use Rattle.rd_tree.proofs.Nodes.Grow.{seen_is, live_if_in}
 use Rattle.rd_tree.proofs.Nodes.Looking.{Begins, begins, nothing_from, from_next, apart_seen}
 use Rattle.rd_tree.proofs.Summaries.Sums.{any_touched-is}
@@ -26,6 +27,7 @@ pub record Met (f : BoxForest) (k : BoxKey) (y : Glance) (row : Summary) : Type 
   pub below : BoxForest
   pub rest : BoxForest
   pub is : starting_at same_key k f ≡ tree k item below rest
+  pub after : y.next ≡ head rest
   pub next : from_some same_key y.next f ≡ rest
   pub touched : y.touched ≡ item.touched
   pub touched_below : nat_lt 0 row.touched ≡ any_touched below
@@ -53,6 +55,7 @@ met a root k y row t v table = at (value a k.slot k.generation) refl v where
         below = b.below;
         rest = b.rest;
         is = is;
+        after = ap (λ z. z.next) is_y ∙ b.next;
         next = ap (λ z. from_some same_key z.next (seen a root)) is_y ∙ (ap (λ o. from_some same_key o (seen a root)) b.next
             ∙ from_next same_key same_key-sound same_key-refl (seen a root) b.below b.rest k k x.item (apart_seen a root t) is);
         touched = ap (λ z. z.touched) is_y;
@@ -64,6 +67,32 @@ met a root k y row t v table = at (value a k.slot k.generation) refl v where
 pub none_met : (a : Arena inner.Node) (root k : BoxKey) → IsTree a root → None ≡ value a k.slot k.generation → starting_at same_key k (seen a root) ≡ empty
 none_met a root k t h =
     nothing_from same_key same_key-sound same_key-refl k (seen a root) (refute (has same_key k (seen a root)) (λ m. live_if_in a root k t m (sym h)))
+
+-- A key, if there is one, is live.
+abbrev pub IsLiveIfAny : Arena inner.Node → Option BoxKey → Type 0
+IsLiveIfAny a o = option_map_or (λ k. is_some (value a k.slot k.generation)) o true ≡ true
+
+-- From a first key that is not live no box begins.
+pub dead_begins : (a : Arena inner.Node) (root : BoxKey) (first : Option BoxKey) → IsTree a root
+    → option_map_or (λ k. is_some (value a k.slot k.generation)) first true ≡ false → from_some same_key first (seen a root) ≡ empty
+dead_begins a root None t h = cc
+dead_begins a root (Some k) t h = at (value a k.slot k.generation) refl where
+  at : (o : Option inner.Node) → value a k.slot k.generation ≡ o → starting_at same_key k (seen a root) ≡ empty
+  at None e = none_met a root k t (sym e)
+  at (Some x) e = absurd (never (is_some (value a k.slot k.generation)) (ap is_some e) h)
+
+-- The sibling after a box is live.
+pub next_live : (a : Arena inner.Node) (root k : BoxKey) (y : Glance) (row : Summary) → IsTree a root → Met (seen a root) k y row → IsLiveIfAny a y.next
+next_live a root k y row t m = at y.next refl where
+  at : (o : Option BoxKey) → y.next ≡ o → IsLiveIfAny a o
+  at None e = refl
+  at (Some j) e = on (value a j.slot j.generation) refl where
+    on : (o : Option inner.Node) → value a j.slot j.generation ≡ o → is_some (value a j.slot j.generation) ≡ true
+    on (Some x) h = ap is_some h
+    on None h =
+        let gone : m.rest ≡ empty = sym m.next ∙ (ap (λ o. from_some same_key o (seen a root)) e ∙ none_met a root j t (sym h)) in
+        let none : Some j ≡ None = sym e ∙ (m.after ∙ ap head gone) in
+        cc (none)
 
 -- What the search keeps: it comes to what it comes to from the first one on, and with as many looks.
 pub record Seeks (test : Item → BoxForest → Bool) (f : BoxForest) (first at : Option BoxKey) (looks0 looks : ℕ) : Type 0 where

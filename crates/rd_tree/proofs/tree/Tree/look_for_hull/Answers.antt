@@ -1,15 +1,13 @@
-use Rattle.std.proofs.Common.{◌≡◌, sym, ap, ◌∙◌, refl, true}
-use Rattle.std.specs.Prelude.{None}
+use Rattle.std.proofs.Common.{◌≡◌, sym, ap, ◌∙◌, refl, true, arith}
 use Rattle.rd_keys.specs.Keys.{same_key}
 use Rattle.rd_tree.specs.Forest.{empty, has, from_some}
 use Rattle.rd_tree.specs.Shown.{shown}
 use Rattle.rd_tree.specs.Seeking.{reaches, hull_reaches}
 use Rattle.rd_tree.specs.Internal.Summaries.{summary_of, summary_at}
 use Rattle.rd_tree.specs.Internal.Linked.{seen}
-use Rattle.rd_tree.proofs.Nodes.Glances.{no_glance}
 use Rattle.rd_tree.proofs.Nodes.Looking.{looks, apart_seen}
 use Rattle.rd_tree.proofs.Nodes.Naming.{fits_seen}
-use Rattle.rd_tree.proofs.Nodes.Seeking.{Met, met, none_met, seek_on, seek_found, seek_ends, seek_fewer}
+use Rattle.rd_tree.proofs.Nodes.Seeking.{Met, met, dead_begins, next_live, seek_on, seek_found, seek_fewer}
 use Rattle.rd_tree.proofs.tree.Tree.look_for_hull.Goals as goal
 
 pub returns-then-reaches-clause-seen : goal.returns-then-reaches-clause-seen
@@ -17,10 +15,10 @@ returns-then-reaches-clause-seen g c =
     let row : has same_key c.in-Some.key (seen c.self.inside.nodes c.self.inside.root) ≡ true → c.row_at-row.result
     ≡ summary_of c.in-Some.key (seen c.self.inside.nodes c.self.inside.root) = λ h. c.row_at-row.ensures ∙ (ap (λ rows. summary_at rows c.in-Some.key) c.deref.ensures.value
     ∙ c.self.invariant.table.right c.in-Some.key h) in
-    let m : Met (seen c.self.inside.nodes c.self.inside.root) c.in-Some.key c.in-Some-glance.glance c.row_at-row.result = met c.self.inside.nodes
-    c.self.inside.root c.in-Some.key c.in-Some-glance.glance c.row_at-row.result c.self.invariant.sound.tree c.in-Some-glance.ensures row in
+    let m : Met (seen c.self.inside.nodes c.self.inside.root) c.in-Some.key c.glance_at_live-glance.result c.row_at-row.result = met c.self.inside.nodes
+    c.self.inside.root c.in-Some.key c.glance_at_live-glance.result c.row_at-row.result c.self.invariant.sound.tree c.glance_at_live-glance.ensures row in
     let found = seek_found (hull_reaches c.args.rect) (seen c.self.inside.nodes c.self.inside.root) c.args.first c.loop-at.at c.args.steps.now c.loop-at.steps c.tick.new.self
-    c.loop-at.invariant c.in-Some.key c.in-Some-glance.glance c.row_at-row.result m c.in-Some.is (ap (reaches c.args.rect) (sym m.hull) ∙ (sym c.reaches.ensures ∙ c.if-reaches.true)) c.tick.ensures in
+    c.loop-at.invariant.seeks c.in-Some.key c.glance_at_live-glance.result c.row_at-row.result m c.in-Some.is (ap (reaches c.args.rect) (sym m.hull) ∙ (sym c.reaches.ensures ∙ c.if-reaches.true)) c.tick.ensures in
     rw (← c.self.view_is) (c.view_at.ensures ∙ (looks c.self.inside.nodes c.self.inside.root c.in-Some.key c.row_at-row.result
     c.self.invariant.sound.tree row ∙ ap (shown c.self.inside.root) found.0))
 
@@ -29,10 +27,10 @@ returns-then-reaches-clause-ticks g c =
     let row : has same_key c.in-Some.key (seen c.self.inside.nodes c.self.inside.root) ≡ true → c.row_at-row.result
     ≡ summary_of c.in-Some.key (seen c.self.inside.nodes c.self.inside.root) = λ h. c.row_at-row.ensures ∙ (ap (λ rows. summary_at rows c.in-Some.key) c.deref.ensures.value
     ∙ c.self.invariant.table.right c.in-Some.key h) in
-    let m : Met (seen c.self.inside.nodes c.self.inside.root) c.in-Some.key c.in-Some-glance.glance c.row_at-row.result = met c.self.inside.nodes
-    c.self.inside.root c.in-Some.key c.in-Some-glance.glance c.row_at-row.result c.self.invariant.sound.tree c.in-Some-glance.ensures row in
+    let m : Met (seen c.self.inside.nodes c.self.inside.root) c.in-Some.key c.glance_at_live-glance.result c.row_at-row.result = met c.self.inside.nodes
+    c.self.inside.root c.in-Some.key c.glance_at_live-glance.result c.row_at-row.result c.self.invariant.sound.tree c.glance_at_live-glance.ensures row in
     let found = seek_found (hull_reaches c.args.rect) (seen c.self.inside.nodes c.self.inside.root) c.args.first c.loop-at.at c.args.steps.now c.loop-at.steps c.tick.new.self
-    c.loop-at.invariant c.in-Some.key c.in-Some-glance.glance c.row_at-row.result m c.in-Some.is (ap (reaches c.args.rect) (sym m.hull) ∙ (sym c.reaches.ensures ∙ c.if-reaches.true)) c.tick.ensures in
+    c.loop-at.invariant.seeks c.in-Some.key c.glance_at_live-glance.result c.row_at-row.result m c.in-Some.is (ap (reaches c.args.rect) (sym m.hull) ∙ (sym c.reaches.ensures ∙ c.if-reaches.true)) c.tick.ensures in
     rw (← c.self.view_is) found.1
 
 pub loop-at-smaller : goal.loop-at-smaller
@@ -40,36 +38,35 @@ loop-at-smaller g c =
     let row : has same_key c.in-Some.key (seen c.self.inside.nodes c.self.inside.root) ≡ true → c.row_at-row.result
     ≡ summary_of c.in-Some.key (seen c.self.inside.nodes c.self.inside.root) = λ h. c.row_at-row.ensures ∙ (ap (λ rows. summary_at rows c.in-Some.key) c.deref.ensures.value
     ∙ c.self.invariant.table.right c.in-Some.key h) in
-    let m : Met (seen c.self.inside.nodes c.self.inside.root) c.in-Some.key c.in-Some-glance.glance c.row_at-row.result = met c.self.inside.nodes
-    c.self.inside.root c.in-Some.key c.in-Some-glance.glance c.row_at-row.result c.self.invariant.sound.tree c.in-Some-glance.ensures row in
-    seek_fewer (hull_reaches c.args.rect) (seen c.self.inside.nodes c.self.inside.root) c.args.first c.loop-at.at c.args.steps.now c.loop-at.steps c.tick.new.self c.loop-at.invariant
-    c.in-Some.key c.in-Some-glance.glance c.row_at-row.result m c.in-Some.is
+    let m : Met (seen c.self.inside.nodes c.self.inside.root) c.in-Some.key c.glance_at_live-glance.result c.row_at-row.result = met c.self.inside.nodes
+    c.self.inside.root c.in-Some.key c.glance_at_live-glance.result c.row_at-row.result c.self.invariant.sound.tree c.glance_at_live-glance.ensures row in
+    seek_fewer (hull_reaches c.args.rect) (seen c.self.inside.nodes c.self.inside.root) c.args.first c.loop-at.at c.args.steps.now c.loop-at.steps c.tick.new.self c.loop-at.invariant.seeks
+    c.in-Some.key c.glance_at_live-glance.result c.row_at-row.result m c.in-Some.is
 
 pub loop-at-preserved : goal.loop-at-preserved
 loop-at-preserved g c =
     let row : has same_key c.in-Some.key (seen c.self.inside.nodes c.self.inside.root) ≡ true → c.row_at-row.result
     ≡ summary_of c.in-Some.key (seen c.self.inside.nodes c.self.inside.root) = λ h. c.row_at-row.ensures ∙ (ap (λ rows. summary_at rows c.in-Some.key) c.deref.ensures.value
     ∙ c.self.invariant.table.right c.in-Some.key h) in
-    let m : Met (seen c.self.inside.nodes c.self.inside.root) c.in-Some.key c.in-Some-glance.glance c.row_at-row.result = met c.self.inside.nodes
-    c.self.inside.root c.in-Some.key c.in-Some-glance.glance c.row_at-row.result c.self.invariant.sound.tree c.in-Some-glance.ensures row in
-    seek_on (hull_reaches c.args.rect) (seen c.self.inside.nodes c.self.inside.root) c.args.first c.loop-at.at c.args.steps.now c.loop-at.steps c.tick.new.self c.loop-at.invariant
-    c.in-Some.key c.in-Some-glance.glance c.row_at-row.result m c.in-Some.is (ap (reaches c.args.rect) (sym m.hull) ∙ (sym c.reaches.ensures ∙ c.if-reaches.false)) c.tick.ensures
+    let m : Met (seen c.self.inside.nodes c.self.inside.root) c.in-Some.key c.glance_at_live-glance.result c.row_at-row.result = met c.self.inside.nodes
+    c.self.inside.root c.in-Some.key c.glance_at_live-glance.result c.row_at-row.result c.self.invariant.sound.tree c.glance_at_live-glance.ensures row in
+    record {
+      seeks = seek_on (hull_reaches c.args.rect) (seen c.self.inside.nodes c.self.inside.root) c.args.first c.loop-at.at c.args.steps.now c.loop-at.steps c.tick.new.self c.loop-at.invariant.seeks
+          c.in-Some.key c.glance_at_live-glance.result c.row_at-row.result m c.in-Some.is (ap (reaches c.args.rect) (sym m.hull) ∙ (sym c.reaches.ensures ∙ c.if-reaches.false)) c.tick.ensures;
+      live = next_live c.self.inside.nodes c.self.inside.root c.in-Some.key c.glance_at_live-glance.result c.row_at-row.result c.self.invariant.sound.tree m;
+    }
 
-pub returns-in-None-clause-seen : goal.returns-in-None-clause-seen
-returns-in-None-clause-seen g c =
-    let none : from_some same_key c.loop-at.at (seen c.self.inside.nodes c.self.inside.root) ≡ empty = ap (λ o. from_some same_key o
-    (seen c.self.inside.nodes c.self.inside.root)) c.in-Some.is ∙ none_met c.self.inside.nodes c.self.inside.root c.in-Some.key
-    c.self.invariant.sound.tree (no_glance c.in-Some.key.generation _ None refl c.in-None.ensures) in
-    let ends = seek_ends (hull_reaches c.args.rect) (seen c.self.inside.nodes c.self.inside.root) c.args.first c.loop-at.at c.args.steps.now c.loop-at.steps c.loop-at.steps c.loop-at.invariant none in
-    rw (← c.self.view_is) (sym (ap (shown c.self.inside.root) ends.0))
+pub returns-then-not-is_live_or_none-clause-seen : goal.returns-then-not-is_live_or_none-clause-seen
+returns-then-not-is_live_or_none-clause-seen g c =
+    let none : from_some same_key c.args.first (seen c.self.inside.nodes c.self.inside.root) ≡ empty = dead_begins c.self.inside.nodes c.self.inside.root c.args.first
+    c.self.invariant.sound.tree (sym c.is_live_or_none.ensures ∙ c.if-not-is_live_or_none.true) in
+    rw (← c.self.view_is, none) refl
 
-pub returns-in-None-clause-ticks : goal.returns-in-None-clause-ticks
-returns-in-None-clause-ticks g c =
-    let none : from_some same_key c.loop-at.at (seen c.self.inside.nodes c.self.inside.root) ≡ empty = ap (λ o. from_some same_key o
-    (seen c.self.inside.nodes c.self.inside.root)) c.in-Some.is ∙ none_met c.self.inside.nodes c.self.inside.root c.in-Some.key
-    c.self.invariant.sound.tree (no_glance c.in-Some.key.generation _ None refl c.in-None.ensures) in
-    let ends = seek_ends (hull_reaches c.args.rect) (seen c.self.inside.nodes c.self.inside.root) c.args.first c.loop-at.at c.args.steps.now c.loop-at.steps c.loop-at.steps c.loop-at.invariant none in
-    rw (← c.self.view_is) ends.1
+pub returns-then-not-is_live_or_none-clause-ticks : goal.returns-then-not-is_live_or_none-clause-ticks
+returns-then-not-is_live_or_none-clause-ticks g c =
+    let none : from_some same_key c.args.first (seen c.self.inside.nodes c.self.inside.root) ≡ empty = dead_begins c.self.inside.nodes c.self.inside.root c.args.first
+    c.self.invariant.sound.tree (sym c.is_live_or_none.ensures ∙ c.if-not-is_live_or_none.true) in
+    rw (← c.self.view_is, none) (omega (arith))
 
 pub returns-then-reaches-clause-apart : goal.returns-then-reaches-clause-apart
 returns-then-reaches-clause-apart g c = rw (← c.self.view_is) (apart_seen c.self.inside.nodes c.self.inside.root c.self.invariant.sound.tree)
@@ -77,11 +74,11 @@ returns-then-reaches-clause-apart g c = rw (← c.self.view_is) (apart_seen c.se
 pub returns-then-reaches-clause-limits : goal.returns-then-reaches-clause-limits
 returns-then-reaches-clause-limits g c = rw (← c.self.view_is) (fits_seen c.self.inside.nodes c.self.inside.root c.self.inside.ids c.self.invariant.sound)
 
-pub returns-in-None-clause-apart : goal.returns-in-None-clause-apart
-returns-in-None-clause-apart g c = rw (← c.self.view_is) (apart_seen c.self.inside.nodes c.self.inside.root c.self.invariant.sound.tree)
+pub returns-then-not-is_live_or_none-clause-apart : goal.returns-then-not-is_live_or_none-clause-apart
+returns-then-not-is_live_or_none-clause-apart g c = rw (← c.self.view_is) (apart_seen c.self.inside.nodes c.self.inside.root c.self.invariant.sound.tree)
 
-pub returns-in-None-clause-limits : goal.returns-in-None-clause-limits
-returns-in-None-clause-limits g c = rw (← c.self.view_is) (fits_seen c.self.inside.nodes c.self.inside.root c.self.inside.ids c.self.invariant.sound)
+pub returns-then-not-is_live_or_none-clause-limits : goal.returns-then-not-is_live_or_none-clause-limits
+returns-then-not-is_live_or_none-clause-limits g c = rw (← c.self.view_is) (fits_seen c.self.inside.nodes c.self.inside.root c.self.inside.ids c.self.invariant.sound)
 
 pub returns-clause-apart : goal.returns-clause-apart
 returns-clause-apart g c = rw (← c.self.view_is) (apart_seen c.self.inside.nodes c.self.inside.root c.self.invariant.sound.tree)
