@@ -2,7 +2,7 @@
 use Rattle.std.proofs.Common.{◌≡◌, refl, ap, ◌∙◌, sym, subst, ℕ, ◌+◌, ◌<◌, ◌≤◌, Bool, true, false, ◌||◌, ◌&&◌, not, cond, List, length, arith, ◌⊎◌, inl, inr}
 use Rattle.std.specs.Prelude.{◌==◌, Option, Some, None, option_map, is_some}
 use Rattle.rd_keys.specs.Keys.{same_key}
-use Rattle.rd_keys.specs.Arena.{Arena}
+use Rattle.rd_keys.specs.Arena.{Arena, value}
 use Rattle.rd_keys.proofs.Keys.{same_key-sound, same_key-refl}
 use Rattle.rd_tree.specs.declared.node.Node as inner
 use Rattle.rd_tree.specs.declared.table.row.Summary.{Summary}
@@ -11,7 +11,7 @@ use Rattle.rd_tree.specs.Forest.{empty, tree, size, has, branch, AllItems}
 use Rattle.rd_tree.specs.Internal.Links.{Node, node, with_item, Stands, edit, on_each, child_and_sibling}
 use Rattle.rd_tree.specs.Document.{BoxKey, Item, BoxForest}
 use Rattle.rd_tree.specs.Touching.{settled}
-use Rattle.rd_tree.specs.Internal.Linked.{linked, Relinks, IsRead, IsTree, seen, seen_from}
+use Rattle.rd_tree.specs.Internal.Linked.{linked, plain, Relinks, IsRead, IsTree, seen, seen_from}
 use Rattle.rd_tree.specs.Internal.Works.{Allows}
 use Rattle.rd_tree.specs.Internal.Summaries.{summary_of, summary_at, touched_in}
 use Rattle.rd_tree.specs.Internal.Rows.{HasRows, IsTabled, Puts, unmarked, touched_under}
@@ -189,6 +189,13 @@ pub record BelowSettle (a0 a1 : Arena inner.Node) (new : List Summary) (first b 
 module _ (a0 a : Arena inner.Node) (old new : List Summary) (first : Option BoxKey) (k : BoxKey) (w : Settling a0 a old new first (Some k)) where
   h : Here a k
   h = here a k w.walked.read
+
+  -- the key of the box is live
+  pub live_key : is_some (value a k.slot k.generation) ≡ true
+  live_key = under (value a k.slot k.generation) h.found where
+    under : (o : Option inner.Node) → {x : Node BoxKey Item} → option_map plain o ≡ Some x → is_some o ≡ true
+    under None e = cc
+    under (Some y) e = refl
 
   has_here : (j : BoxKey) → has same_key j (seen_from a (Some k)) ≡ (same_key j k || (has same_key j h.below || has same_key j h.rest))
   has_here j = ap (has same_key j) h.seen

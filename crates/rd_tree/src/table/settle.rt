@@ -1,5 +1,6 @@
 //! Marks are taken off where they are.
-ghost use Rattle.std.specs.Prelude.{◌≡◌, ◌<◌, ◌==◌, length, None, if◌then◌else◌};
+ghost use Rattle.std.specs.Prelude.{◌≡◌, ◌<◌, ◌==◌, is_some, length, None, if◌then◌else◌, true};
+ghost use Rattle.rd_keys.specs.Arena.{value};
 ghost use Rattle.rd_keys.specs.Keys.{same_key};
 ghost use Rattle.rd_tree.specs.Forest.{has};
 ghost use Rattle.rd_tree.specs.Touching.{settled};
@@ -33,27 +34,20 @@ struct Settled {
 /// Takes the mark off a box, whose node is opened only where it is touched.
 #[inline(always)]
 fn settle_on(nodes: &mut Nodes, key: BoxKey) -> Settled
+    requires live { is_some (value nodes.old key.slot key.generation) ≡ true }
     ensures worked { Relinks nodes.old nodes.new (edit same_key key (with_item settled)
         (linked nodes.old)) }
     ensures onward { (result.first, result.next) ≡ child_and_sibling (linked nodes.old key) }
     ensures own { result.own ≡ touched_under (linked nodes.old key) }
 {
-    match nodes.glance(key) {
-        Some(glance) => {
-            if glance.touched {
-                nodes.work_on(key, Work::Settle);
-            }
-            Settled {
-                first: glance.first,
-                next: glance.next,
-                own: u32::from(glance.touched),
-            }
-        }
-        None => Settled {
-            first: None,
-            next: None,
-            own: 0,
-        },
+    let glance = nodes.glance_at_live(key);
+    if glance.touched {
+        nodes.work_on(key, Work::Settle);
+    }
+    Settled {
+        first: glance.first,
+        next: glance.next,
+        own: u32::from(glance.touched),
     }
 }
 

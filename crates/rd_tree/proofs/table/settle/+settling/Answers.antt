@@ -3,7 +3,7 @@ use Rattle.std.specs.Prelude.{◌==◌, None}
 use Rattle.rd_tree.specs.Internal.Summaries.{summary_at}
 use Rattle.rd_tree.proofs.Nodes.Works.{ended}
 use Rattle.rd_tree.specs.declared.links.walk.Work.TheVariants.{Settle}
-use Rattle.rd_tree.proofs.Tables.Settling.{Settling, settling_begun, settling_ended, settling_on, walked, here_row, below_settle, marks_below, settle_next}
+use Rattle.rd_tree.proofs.Tables.Settling.{Settling, settling_begun, settling_ended, settling_on, walked, live_key, here_row, below_settle, marks_below, settle_next}
 use Rattle.rd_tree.proofs.table.settle.+settling.Goals as goal
 
 pub settle_from-loop-at-init : goal.settle_from-loop-at-init
@@ -12,6 +12,12 @@ settle_from-loop-at-init t c =
     c.args.marks (settling_begun c.args.nodes.now c.args.table.now.items c.args.first c.requires.read c.requires.has_rows c.requires.counted)
     c.requires.marks c.where_left-at.ensures in
     (on.0, on.1)
+
+pub settle_from-settle_on-here-requires : goal.settle_from-settle_on-here-requires
+settle_from-settle_on-here-requires t c =
+    let w = walked c.args.nodes.now c.loop-at.nodes c.args.table.now.items c.loop-at.table.items c.args.first c.loop-at.at c.in-Some.key c.loop-at.left
+    c.in-Some.is c.loop-at.invariant in
+    record { live = live_key c.args.nodes.now c.loop-at.nodes c.args.table.now.items c.loop-at.table.items c.args.first c.in-Some.key w.0 }
 
 pub settle_from-row_at-marks_below-requires : goal.settle_from-row_at-marks_below-requires
 settle_from-row_at-marks_below-requires t c =
