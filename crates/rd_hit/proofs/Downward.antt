@@ -1,14 +1,15 @@
 -- The hit of a list with another on top.
-use Rattle.std.proofs.Common.{◌≡◌, refl, ◌∙◌, sym, ap, ℤ, ℕ, ◌+◌, ◌<◌, Bool, true, false, cond, List, [], ◌∷◌, length, take, drop, get_or, Option, Some, None}
+use Rattle.std.proofs.Common.{◌≡◌, refl, ◌∙◌, sym, ap, ℤ, ℕ, ◌+◌, ◌<◌, Bool, true, false, not, ◌&&◌, cond, List, [], ◌∷◌, length, take, drop, get_or, Option, Some, None}
 use Rattle.std.proofs.lemmas.List.{take-append-drop}
 use Rattle.std.specs.Option.{is_some}
+use Rattle.rd_geom.specs.Plane.{holds_pixel}
 use Rattle.rd_keys.specs.Keys.{BoxKey}
 use Rattle.rd_item.specs.declared.leaf.Leaf as item
 use Rattle.rd_list.specs.declared.kept.Entry.{Entry}
 use Rattle.rd_list.specs.Wrappers.{Wrapper}
 use Rattle.rd_list.specs.Displayed.{shown}
 use Rattle.rd_list.specs.Entries.{Entries, nil, leaf, ◌▷◌, flat}
-use Rattle.rd_list.specs.Lists.{hit, is_hit}
+use Rattle.rd_list.specs.Lists.{hit, is_hit, is_outline}
 use Rattle.rd_list.specs.Internal.LastHit.{last_owner}
 use Rattle.rd_list.proofs.Displaying.{shown-append, shown_from}
 use Rattle.rd_list.proofs.Joins.{flat-join}
@@ -73,3 +74,13 @@ leaf_hit x y l h = rw h refl
 
 pub leaf_missed : (x y : ℤ) (l : item.Leaf) → is_hit x y l ≡ false → None ≡ hit (leaf l nil) x y
 leaf_missed x y l h = rw h refl
+
+unseen : (a b c d e : Bool) → c ≡ false → ((a && b && c) && d && e) ≡ false
+unseen true true c d e h = rw h refl
+unseen true false c d e h = refl
+unseen false b c d e h = refl
+
+-- a leaf that may not be seen at the pixel is not hit there
+pub unseen_missed : (x y : ℤ) (l : item.Leaf) → holds_pixel l.visible x y ≡ false → hit (leaf l nil) x y ≡ None
+unseen_missed x y l h =
+    sym (leaf_missed x y l (unseen (holds_pixel l.shape.outer x y) (not (holds_pixel l.shape.inner x y)) (holds_pixel l.visible x y) (not (is_outline l.part)) l.hits h))

@@ -3,12 +3,14 @@
 //! Nothing is copied, and no memory is taken.
 #![tactic(auto)]
 
-ghost use Rattle.std.specs.Prelude.{◌≡◌, ◌∷◌, []};
+ghost use Rattle.std.specs.Prelude.{◌≡◌, ◌≤◌, ◌<◌, ◌+◌, ◌-◌, ◌∷◌, [], IsTrue, None, drop, false, length};
+ghost use Rattle.rd_geom.specs.Plane.{holds_pixel, is_among};
 ghost use Rattle.rd_list.specs.Displayed.{shown};
 ghost use Rattle.rd_list.specs.Entries as list;
 ghost use Rattle.rd_list.specs.EntryNames.{kept_leaves};
 ghost use Rattle.rd_list.specs.Lists as lists;
 
+use rd_geom::Rect;
 use rd_item::Item;
 use rd_keys::{BoxKey, Part};
 use rd_list::{Entry, ListView};
@@ -40,14 +42,96 @@ pub fn hit<A: Ledger>(list: ListView<'_, A>, x: i32, y: i32) -> Option<BoxKey>
     topmost(list.entries(), x, y)
 }
 
+/// Is `v` none of the `count` whole numbers from `low` on? What lies before them wraps round to a large number, so that
+/// one comparison tells.
+#[inline(always)]
+fn is_off(low: i32, count: i32, v: i32) -> bool
+    ensures { IsTrue result → is_among low count v ≡ false }
+{
+    v.wrapping_sub(low).cast_unsigned() >= count.cast_unsigned()
+}
+
+/// Is the pixel outside the rectangle? Rows come first, since most boxes are wider than high.
+#[inline(always)]
+fn misses(r: Rect, x: i32, y: i32) -> bool
+    ensures { IsTrue result → holds_pixel r x y ≡ false }
+{
+    if is_off(r.y(), r.h(), y) {
+        return true;
+    }
+    is_off(r.x(), r.w(), x)
+}
+
+/// Is the entry a leaf that may not be seen at the pixel?
+#[inline(always)]
+fn is_passed<A: Ledger>(entry: &Entry<A>, x: i32, y: i32) -> bool
+    ensures { IsTrue result → lists.hit (shown (entry.now ∷ [])) x y ≡ None }
+{
+    match entry {
+        Entry::Leaf(item) => misses(item.visible(), x, y),
+        Entry::Group(_) => false,
+    }
+}
+
+/// Is the entry at a place such a leaf?
+#[inline(always)]
+fn passes<A: Ledger>(entries: &[Entry<A>], place: usize, x: i32, y: i32) -> bool
+    requires { place < length entries.now }
+    ensures { IsTrue result → lists.hit (shown (drop (place + 1) entries.now)) x y ≡ None
+        → lists.hit (shown (drop place entries.now)) x y ≡ None }
+{
+    is_passed(&entries[place], x, y)
+}
+
+/// Are the four entries right below a place such leaves?
+#[inline(always)]
+fn four_passed<A: Ledger>(entries: &[Entry<A>], left: usize, x: i32, y: i32) -> bool
+    requires some { 4 ≤ left }
+    requires within { left ≤ length entries.now }
+    ensures { IsTrue result → lists.hit (shown (drop left entries.now)) x y ≡ None
+        → lists.hit (shown (drop (left - 4) entries.now)) x y ≡ None }
+{
+    if !passes(entries, left - 1, x, y) {
+        return false;
+    }
+    if !passes(entries, left - 2, x, y) {
+        return false;
+    }
+    if !passes(entries, left - 3, x, y) {
+        return false;
+    }
+    passes(entries, left - 4, x, y)
+}
+
+/// How many entries are left below `from` once the leaves right below it are passed over that may not be seen at the pixel.
+fn left_below<A: Ledger>(entries: &[Entry<A>], from: usize, x: i32, y: i32) -> usize
+    requires { from ≤ length entries.now }
+    ensures within { result ≤ from }
+    ensures none { lists.hit (shown (drop from entries.now)) x y ≡ None
+        → lists.hit (shown (drop result entries.now)) x y ≡ None }
+{
+    let mut left = from;
+    while left >= 4 && four_passed(entries, left, x, y) {
+        left -= 4;
+    }
+    while left > 0 && passes(entries, left - 1, x, y) {
+        left -= 1;
+    }
+    left
+}
+
 #[cycle(hitting)]
 fn topmost<A: Ledger>(entries: &[Entry<A>], x: i32, y: i32) -> Option<BoxKey>
     ensures { result ≡ lists.hit (shown entries.now) x y }
 {
-    let mut i = entries.len();
-    while i > 0 {
-        i -= 1;
-        let found = topmost_in(&entries[i], x, y);
+    let mut left = entries.len();
+    while left > 0 {
+        left = left_below(entries, left, x, y);
+        if left == 0 {
+            return None;
+        }
+        left -= 1;
+        let found = topmost_in(&entries[left], x, y);
         if found.is_some() {
             return found;
         }
