@@ -1,4 +1,4 @@
-use Rattle.std.proofs.Common.{◌≡◌, ℕ, ℤ, pos, negsuc, ◌-ℤ◌, ◌≤ℤ◌, ◌<◌, ◌≤◌, ◌⊎◌, inl, inr, Bool, true, false, cond, ◌&&◌, ◌||◌, IsTrue, IsFalse, List, [], ◌∷◌, get_or, length, arith, refl, sym, ◌∙◌, ap, subst, ⊎_elim}
+use Rattle.std.proofs.Common.{◌≡◌, ℕ, ℤ, pos, negsuc, ◌-ℤ◌, ◌≤ℤ◌, ◌<◌, ◌≤◌, ◌⊎◌, inl, inr, Bool, true, false, int_eq, ◌&&◌, ◌||◌, IsTrue, IsFalse, List, [], ◌∷◌, get_or, length, arith, refl, sym, ◌∙◌, ap, subst, ⊎_elim}
 use Rattle.std.specs.Prelude.{int_le, int_lt, unsigned_abs, if◌then◌else◌}
 use Rattle.std.specs.Int.{int_max, int_min}
 use Rattle.std.proofs.lemmas.Int.{ints, clamps}
@@ -8,7 +8,7 @@ use Rattle.rd_geom.specs.Areas.{in_span, in_spans, spans_at}
 use Rattle.rd_geom.specs.declared.rect.Size.{Size}
 use Rattle.rd_geom.specs.declared.span.Span.{Span}
 use Rattle.rd_geom.proofs.Areas.{AreaShares}
-use Rattle.rd_geom.proofs.Pixels.{common_pixels, both_true, right_of}
+use Rattle.rd_geom.proofs.Pixels.{common_pixels, both_true, left_of, right_of, at_holds, first_at, some_of}
 use Rattle.rd_area.specs.Internal.Joining.{Joins, row_has, row_meets}
 use Rattle.rd_area.specs.Internal.Bands.{band_of, row_at, rows_of, AreBetween, HasRow, IsBanded}
 use Rattle.rd_area.proofs.Banded.{order, table_length, table_at, table_past, band_row, row_in}
@@ -16,7 +16,7 @@ use Rattle.rd_area.proofs.Spans.{Row, at_place}
 use Rattle.std.proofs.lemmas.List.{length-map, get_or_past}
 use Rattle.rd_area.specs.Rows.{IsRising}
 use Rattle.rd_area.proofs.Merging.{SharesColumn}
-use Rattle.rd_area.specs.Internal.Normal.{IsOn, IsNormalized, spans_of}
+use Rattle.rd_area.specs.Internal.Normal.{IsFilled, IsOn, IsNormalized, spans_of}
 use Rattle.rd_area.proofs.Merging.{meets_shares, shares_meets}
 
 and_true : (a : Bool) → (a && true) ≡ a
@@ -192,18 +192,48 @@ apart_shares size used r rows i e s =
     let c : IsTrue (holds_pixel (meet used r) s.x s.y) = shares_in size used r rows i s.x s.y s.first s.second in
     no_pixel_in (meet used r) s.x s.y e c
 
--- no pixel is in both of two rectangles of which one ends before the other begins
-pub apart_across : (a b : Rectangle) → (right a ≤ℤ b.x) ⊎ (right b ≤ℤ a.x) → has_none (meet a b) ≡ true
-apart_across a b h =
-    let e : int_lt (int_max a.x b.x) (int_min (right a) (right b)) ≡ false = grind (arith, ints) in
-    rw e refl
+-- where each pixel of what is in use is in the area, so is that of a rectangle
+filled_at : (used : Rectangle) (rows : List (List Span)) (x y : ℤ) → IsFilled used rows → pos 0 ≤ℤ y → IsTrue (holds_pixel used x y)
+    → IsTrue (in_spans (spans_at rows y) x)
+filled_at used rows x (pos n) f h p = f x n p
+filled_at used rows x (negsuc n) f h p = absurd (omega (arith, ints, h))
 
-no_rows_in : (l t r b : ℤ) → int_lt t b ≡ false → has_none (spanning l t r b) ≡ true
-no_rows_in l t r b e = elim (int_lt l r) as (λ c. has_none (cond (c && int_lt t b) (record { x = l; y = t; w = r -ℤ l; h = b -ℤ t }) no_pixels) ≡ true) [ true ↦ rw e refl | false ↦ refl ]
+pub filled_shares : (size : Size) (used r : Rectangle) (rows : List (List Span)) → IsFilled used rows → IsOn (meet used r) size
+    → has_none (meet used r) ≡ false → AreaShares (record { size = size; rows = rows }) r
+filled_shares size used r rows f o e =
+    let m : Rectangle = meet used r in
+    let h : IsTrue (holds_pixel m m.x m.y) = at_holds m m.x m.y (first_at m (some_of m e)) in
+    let both : IsTrue (holds_pixel used m.x m.y && holds_pixel r m.x m.y) = subst (λ b. IsTrue b) (common_pixels used r m.x m.y) h in
+    record {
+      x = m.x;
+      y = m.y;
+      first = filled_at used rows m.x m.y f o.top (left_of (holds_pixel used m.x m.y) (holds_pixel r m.x m.y) both);
+      second = right_of (holds_pixel used m.x m.y) (holds_pixel r m.x m.y) both;
+    }
 
-pub apart_down : (a b : Rectangle) → (bottom a ≤ℤ b.y) ⊎ (bottom b ≤ℤ a.y) → has_none (meet a b) ≡ true
-apart_down a b h =
-    no_rows_in (int_max a.x b.x) (int_max a.y b.y) (int_min (right a) (right b)) (int_min (bottom a) (bottom b)) (let e : int_lt (int_max a.y b.y) (int_min (bottom a) (bottom b)) ≡ false = grind (arith, ints) in e)
+-- each pixel of a rectangle that joined is in the area
+left_true : (a b : Bool) → IsTrue a → IsTrue (a || b)
+left_true a b h = grind arith
+
+-- rectangles of which a test says that they are the same
+pub record HasEdges (a b : Rectangle) : Type 0 where
+  pub left : a.x ≡ b.x
+  pub top : a.y ≡ b.y
+  pub wide : a.w ≡ b.w
+  pub high : a.h ≡ b.h
+
+pub same_edges : (a b : Rectangle) → (int_eq a.x b.x && (int_eq a.y b.y && (int_eq a.w b.w && int_eq a.h b.h))) ≡ true → HasEdges a b
+same_edges a b e = record { left = grind (arith, ints); top = grind (arith, ints); wide = grind (arith, ints); high = grind (arith, ints) }
+
+pub grown_filled : (s used : Rectangle) (from to : ℕ) (span : Span) (old new : List (List Span)) (w : ℤ) → IsGrown s from to span old new
+    → ((y : ℕ) → IsRising (pos 0) w (get_or old y [])) → HasEdges used s → IsFilled used new
+grown_filled s used from to span old new w g r e x y h =
+    let k : IsTrue (holds_pixel s x (pos y)) = rw (← e.left, ← e.top, ← e.wide, ← e.high) h in
+    subst (λ b. IsTrue b) (sym (row_grown s from to span old new w y x g (r y)))
+    (left_true (holds_pixel s x (pos y)) (in_spans (get_or old y []) x) k)
+
+pub none_filled : (rows : List (List Span)) → IsFilled no_pixels rows
+none_filled rows x y h = absurd (no_pixel_in no_pixels x (pos y) refl h)
 
 -- an empty rectangle adds no pixel
 pub none_added : (s : Rectangle) (x y : ℤ) (b : Bool) → has_none s ≡ true → b ≡ (holds_pixel s x y || b)

@@ -20,6 +20,9 @@ pub struct Area {
     /// No pixel of the area is outside.
     used: Rect,
 
+    /// Only where each pixel of `used` is in the area.
+    is_full: bool,
+
     /// The row after the last of each band, from top to bottom.
     ends: Vec<usize>,
 
@@ -29,8 +32,8 @@ pub struct Area {
 
 impl Model for Area {
     ghost use Rattle.rd_geom.specs.Areas.{Region};
-    ghost use Rattle.std.specs.Prelude.{unsigned_abs, vec_len};
-    ghost use Rattle.rd_area.specs.Internal.Normal.{spans_of, IsNormalized};
+    ghost use Rattle.std.specs.Prelude.{unsigned_abs, vec_len, IsTrue};
+    ghost use Rattle.rd_area.specs.Internal.Normal.{spans_of, IsFilled, IsNormalized};
     ghost use Rattle.rd_area.specs.Internal.Bands.{rows_of, IsBanded};
 
     ghost Value = { Region };
@@ -42,7 +45,8 @@ impl Model for Area {
 
     ghost invariant = { λ a. IsNormalized a.size a.used
         (rows_of (unsigned_abs a.size.h) a.ends.items (spans_of a.bands.items))
-        × IsBanded (unsigned_abs a.size.h) a.ends.items (vec_len a.bands) };
+        × IsBanded (unsigned_abs a.size.h) a.ends.items (vec_len a.bands)
+        × (IsTrue a.is_full → IsFilled a.used (rows_of (unsigned_abs a.size.h) a.ends.items (spans_of a.bands.items))) };
 }
 
 /// The columns of a rectangle.
@@ -64,23 +68,6 @@ fn rows_of(r: Rect) -> (usize, usize)
     (r.y() as usize, r.bottom() as usize)
 }
 
-/// Do they lie apart, so that no pixel is in both?
-#[inline(always)]
-fn lie_apart(a: Rect, b: Rect) -> bool
-    ensures { IsTrue result → has_none (meet a b) ≡ true }
-{
-    if a.right() <= b.x() {
-        return true;
-    }
-    if a.bottom() <= b.y() {
-        return true;
-    }
-    if b.right() <= a.x() {
-        return true;
-    }
-    b.bottom() <= a.y()
-}
-
 impl Area {
     /// No pixel of a canvas of this size, which is from 1 to `MAX_CANVAS_SIDE` pixels wide and high.
     pub fn none(alloc: Global, size: Size) -> Result<Area, NoMemory>
@@ -95,6 +82,7 @@ impl Area {
         Ok(Area {
             size,
             used: Rect::EMPTY,
+            is_full: true,
             ends,
             bands,
         })
@@ -144,6 +132,7 @@ impl Area {
         let (first, last) = bands::prepare(&mut self.ends, &mut self.bands, from, to)?;
         rows::join(&mut self.bands, first, last, columns(seen));
         self.used = hull(self.used, seen);
+        self.is_full = self.used == seen;
         Ok(())
     }
 
@@ -156,24 +145,15 @@ impl Area {
     }
 
     /// Is a pixel of the rectangle in the area?
-    #[inline(always)]
     pub fn meets(&self, r: Rect) -> bool
-        ensures { result ≡ meets_area self.now r }
-    {
-        if lie_apart(self.used, r) {
-            return false;
-        }
-        self.has_pixel_of(r)
-    }
-
-    /// Is a pixel of the rectangle in one of the rows?
-    #[inline(never)]
-    fn has_pixel_of(&self, r: Rect) -> bool
         ensures { result ≡ meets_area self.now r }
     {
         let seen = meet(self.used, r);
         if seen.is_empty() {
             return false;
+        }
+        if self.is_full {
+            return true;
         }
         let (from, to) = rows_of(seen);
         let (first, last) = bands::between(&self.ends, from, to);

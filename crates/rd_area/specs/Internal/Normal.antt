@@ -27,3 +27,7 @@ pub record IsNormalized (size : Size) (used : Rectangle) (rows : List (List Span
   pub on : IsOn used size
   pub within : (x : ℤ) (y : ℕ) → IsTrue (in_spans (get_or rows y []) x)
       → IsTrue (holds_pixel used x (pos y))
+
+-- each pixel of the rectangle is in the rows
+abbrev pub IsFilled : Rectangle → List (List Span) → Type 0
+IsFilled used rows = (x : ℤ) (y : ℕ) → IsTrue (holds_pixel used x (pos y)) → IsTrue (in_spans (get_or rows y []) x)

@@ -1,10 +1,10 @@
-use Rattle.std.proofs.Common.{◌≡◌, refl}
+use Rattle.std.proofs.Common.{◌≡◌, refl, sym, ◌∙◌}
 use Rattle.std.specs.Prelude.{unsigned_abs}
 use Rattle.rd_geom.specs.Plane.{right}
 use Rattle.rd_area.specs.Internal.Normal.{spans_of}
 use Rattle.rd_area.specs.Internal.Bands.{row_at, rows_of}
 use Rattle.rd_area.proofs.Banded.{table_same}
-use Rattle.rd_area.proofs.Pixels.{IsBlock, IsGrown, block_top, grown_rows, grown_sound, grown_pixels}
+use Rattle.rd_area.proofs.Pixels.{IsBlock, IsGrown, block_top, grown_rows, grown_sound, grown_filled, grown_pixels, same_edges}
 use Rattle.rd_area.proofs.area.Area.join.Goals as goal
 
 pub invariant_of-self : goal.invariant_of-self
@@ -16,7 +16,7 @@ invariant_of-self c =
     let same : rows_of h c.prepare.new.ends.items (spans_of c.prepare.new.bands.items) ≡ rows_of h c.self.inside.ends.items (spans_of c.self.inside.bands.items) =
     table_same h (row_at c.prepare.new.ends.items (spans_of c.prepare.new.bands.items)) (row_at c.self.inside.ends.items (spans_of c.self.inside.bands.items))
     c.prepare.ensures.same in
-    (rw same c.self.invariant.0, c.prepare.ensures.banded h top c.self.invariant.1)
+    (rw same c.self.invariant.0, c.prepare.ensures.banded h top c.self.invariant.1, rw same c.self.invariant.2)
 
 pub invariant_of-self-2 : goal.invariant_of-self-2
 invariant_of-self-2 c =
@@ -33,6 +33,9 @@ invariant_of-self-2 c =
           (rows_of h c.self.inside.ends.items (spans_of c.self.inside.bands.items)) (rows_of h c.prepare.new.ends.items (spans_of c.join.new.rows.items))
           c.self.inside.size g (rw (← c.self.view_is) at c.requires.on) c.self.invariant.0 c.hull-self-inside.ensures.value c.hull-self-inside.ensures.first c.hull-self-inside.ensures.second,
       rw c.join.ensures.len (c.prepare.ensures.banded h top c.self.invariant.1),
+      λ t. grown_filled c.args.seen c.hull-self-inside.result c.rows_of-from.result.0 c.rows_of-from.result.1 c.columns.result
+          (rows_of h c.self.inside.ends.items (spans_of c.self.inside.bands.items)) (rows_of h c.prepare.new.ends.items (spans_of c.join.new.rows.items))
+          c.self.inside.size.w g c.self.invariant.0.rising (same_edges c.hull-self-inside.result c.args.seen (sym c.eq-self-inside.ensures ∙ t)),
     )
 
 pub returns-clause-pixels : goal.returns-clause-pixels
