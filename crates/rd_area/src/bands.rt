@@ -9,8 +9,22 @@ ghost use Rattle.rd_area.specs.Internal.Normal.{spans_of};
 use crate::rows;
 use rd_geom::{NoMemory, Span};
 
-/// As many ends as this are looked at one after another.
-const FEW_ENDS: usize = 12;
+/// As many ends as this are looked at in order.
+const FEW_ENDS: usize = 64;
+
+/// So many of the first ends are before row `y`, and no four more.
+#[inline(always)]
+fn fours_before(ends: &[usize], y: usize) -> usize
+    requires { AreRising ends.now }
+    ensures within { result ≤ length ends.now }
+    ensures before { (i : ℕ) → i < result → get_or ends.now i 0 < y }
+{
+    let mut first = 0;
+    while ends.len() - first >= 4 && ends[first + 3] < y {
+        first += 4;
+    }
+    first
+}
 
 /// How many of the ends are before row `y`, where the first ones are known to be.
 fn ends_before_from(ends: &[usize], first: usize, y: usize) -> usize
@@ -37,7 +51,7 @@ fn ends_before(ends: &[usize], y: usize) -> usize
     ensures rest { (i : ℕ) → result ≤ i → i < length ends.now → y ≤ get_or ends.now i 0 }
 {
     if ends.len() <= FEW_ENDS {
-        return ends_before_from(ends, 0, y);
+        return ends_before_from(ends, fours_before(ends, y), y);
     }
     match ends.binary_search(&y) {
         Ok(i) => i,
