@@ -1,5 +1,5 @@
 -- Entries that hide what is below them.
-use Rattle.std.proofs.Common.{◌≡◌, refl, ◌∙◌, sym, ap, ℤ, pos, ℕ, ◌+ℤ◌, ◌<◌, ◌≤◌, arith, Bool, true, false, ◌&&◌}
+use Rattle.std.proofs.Common.{◌≡◌, refl, ◌∙◌, sym, ap, ℤ, pos, ℕ, ◌+ℤ◌, ◌<◌, ◌≤ℤ◌, ◌<ℤ◌, ◌≤◌, arith, Bool, true, false, ◌&&◌}
 use Rattle.rd_geom.specs.Colors.{Premultiplied, premultiplied}
 use Rattle.rd_geom.specs.Areas.{in_span}
 use Rattle.rd_geom.specs.Plane.{IsWithin, holds_pixel, is_among, right}
@@ -47,10 +47,10 @@ upper_levels rest whole u =
     omega (arith, a, b)
 
 -- where its lowest entry hides what is below, only that part counts
-pub hidden_below : (left one rest whole : Entries Wrapper item.Leaf) (y x : ℤ) (n : ℕ) → IsUpper left whole → left ≡ one ▷ rest → Hides one y x n
-    → (k : ℕ) (d e : Premultiplied) → k < n → composed (x +ℤ pos k) y d left ≡ composed (x +ℤ pos k) y e whole
-hidden_below left one rest whole y x n u s h k d e l =
-    upper d ∙ ap (λ q. composed (x +ℤ pos k) y q rest) (h k d (composed (x +ℤ pos k) y e u.below) l) ∙ sym (upper (composed (x +ℤ pos k) y e u.below))
+pub hidden_below : (left one rest whole : Entries Wrapper item.Leaf) (y0 y1 x : ℤ) (n : ℕ) → IsUpper left whole → left ≡ one ▷ rest → Hides one y0 y1 x n
+    → (k : ℕ) (y : ℤ) (d e : Premultiplied) → k < n → y0 ≤ℤ y → y <ℤ y1 → composed (x +ℤ pos k) y d left ≡ composed (x +ℤ pos k) y e whole
+hidden_below left one rest whole y0 y1 x n u s h k y d e l a b =
+    upper d ∙ ap (λ q. composed (x +ℤ pos k) y q rest) (h k y d (composed (x +ℤ pos k) y e u.below) l a b) ∙ sym (upper (composed (x +ℤ pos k) y e u.below))
     ∙ sym (composed-join (x +ℤ pos k) y e u.below left) ∙ ap (composed (x +ℤ pos k) y e) (sym u.is)
   where
     upper : (d : Premultiplied) → composed (x +ℤ pos k) y d left ≡ composed (x +ℤ pos k) y (composed (x +ℤ pos k) y d one) rest

@@ -12,3 +12,4 @@ pub mod Hiding
 pub mod Banding
 pub mod Framing
 pub mod Seen
+pub mod Changing

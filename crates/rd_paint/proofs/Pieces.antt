@@ -13,8 +13,8 @@ use Rattle.rd_item.specs.declared.leaf.Leaf.{Leaf}
 use Rattle.rd_item.specs.Leaves.{covers}
 use Rattle.rd_list.specs.Entries.{nil, leaf}
 use Rattle.rd_list.specs.Lists.{composed}
-use Rattle.rd_paint.specs.Internal.Runs.{each_from, tinted, piece_laid, round_laid, holed_laid, laid_along}
-use Rattle.rd_paint.proofs.Places.{each_from-none, each_from-same, each_from-each_from, get_or-each_at, length-each_from}
+use Rattle.rd_paint.specs.Internal.Runs.{each_from, tinted, piece_laid, round_laid, holed_laid, laid_along, laid_around}
+use Rattle.rd_paint.proofs.Places.{each_from-none, each_from-same, each_from-each_from, get_or-each_at, length-each_from, each_at-same_within}
 
 -- what a leaf covers of a row where it may not be seen
 pub unseen : (o i v oy iy vy : Bool) → vy ≡ false → ((o && oy) && not (i && iy) && (v && vy)) ≡ false
@@ -164,3 +164,18 @@ pub hole_missed : (s : Span) (h : Rectangle) (q : Premultiplied) (y x : ℤ) (ps
 hole_missed s h q y x ps r =
     each_from-same 0 (λ k p. cond (in_span s (x +ℤ pos k)) (laid_over q p) p) (λ k p. cond (in_span s (x +ℤ pos k) && not (holds_pixel h (x +ℤ pos k) y)) (laid_over q p) p) ps
     (λ k p. ap (λ b. cond b (laid_over q p) p) (sym (ap (λ b. in_span s (x +ℤ pos k) && not b) (ap (λ b. is_among h.x h.w (x +ℤ pos k) && b) r ∙ and_false (is_among h.x h.w (x +ℤ pos k))) ∙ and_true (in_span s (x +ℤ pos k)))))
+
+-- the same of all columns
+pub around_met : (s : Span) (h : Rectangle) (q : Premultiplied) (y x : ℤ) (ps : List Premultiplied) → s ≡ record { x0 = x; x1 = x +ℤ pos (length ps) } → is_among h.y h.h y ≡ true
+    → round_laid s h q x ps ≡ laid_around h q y x ps
+around_met s h q y x ps e r =
+    each_at-same_within (λ k p. cond (in_span s (x +ℤ pos k) && not (is_among h.x h.w (x +ℤ pos k))) (laid_over q p) p) (λ k p. cond (not (holds_pixel h (x +ℤ pos k) y)) (laid_over q p) p) ps
+    (λ k p l. rw (inside k l, r, and_true (is_among h.x h.w (x +ℤ pos k))) refl)
+  where
+    inside : (k : ℕ) → k < length ps → in_span s (x +ℤ pos k) ≡ true
+    inside k l = rw e (grind (arith, ints))
+
+pub around_missed : (h : Rectangle) (q : Premultiplied) (y x : ℤ) (ps : List Premultiplied) → is_among h.y h.h y ≡ false → tinted q ps ≡ laid_around h q y x ps
+around_missed h q y x ps r =
+    each_from-same 0 (λ k p. laid_over q p) (λ k p. cond (not (holds_pixel h (x +ℤ pos k) y)) (laid_over q p) p) ps
+    (λ k p. rw (r, and_false (is_among h.x h.w (x +ℤ pos k))) refl)

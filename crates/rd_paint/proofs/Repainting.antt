@@ -21,11 +21,11 @@ pub record IsUpTo (list : Entries Wrapper Leaf) (area : Region) (n : ℕ) (old n
   pub height : new.height ≡ old.height
   pub pixels : (x y : ℕ) → x < old.width → y < old.height → pixel_at new (pos x) (pos y) ≡ (if nat_lt y n && in_area area (pos x) (pos y) then Some (pixel list (pos x) (pos y)) else pixel_at old (pos x) (pos y))
 
-cond_same : {A : Type 0} (b : Bool) (p q r : A) → (b ≡ true → p ≡ q) → cond b p r ≡ cond b q r
+pub cond_same : {A : Type 0} (b : Bool) (p q r : A) → (b ≡ true → p ≡ q) → cond b p r ≡ cond b q r
 cond_same true p q r h = h refl
 cond_same false p q r h = refl
 
-and_assoc : (a b c : Bool) → (a && (b && c)) ≡ ((a && b) && c)
+pub and_assoc : (a b c : Bool) → (a && (b && c)) ≡ ((a && b) && c)
 and_assoc true b c = refl
 and_assoc false b c = refl
 
@@ -33,15 +33,15 @@ or_false : (a : Bool) → (a || false) ≡ a
 or_false true = refl
 or_false false = refl
 
-and_left : (a b : Bool) → (a && b) ≡ true → a ≡ true
+pub and_left : (a b : Bool) → (a && b) ≡ true → a ≡ true
 and_left true b h = refl
 and_left false b h = h
 
-and_right : (a b : Bool) → (a && b) ≡ true → b ≡ true
+pub and_right : (a b : Bool) → (a && b) ≡ true → b ≡ true
 and_right true b h = h
 and_right false b h = cc
 
-span_test : (a b x : ℕ) → (nat_le a x && nat_lt x b) ≡ (int_le (pos a) (pos x) && int_lt (pos x) (pos b))
+pub span_test : (a b x : ℕ) → (nat_le a x && nat_lt x b) ≡ (int_le (pos a) (pos x) && int_lt (pos x) (pos b))
 span_test a b x = grind (arith, ints)
 
 -- a span of a row that has the list's pixels
@@ -71,7 +71,7 @@ span_painted list s yz a b y ps old new ea eb ey o len px h = record { width = h
         ∙ cond_same (nat_eq row y && nat_le a x && nat_lt x (a + length ps)) (Some (get_or ps (x - a) clear)) (Some (pixel list (pos x) (pos row))) (pixel_at old (pos x) (pos row)) (value x row)
         ∙ ap (λ t. cond t (Some (pixel list (pos x) (pos row))) (pixel_at old (pos x) (pos row))) (test x row)
 
-in_spans-more : (ss : List Span) (i : ℕ) (s : Span) (x : ℤ) → i < length ss → s ≡ get_or ss i s → in_spans (take (i + 1) ss) x ≡ (in_spans (take i ss) x || in_span s x)
+pub in_spans-more : (ss : List Span) (i : ℕ) (s : Span) (x : ℤ) → i < length ss → s ≡ get_or ss i s → in_spans (take (i + 1) ss) x ≡ (in_spans (take i ss) x || in_span s x)
 in_spans-more ss i s x h e = rw add-one (go ss i s x h e)
   where
     go : (ss : List Span) (i : ℕ) (s : Span) (x : ℤ) → i < length ss → s ≡ get_or ss i s → in_spans (take (suc i) ss) x ≡ (in_spans (take i ss) x || in_span s x)

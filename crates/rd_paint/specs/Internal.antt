@@ -3,3 +3,4 @@ pub mod Runs
 pub mod Bands
 pub mod Picks
 pub mod Frames
+pub mod Blocks

@@ -1,100 +1,119 @@
 //! Painting bands of rows, each with picks of those entries alone that may show in it.
 
 ghost use Rattle.std.specs.Prelude.{◌≡◌, ℕ, ℤ, pos, ◌+◌, ◌-◌, ◌*◌, ◌^◌, ◌≤◌, ◌<◌, ◌+ℤ◌, ◌≤ℤ◌, ◌<ℤ◌, ◌∷◌, [], IsTrue, IsFalse, length, get_or, unsigned_abs, vec_capacity};
-ghost use Rattle.rd_geom.specs.Colors.{white, clear};
+ghost use Rattle.rd_geom.specs.Areas.{spans_at};
 ghost use Rattle.rd_area.specs.Rows.{IsRising};
 ghost use Rattle.rd_list.specs.Displayed.{shown};
 ghost use Rattle.rd_list.specs.KeptView.{kept_entries};
-ghost use Rattle.rd_list.specs.Lists.{composed};
+ghost use Rattle.rd_list.specs.Lists.{pixel};
 ghost use Rattle.rd_list.specs.Views.{levels};
-ghost use Rattle.rd_paint.specs.Internal.Bands.{IsRowPainted, IsBandPainted};
+ghost use Rattle.rd_paint.specs.Internal.Bands.{IsBandPainted};
+ghost use Rattle.rd_paint.specs.Internal.Blocks.{IsBlockChanged, IsRunPainted};
 ghost use Rattle.rd_paint.specs.Internal.Picks.{picked};
 ghost use Rattle.rd_paint.specs.Pictures.{size_of};
 ghost use Rattle.rd_paint.specs.Repainted.{IsRepainted};
 
+use crate::blocks::{lay_picks_in, whiten};
 use crate::buffers::open_for;
 use crate::canvas::Canvas;
-use crate::chosen::lay_picks;
 use crate::covering::cover;
 use crate::frame::{frame_of, meets_part};
 use crate::gathering::gather;
 use crate::narrowing::narrow;
 use crate::picks::Pick;
-use crate::runs::fill;
 use rd_area::Area;
 use rd_geom::{Px, Span};
 use rd_list::Entry;
 use std::sync::ledger::Ledger;
 
-/// Paints the entries that picks name, on white, into pixels of row `y` from column `x0` on.
+/// Paints the entries that picks name, on white, in the columns of the span of the rows `y0` up to `y1`.
 /// It begins with the topmost opaque leaf that covers all of them.
-fn paint_picks<A: Ledger>(
-    entries: &[Entry<A>],
-    picks: &[Pick],
-    y: i32,
-    x0: i32,
-    out: &mut [Px],
-    rows: &mut [Px],
-)
-    requires rows { length out.old * (levels (picked picks.now (shown entries.now)) - 1) ≤ length rows.old }
-    requires from { pos 0 ≤ℤ x0 }
-    requires within { (x0 +ℤ pos (length out.old)) ≤ℤ pos 4096 }
-    ensures { (k : ℕ) → k < length out.old → get_or out.new k clear
-        ≡ composed (x0 +ℤ pos k) y white (picked picks.now (shown entries.now)) }
-{
-    match cover(entries, picks, y, x0, out.len()) {
-        Some(i) => lay_picks(entries, &picks[i..], y, x0, out, rows),
-        None => {
-            fill(out, Px::WHITE);
-            lay_picks(entries, picks, y, x0, out, rows);
-        }
-    }
-}
-
-/// Paints the pixels of row `y` that are in the span.
-fn paint_piece<A: Ledger>(
+fn paint_block<A: Ledger>(
     canvas: &mut Canvas,
     entries: &[Entry<A>],
     picks: &[Pick],
     span: Span,
-    y: i32,
+    y0: usize,
+    y1: usize,
     rows: &mut [Px],
 )
-    requires row { pos 0 ≤ℤ y }
-    requires on { y <ℤ pos canvas.old.height }
+    requires order_rows { y0 ≤ y1 }
+    requires on { y1 ≤ canvas.old.height }
+    requires wide { canvas.old.width ≤ 4096 }
+    requires high { canvas.old.height ≤ 4096 }
     requires from { pos 0 ≤ℤ span.x0 }
     requires order { span.x0 ≤ℤ span.x1 }
     requires within { span.x1 ≤ℤ pos canvas.old.width }
-    requires wide { canvas.old.width ≤ 4096 }
     requires rows { canvas.old.width * (levels (picked picks.now (shown entries.now)) - 1) ≤ length rows.old }
-    ensures { IsRowPainted (picked picks.now (shown entries.now)) (span ∷ []) (unsigned_abs y) canvas.old canvas.new }
+    ensures { IsBlockChanged (λ x y p. pixel (picked picks.now (shown entries.now)) (pos x) (pos y))
+        span y0 y1 canvas.old canvas.new }
 {
-    let out = canvas.span_mut(y, span.x0, span.x1);
-    paint_picks(entries, picks, y, span.x0, out, rows);
+    let count = (span.x1 - span.x0) as usize;
+    match cover(entries, picks, y0 as i32, y1 as i32, span.x0, count) {
+        Some(i) => lay_picks_in(canvas, entries, &picks[i..], span, y0, y1, rows),
+        None => {
+            whiten(canvas, span, y0, y1);
+            lay_picks_in(canvas, entries, picks, span, y0, y1, rows);
+        }
+    }
 }
 
-/// Paints the pixels of row `y` that are in the spans.
-fn paint_row<A: Ledger>(
+/// Paints the pixels of the rows `y0` up to `y1` that are in the spans.
+fn paint_run<A: Ledger>(
     canvas: &mut Canvas,
     entries: &[Entry<A>],
     picks: &[Pick],
     spans: &[Span],
-    y: i32,
+    y0: usize,
+    y1: usize,
     rows: &mut [Px],
 )
-    requires row { pos 0 ≤ℤ y }
-    requires on { y <ℤ pos canvas.old.height }
-    requires rising { IsRising (pos 0) (pos canvas.old.width) spans.now }
+    requires order_rows { y0 ≤ y1 }
+    requires on { y1 ≤ canvas.old.height }
     requires wide { canvas.old.width ≤ 4096 }
+    requires high { canvas.old.height ≤ 4096 }
+    requires rising { IsRising (pos 0) (pos canvas.old.width) spans.now }
     requires rows { canvas.old.width * (levels (picked picks.now (shown entries.now)) - 1) ≤ length rows.old }
-    ensures { IsRowPainted (picked picks.now (shown entries.now)) spans.now (unsigned_abs y) canvas.old canvas.new }
+    ensures { IsRunPainted (picked picks.now (shown entries.now)) spans.now y0 y1 canvas.old canvas.new }
 {
     for span in spans {
-        paint_piece(canvas, entries, picks, *span, y, rows);
+        paint_block(canvas, entries, picks, *span, y0, y1, rows);
     }
 }
 
-/// Paints the rows `y0` up to `y1`, one after another.
+/// Up to which row before `y1` the rows from `y0` on have the same spans?
+fn alike_until(area: &Area, y0: usize, y1: usize) -> usize
+    requires order { y0 < y1 }
+    requires high { y1 ≤ 4096 }
+    ensures more { y0 < result }
+    ensures within { result ≤ y1 }
+    ensures alike { (y : ℕ) → y0 ≤ y → y < result
+        → spans_at area.now.rows (pos y) ≡ spans_at area.now.rows (pos y0) }
+{
+    let spans = area.spans(y0 as i32);
+    let mut end = y0 + 1;
+    while end < y1 && same_spans(area.spans(end as i32), spans) {
+        end += 1;
+    }
+    end
+}
+
+/// Are the spans the same?
+fn same_spans(a: &[Span], b: &[Span]) -> bool
+    ensures { IsTrue result → a.now ≡ b.now }
+{
+    if a.len() != b.len() {
+        return false;
+    }
+    for i in 0..a.len() {
+        if a[i].x0 != b[i].x0 || a[i].x1 != b[i].x1 {
+            return false;
+        }
+    }
+    true
+}
+
+/// Paints the rows `y0` up to `y1`: those that have the same spans together.
 fn paint_rows<A: Ledger>(
     canvas: &mut Canvas,
     entries: &[Entry<A>],
@@ -112,14 +131,24 @@ fn paint_rows<A: Ledger>(
     requires rows { canvas.old.width * (levels (picked picks.now (shown entries.now)) - 1) ≤ length rows.old }
     ensures { IsBandPainted (picked picks.now (shown entries.now)) area.now y0 y1 canvas.old canvas.new }
 {
-    for row in y0..y1 {
-        let y = row as i32;
-        paint_row(canvas, entries, picks, area.spans(y), y, rows);
+    let mut row = y0;
+    while row < y1 {
+        let end = alike_until(area, row, y1.min(row + FEW));
+        paint_run(
+            canvas,
+            entries,
+            picks,
+            area.spans(row as i32),
+            row,
+            end,
+            rows,
+        );
+        row = end;
     }
 }
 
 /// Of so many rows no half gets picks of its own: to look past an entry is cheaper than to write picks.
-const FEW: usize = 8;
+const FEW: usize = 16;
 
 /// Paints the rows `y0` up to `y1`: each half of them with its own picks, as long as there is room to write these.
 #[cycle(halving)]

@@ -17,7 +17,7 @@ use std::sync::ledger::Ledger;
 
 /// Lays the entries that picks name, from bottom to top, over the pixels of row `y` from column `x0` on.
 #[cycle(choosing)]
-pub(crate) fn lay_picks<A: Ledger>(
+fn lay_picks<A: Ledger>(
     entries: &[Entry<A>],
     picks: &[Pick],
     y: i32,
@@ -82,7 +82,7 @@ fn lay_pick<A: Ledger>(
 
 /// Lays what picks name of a group over those of the pixels where it may show.
 #[cycle(choosing)]
-fn lay_own<A: Ledger>(
+pub(crate) fn lay_own<A: Ledger>(
     opacity: u8,
     inner: &Kept<A>,
     own: &[Pick],

@@ -1,9 +1,10 @@
 //! Painting display lists on canvases.
-//! A canvas is painted in an area, a row at a time; a group is painted into a row of its own before it is laid down.
+//! A canvas is painted in an area, some rows of one shape at a time; a group is painted into a row of its own before it is laid down.
 //! No part of a list or of a canvas is copied, and painting takes no memory.
 #![tactic(auto)]
 
 mod bands;
+mod blocks;
 mod buffers;
 mod canvas;
 mod chosen;

@@ -16,7 +16,7 @@ use rd_list::{Entry, Kept};
 use std::sync::ledger::Ledger;
 
 /// Has the rectangle one of the rows `y0` up to `y1`?
-fn has_rows(r: Rect, y0: i32, y1: i32) -> bool
+pub(crate) fn has_rows(r: Rect, y0: i32, y1: i32) -> bool
     ensures { IsFalse result → (y : ℤ) → y0 ≤ℤ y → y <ℤ y1 → is_among r.y r.h y ≡ false }
 {
     let top = r.y();

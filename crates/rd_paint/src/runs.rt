@@ -2,9 +2,9 @@
 
 ghost use Rattle.std.specs.Prelude.{◌≡◌, ℕ, ℤ, pos, ◌+◌, ◌*◌, ◌≤◌, ◌<◌, ◌+ℤ◌, ◌≤ℤ◌, ◌&&◌, ◌||◌, IsTrue, false, get_or, nat_le, nat_lt, int_le, int_lt, List, length, replicate};
 ghost use Rattle.rd_geom.specs.Colors.{Premultiplied, clear, laid_over};
-ghost use Rattle.rd_geom.specs.Plane.{is_among, right};
+ghost use Rattle.rd_geom.specs.Plane.{is_among, right, bottom};
 ghost use Rattle.rd_geom.specs.Areas.{in_span};
-ghost use Rattle.rd_paint.specs.Internal.Runs.{IsTurned, row_laid, tinted, piece_laid, round_laid, holed_laid};
+ghost use Rattle.rd_paint.specs.Internal.Runs.{IsTurned, row_laid, tinted, piece_laid, round_laid, holed_laid, laid_around};
 
 use rd_geom::{Px, Rect, Span, over, px_of, scale};
 
@@ -238,5 +238,40 @@ pub(crate) fn lay_row_of(px: Px, span: Span, hole: Rect, y: i32, x0: i32, out: &
         lay_round(px, span, hole, x0, out);
     } else {
         lay_columns(px, span, x0, out);
+    }
+}
+
+/// The rows of a rectangle.
+pub(crate) fn rows_of(r: Rect) -> Span
+    ensures { result ≡ record { x0 = r.y; x1 = bottom r } }
+{
+    Span {
+        x0: r.y(),
+        x1: r.y() + r.h(),
+    }
+}
+
+/// So many columns from `x0` on.
+fn run_of(x0: i32, count: usize) -> Span
+    requires from { pos 0 ≤ℤ x0 }
+    requires within { (x0 +ℤ pos count) ≤ℤ pos 4096 }
+    ensures { result ≡ record { x0 = x0; x1 = x0 +ℤ pos count } }
+{
+    Span {
+        x0,
+        x1: x0 + count as i32,
+    }
+}
+
+/// Lays one pixel over those of the pixels of row `y` from column `x0` on that are not in a hole.
+pub(crate) fn lay_around(px: Px, hole: Rect, y: i32, x0: i32, out: &mut [Px])
+    requires from { pos 0 ≤ℤ x0 }
+    requires within { (x0 +ℤ pos (length out.old)) ≤ℤ pos 4096 }
+    ensures { out.new ≡ laid_around hole px y x0 out.old }
+{
+    if has_row(hole, y) {
+        lay_round(px, run_of(x0, out.len()), hole, x0, out);
+    } else {
+        lay_px(out, px);
     }
 }

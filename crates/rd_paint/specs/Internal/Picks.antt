@@ -73,6 +73,7 @@ InAreaWithin a columns rows x y = InArea a x y × InSpans columns rows x y
 abbrev pub OffSpan : Span → ℤ → ℤ → ℤ → Type 0
 OffSpan s y x row = (row ≡ y) × (in_span s x ≡ false)
 
--- what is below a list does not show in n pixels of row y from column x on
-abbrev pub Hides : Entries Wrapper Leaf → ℤ → ℤ → ℕ → Type 0
-Hides es y x n = (k : ℕ) (d e : Premultiplied) → k < n → composed (x +ℤ pos k) y d es ≡ composed (x +ℤ pos k) y e es
+-- what is below a list does not show in n pixels from column x on of the rows from y0 up to y1
+abbrev pub Hides : Entries Wrapper Leaf → ℤ → ℤ → ℤ → ℕ → Type 0
+Hides es y0 y1 x n = (k : ℕ) (y : ℤ) (d e : Premultiplied) → k < n → y0 ≤ℤ y → y <ℤ y1
+    → composed (x +ℤ pos k) y d es ≡ composed (x +ℤ pos k) y e es

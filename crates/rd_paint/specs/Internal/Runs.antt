@@ -49,6 +49,10 @@ abbrev pub holed_laid : Span → Rectangle → Premultiplied → ℤ → ℤ →
 holed_laid s h q y x ps = each_at (λ k p.
     if in_span s (x +ℤ pos k) && not (holds_pixel h (x +ℤ pos k) y) then laid_over q p else p) ps
 
+-- one pixel laid over those of the pixels of row y from column x on that are not in a hole
+abbrev pub laid_around : Rectangle → Premultiplied → ℤ → ℤ → List Premultiplied → List Premultiplied
+laid_around h q y x ps = each_at (λ k p. if not (holds_pixel h (x +ℤ pos k) y) then laid_over q p else p) ps
+
 -- the pixels from place i up to place j were all p and became q, and no other pixel changed
 pub record IsTurned (p q : Premultiplied) (i j : ℕ) (old new : List Premultiplied) : Type 0 where
   pub count : length new ≡ length old

@@ -1,4 +1,4 @@
-use Rattle.std.proofs.Common.{◌≡◌, ◌≤◌, ◌<◌, ◌-◌, ◌+ℤ◌, ℕ, pos, length, drop}
+use Rattle.std.proofs.Common.{◌≡◌, ◌≤◌, ◌<◌, ◌-◌, ◌+ℤ◌, ◌≤ℤ◌, ◌<ℤ◌, ℕ, ℤ, pos, length, drop}
 use Rattle.std.specs.Prelude.{IfSome}
 use Rattle.rd_geom.specs.Colors.{Premultiplied}
 use Rattle.rd_list.specs.Displayed.{shown}
@@ -14,7 +14,7 @@ invariant-loop-i g l = record {
   upper : IsUpper (picked (drop l.i l.picks) (shown l.entries)) (picked l.picks (shown l.entries));
   within : IfSome l.found (λ i. i ≤ length l.picks);
   levels : IfSome l.found (λ i. levels (picked (drop i l.picks) (shown l.entries)) ≤ levels (picked l.picks (shown l.entries)));
-  hides : IfSome l.found (λ i. (k : ℕ) (d e : Premultiplied) → k < l.count → composed (l.x0 +ℤ pos k) l.y d (picked (drop i l.picks) (shown l.entries)) ≡ composed (l.x0 +ℤ pos k) l.y e (picked l.picks (shown l.entries)));
+  hides : IfSome l.found (λ i. (k : ℕ) (y : ℤ) (d e : Premultiplied) → k < l.count → l.y0 ≤ℤ y → y <ℤ l.y1 → composed (l.x0 +ℤ pos k) y d (picked (drop i l.picks) (shown l.entries)) ≡ composed (l.x0 +ℤ pos k) y e (picked l.picks (shown l.entries)));
 }
 
 abbrev pub decreases-loop-i : goal.decreases-loop-i

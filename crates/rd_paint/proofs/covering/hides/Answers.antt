@@ -7,6 +7,7 @@ use Rattle.rd_paint.proofs.covering.hides.Goals as goal
 pub returns-in-Leaf : goal.returns-in-Leaf
 returns-in-Leaf g c = λ t own.
     let fx : FitsSigned w32 c.args.x0 = search rules in
-    let fy : FitsSigned w32 c.args.y = search rules in
+    let f0 : FitsSigned w32 c.args.y0 = search rules in
+    let f1 : FitsSigned w32 c.args.y1 = search rules in
     let hides = simp to_z-of_z at c.item_hides.ensures in
     rw (c.in-Leaf.is, entry_at-leaf (picked own) c.in-Leaf.item.leaf) (hides t)

@@ -7,6 +7,7 @@ use Rattle.rd_paint.proofs.covering.hides_at.Goals as goal
 pub returns-then-index-entries : goal.returns-then-index-entries
 returns-then-index-entries g c = λ t own.
     let fx : FitsSigned w32 c.args.x0 = search rules in
-    let fy : FitsSigned w32 c.args.y = search rules in
+    let f0 : FitsSigned w32 c.args.y0 = search rules in
+    let f1 : FitsSigned w32 c.args.y1 = search rules in
     let hides = simp to_z-of_z at c.hides.ensures in
     rw (entry_at-shown (picked own) c.args.entries.now c.args.place c.index-entries-index.result c.if-index-entries.true c.index-entries-index.is) (hides t own)

@@ -1,0 +1,8 @@
+use Rattle.std.proofs.Common.{take}
+use Rattle.rd_list.specs.Displayed.{shown}
+use Rattle.rd_paint.specs.Internal.Picks.{picked}
+use Rattle.rd_paint.specs.Internal.Blocks.{IsRunPainted}
+use Rattle.rd_paint.proofs.bands.paint_run.Given as goal
+
+abbrev pub invariant-loop-span : goal.invariant-loop-span
+invariant-loop-span g l = IsRunPainted (picked l.picks (shown l.entries)) (take l.span-index l.spans) l.y0 l.y1 l.initial.canvas l.canvas

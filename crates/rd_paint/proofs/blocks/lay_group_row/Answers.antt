@@ -1,0 +1,35 @@
+use Rattle.std.proofs.Common.{◌≡◌, ◌≤◌, ◌+◌, ◌-◌, ◌∙◌, ◌+ℤ◌, pos, length, ap, arith, FitsSigned, w32, to_z, rules}
+use Rattle.std.specs.Prelude.{unsigned_abs}
+use Rattle.std.proofs.lemmas.Int.{to_z-of_z, ints}
+use Rattle.rd_geom.specs.Colors.{laid_over, scaled, clear}
+use Rattle.rd_list.specs.EntryNames.{kept_leaves}
+use Rattle.rd_list.specs.Lists.{composed}
+use Rattle.rd_list.specs.Views.{levels, deeper}
+use Rattle.rd_paint.specs.Internal.Blocks.{group_over}
+use Rattle.rd_paint.specs.Internal.Picks.{picked}
+use Rattle.std.proofs.Math.Nat.{mul-le-mul_right}
+use Rattle.rd_paint.proofs.Changing.{row_by}
+use Rattle.rd_paint.proofs.blocks.lay_group_row.Goals as goal
+
+pub lay_own-requires-clause-rows : goal.lay_own-requires-clause-rows
+lay_own-requires-clause-rows g c =
+    let f0 : FitsSigned w32 c.args.span.x0 = search rules in
+    let f1 : FitsSigned w32 c.args.span.x1 = search rules in
+    let len = simp to_z-of_z at c.span_mut-out.ensures.len in
+    let short : length c.span_mut-out.result.now ≤ c.args.canvas.now.width = omega (arith, ints, len) in
+    let p = mul-le-mul_right (deeper (levels (picked c.args.own.now (kept_leaves c.args.inner.now.entries))) - 1) short in
+    omega (arith, p, c.requires.rows)
+
+pub returns : goal.returns
+returns g c =
+    let ey : to_z w32 c.args.row ≡ pos c.args.row = omega (arith, ints) in
+    let f0 : FitsSigned w32 c.args.span.x0 = search rules in
+    let f1 : FitsSigned w32 c.args.span.x1 = search rules in
+    let value = simp to_z-of_z at (rw ey at c.span_mut-out.ensures.value) in
+    let len = simp to_z-of_z at c.span_mut-out.ensures.len in
+    let exact = simp to_z-of_z at (rw ey at c.span_mut-out.ensures.exact) in
+    let laid = simp to_z-of_z at (rw ey at c.lay_own.ensures) in
+    rw ey (simp to_z-of_z
+    (row_by (group_over c.args.opacity (picked c.args.own.now (kept_leaves c.args.inner.now.entries))) c.args.span c.args.row (unsigned_abs c.args.span.x0) (unsigned_abs c.args.span.x1) (λ k p. laid_over (scaled (composed (c.args.span.x0 +ℤ pos k) (pos c.args.row) clear (picked c.args.own.now (kept_leaves c.args.inner.now.entries))) c.args.opacity) p) c.span_mut-out.result.now c.lay_own.new.out c.args.canvas.now _ (omega (arith, ints)) (omega (arith, ints)) (omega (arith, ints)) value len
+    laid (λ k p l. let e : c.args.span.x0 +ℤ pos k ≡ pos (unsigned_abs c.args.span.x0 + k) = omega (arith, ints) in
+    ap (λ z. laid_over (scaled (composed z (pos c.args.row) clear (picked c.args.own.now (kept_leaves c.args.inner.now.entries))) c.args.opacity) p) e) (exact c.lay_own.new.out (c.lay_own.auto.out ∙ len))))

@@ -1,0 +1,46 @@
+-- Blocks of pixels, which are the columns of a span in some rows, before and after painting.
+use Rattle.std.specs.Prelude.{◌≡◌, ℕ, pos, ◌+◌, ◌*◌, ◌<◌, Bool, ◌&&◌, not, nat_le, nat_lt, if◌then◌else◌, List, get_or}
+use Rattle.rd_geom.specs.Areas.{in_span, in_spans}
+use Rattle.rd_geom.specs.Colors.{Premultiplied, clear, laid_over, scaled}
+use Rattle.rd_geom.specs.Plane.{Rectangle, holds_pixel}
+use Rattle.rd_geom.specs.declared.span.Span.{Span}
+use Rattle.rd_item.specs.declared.leaf.Leaf.{Leaf}
+use Rattle.rd_list.specs.Wrappers.{Wrapper}
+use Rattle.rd_list.specs.Entries.{Entries}
+use Rattle.rd_list.specs.Lists.{composed, pixel}
+use Rattle.rd_paint.specs.Pictures.{Picture}
+
+-- is column x of a row in a block?
+abbrev pub in_block : Span → ℕ → ℕ → ℕ → ℕ → Bool
+in_block s y0 y1 x row = (nat_le y0 row && nat_lt row y1) && in_span s (pos x)
+
+-- the pixel in a column and a row that are on the canvas
+abbrev pub on_canvas : Picture → ℕ → ℕ → Premultiplied
+on_canvas c x row = get_or c.pixels (row * c.width + x) clear
+
+-- the pixels of a block were changed by their places, and no other pixel changed
+pub record IsBlockChanged (f : ℕ → ℕ → Premultiplied → Premultiplied) (s : Span) (y0 y1 : ℕ) (old new : Picture) : Type 0 where
+  pub width : new.width ≡ old.width
+  pub height : new.height ≡ old.height
+  pub pixels : (x row : ℕ) → x < old.width → row < old.height
+      → on_canvas new x row ≡ (if in_block s y0 y1 x row then f x row (on_canvas old x row) else on_canvas old x row)
+
+-- a list was laid over the pixels of a block, and no other pixel changed
+abbrev pub IsBlockLaid : Entries Wrapper Leaf → Span → ℕ → ℕ → Picture → Picture → Type 0
+IsBlockLaid es s y0 y1 old new = IsBlockChanged (λ x y p. composed (pos x) (pos y) p es) s y0 y1 old new
+
+-- a group of a list laid over a pixel
+abbrev pub group_over : ℕ → Entries Wrapper Leaf → ℕ → ℕ → Premultiplied → Premultiplied
+group_over opacity inner x y p = laid_over (scaled (composed (pos x) (pos y) clear inner) opacity) p
+
+-- one pixel laid over another where there is no hole
+abbrev pub over_around : Premultiplied → Rectangle → ℕ → ℕ → Premultiplied → Premultiplied
+over_around q h x y p = if not (holds_pixel h (pos x) (pos y)) then laid_over q p else p
+
+-- from row y0 up to row y1 the pixels in some spans became those of a list, and no other pixel changed
+pub record IsRunPainted (list : Entries Wrapper Leaf) (spans : List Span) (y0 y1 : ℕ) (old new : Picture) : Type 0 where
+  pub width : new.width ≡ old.width
+  pub height : new.height ≡ old.height
+  pub pixels : (x row : ℕ) → x < old.width → row < old.height
+      → on_canvas new x row ≡ (if (nat_le y0 row && nat_lt row y1) && in_spans spans (pos x) then
+      pixel list (pos x) (pos row) else on_canvas old x row)

@@ -1,0 +1,263 @@
+//! Painting entries in a block: the columns of a span in some rows.
+
+ghost use Rattle.std.specs.Prelude.{◌≡◌, ℕ, pos, ◌+◌, ◌-◌, ◌*◌, ◌≤◌, ◌<◌, ◌+ℤ◌, ◌≤ℤ◌, ◌∷◌, [], length};
+ghost use Rattle.rd_geom.specs.Colors.{white};
+ghost use Rattle.rd_list.specs.Displayed.{shown};
+ghost use Rattle.rd_list.specs.Entries as list;
+ghost use Rattle.rd_list.specs.EntryNames.{kept_leaves};
+ghost use Rattle.rd_list.specs.Views.{levels, deeper};
+ghost use Rattle.rd_paint.specs.Internal.Blocks.{IsBlockChanged, IsBlockLaid, group_over, over_around};
+ghost use Rattle.rd_paint.specs.Internal.Picks.{chosen, picked};
+
+use crate::canvas::Canvas;
+use crate::chosen::lay_own;
+use crate::picks::{Pick, pick_at};
+use crate::runs::{clipped, columns, fill, lay_around, rows_of};
+use rd_geom::{Px, Rect, Span, px_of};
+use rd_item::Item;
+use rd_list::{Entry, Kept};
+use std::sync::ledger::Ledger;
+
+/// Makes the pixels of a row of the span white.
+fn whiten_row(canvas: &mut Canvas, span: Span, row: usize)
+    requires on { row < canvas.old.height }
+    requires wide { canvas.old.width ≤ 4096 }
+    requires high { canvas.old.height ≤ 4096 }
+    requires from { pos 0 ≤ℤ span.x0 }
+    requires order { span.x0 ≤ℤ span.x1 }
+    requires within { span.x1 ≤ℤ pos canvas.old.width }
+    ensures { IsBlockChanged (λ x y p. white) span row (row + 1) canvas.old canvas.new }
+{
+    let out = canvas.span_mut(row as i32, span.x0, span.x1);
+    fill(out, Px::WHITE);
+}
+
+/// Makes the pixels of the block white.
+pub(crate) fn whiten(canvas: &mut Canvas, span: Span, y0: usize, y1: usize)
+    requires rows { y0 ≤ y1 }
+    requires on { y1 ≤ canvas.old.height }
+    requires wide { canvas.old.width ≤ 4096 }
+    requires high { canvas.old.height ≤ 4096 }
+    requires from { pos 0 ≤ℤ span.x0 }
+    requires order { span.x0 ≤ℤ span.x1 }
+    requires within { span.x1 ≤ℤ pos canvas.old.width }
+    ensures { IsBlockChanged (λ x y p. white) span y0 y1 canvas.old canvas.new }
+{
+    for row in y0..y1 {
+        whiten_row(canvas, span, row);
+    }
+}
+
+/// Lays the entries that picks name, from bottom to top, over the pixels of the block.
+pub(crate) fn lay_picks_in<A: Ledger>(
+    canvas: &mut Canvas,
+    entries: &[Entry<A>],
+    picks: &[Pick],
+    span: Span,
+    y0: usize,
+    y1: usize,
+    rows: &mut [Px],
+)
+    requires order_rows { y0 ≤ y1 }
+    requires on { y1 ≤ canvas.old.height }
+    requires wide { canvas.old.width ≤ 4096 }
+    requires high { canvas.old.height ≤ 4096 }
+    requires from { pos 0 ≤ℤ span.x0 }
+    requires order { span.x0 ≤ℤ span.x1 }
+    requires within { span.x1 ≤ℤ pos canvas.old.width }
+    requires rows { canvas.old.width * (levels (picked picks.now (shown entries.now)) - 1) ≤ length rows.old }
+    ensures { IsBlockLaid (picked picks.now (shown entries.now)) span y0 y1 canvas.old canvas.new }
+{
+    let mut i = 0;
+    while i < picks.len() {
+        let (place, own) = pick_at(picks, i);
+        lay_at_in(canvas, entries, place, own, span, y0, y1, rows);
+        i = i + 1 + own.len();
+    }
+}
+
+/// Lays the entry at a place, if there is one.
+fn lay_at_in<A: Ledger>(
+    canvas: &mut Canvas,
+    entries: &[Entry<A>],
+    place: u32,
+    own: &[Pick],
+    span: Span,
+    y0: usize,
+    y1: usize,
+    rows: &mut [Px],
+)
+    requires order_rows { y0 ≤ y1 }
+    requires on { y1 ≤ canvas.old.height }
+    requires wide { canvas.old.width ≤ 4096 }
+    requires high { canvas.old.height ≤ 4096 }
+    requires from { pos 0 ≤ℤ span.x0 }
+    requires order { span.x0 ≤ℤ span.x1 }
+    requires within { span.x1 ≤ℤ pos canvas.old.width }
+    requires rows { canvas.old.width * (levels (chosen own.now place (shown entries.now)) - 1) ≤ length rows.old }
+    ensures { IsBlockLaid (chosen own.now place (shown entries.now)) span y0 y1 canvas.old canvas.new }
+{
+    let index = place as usize;
+    if index < entries.len() {
+        lay_pick_in(canvas, &entries[index], own, span, y0, y1, rows);
+    }
+}
+
+fn lay_pick_in<A: Ledger>(
+    canvas: &mut Canvas,
+    entry: &Entry<A>,
+    own: &[Pick],
+    span: Span,
+    y0: usize,
+    y1: usize,
+    rows: &mut [Px],
+)
+    requires order_rows { y0 ≤ y1 }
+    requires on { y1 ≤ canvas.old.height }
+    requires wide { canvas.old.width ≤ 4096 }
+    requires high { canvas.old.height ≤ 4096 }
+    requires from { pos 0 ≤ℤ span.x0 }
+    requires order { span.x0 ≤ℤ span.x1 }
+    requires within { span.x1 ≤ℤ pos canvas.old.width }
+    requires rows { canvas.old.width * (levels (chosen own.now 0 (shown (entry.now ∷ []))) - 1) ≤ length rows.old }
+    ensures { IsBlockLaid (chosen own.now 0 (shown (entry.now ∷ []))) span y0 y1 canvas.old canvas.new }
+{
+    match entry {
+        Entry::Leaf(item) => lay_item_in(canvas, item, span, y0, y1),
+        Entry::Group(group) => lay_group_in(
+            canvas,
+            group.opacity,
+            &group.inner,
+            own,
+            span,
+            y0,
+            y1,
+            rows,
+        ),
+    }
+}
+
+/// Lays what picks name of a group over the pixels of a row of the span.
+fn lay_group_row<A: Ledger>(
+    canvas: &mut Canvas,
+    opacity: u8,
+    inner: &Kept<A>,
+    own: &[Pick],
+    span: Span,
+    row: usize,
+    rows: &mut [Px],
+)
+    requires on { row < canvas.old.height }
+    requires wide { canvas.old.width ≤ 4096 }
+    requires high { canvas.old.height ≤ 4096 }
+    requires from { pos 0 ≤ℤ span.x0 }
+    requires order { span.x0 ≤ℤ span.x1 }
+    requires within { span.x1 ≤ℤ pos canvas.old.width }
+    requires rows { canvas.old.width * (deeper (levels (picked own.now (kept_leaves inner.now.entries))) - 1)
+        ≤ length rows.old }
+    ensures { IsBlockChanged (group_over opacity (picked own.now (kept_leaves inner.now.entries)))
+        span row (row + 1) canvas.old canvas.new }
+{
+    let y = row as i32;
+    let out = canvas.span_mut(y, span.x0, span.x1);
+    lay_own(opacity, inner, own, y, span.x0, out, rows);
+}
+
+/// Lays what picks name of a group over the pixels of the block, a row at a time.
+fn lay_group_in<A: Ledger>(
+    canvas: &mut Canvas,
+    opacity: u8,
+    inner: &Kept<A>,
+    own: &[Pick],
+    span: Span,
+    y0: usize,
+    y1: usize,
+    rows: &mut [Px],
+)
+    requires order_rows { y0 ≤ y1 }
+    requires on { y1 ≤ canvas.old.height }
+    requires wide { canvas.old.width ≤ 4096 }
+    requires high { canvas.old.height ≤ 4096 }
+    requires from { pos 0 ≤ℤ span.x0 }
+    requires order { span.x0 ≤ℤ span.x1 }
+    requires within { span.x1 ≤ℤ pos canvas.old.width }
+    requires rows { canvas.old.width * (deeper (levels (picked own.now (kept_leaves inner.now.entries))) - 1)
+        ≤ length rows.old }
+    ensures { IsBlockChanged (group_over opacity (picked own.now (kept_leaves inner.now.entries)))
+        span y0 y1 canvas.old canvas.new }
+{
+    for row in y0..y1 {
+        lay_group_row(canvas, opacity, inner, own, span, row, rows);
+    }
+}
+
+/// The columns of a span from its place `from` up to its place `to`.
+fn part_of(span: Span, from: usize, to: usize) -> Span
+    requires left { pos 0 ≤ℤ span.x0 }
+    requires order { from ≤ to }
+    requires within { (span.x0 +ℤ pos to) ≤ℤ pos 4096 }
+    ensures { result ≡ record { x0 = span.x0 +ℤ pos from; x1 = span.x0 +ℤ pos to } }
+{
+    Span {
+        x0: span.x0 + from as i32,
+        x1: span.x0 + to as i32,
+    }
+}
+
+/// Lays an item over the pixels of the block.
+fn lay_item_in<A: Ledger>(canvas: &mut Canvas, item: &Item<A>, span: Span, y0: usize, y1: usize)
+    requires order_rows { y0 ≤ y1 }
+    requires on { y1 ≤ canvas.old.height }
+    requires wide { canvas.old.width ≤ 4096 }
+    requires high { canvas.old.height ≤ 4096 }
+    requires from { pos 0 ≤ℤ span.x0 }
+    requires order { span.x0 ≤ℤ span.x1 }
+    requires within { span.x1 ≤ℤ pos canvas.old.width }
+    ensures { IsBlockLaid (list.leaf item.now.leaf list.nil) span y0 y1 canvas.old canvas.new }
+{
+    let seen = item.visible();
+    let (left, right) = clipped(columns(seen), span.x0, (span.x1 - span.x0) as usize);
+    let (top, bottom) = clipped(rows_of(seen), y0 as i32, y1 - y0);
+    if left < right && top < bottom {
+        let part = part_of(span, left, right);
+        lay_rows(
+            canvas,
+            px_of(item.color()),
+            item.shape().inner,
+            part,
+            y0 + top,
+            y0 + bottom,
+        );
+    }
+}
+
+/// Lays one pixel over those of a row of the span that are not in a hole.
+fn lay_one_row(canvas: &mut Canvas, px: Px, hole: Rect, span: Span, row: usize)
+    requires on { row < canvas.old.height }
+    requires wide { canvas.old.width ≤ 4096 }
+    requires high { canvas.old.height ≤ 4096 }
+    requires from { pos 0 ≤ℤ span.x0 }
+    requires order { span.x0 ≤ℤ span.x1 }
+    requires within { span.x1 ≤ℤ pos canvas.old.width }
+    ensures { IsBlockChanged (over_around px hole) span row (row + 1) canvas.old canvas.new }
+{
+    let y = row as i32;
+    let out = canvas.span_mut(y, span.x0, span.x1);
+    lay_around(px, hole, y, span.x0, out);
+}
+
+/// Lays one pixel over those of the block that are not in a hole.
+fn lay_rows(canvas: &mut Canvas, px: Px, hole: Rect, span: Span, y0: usize, y1: usize)
+    requires rows { y0 ≤ y1 }
+    requires on { y1 ≤ canvas.old.height }
+    requires wide { canvas.old.width ≤ 4096 }
+    requires high { canvas.old.height ≤ 4096 }
+    requires from { pos 0 ≤ℤ span.x0 }
+    requires order { span.x0 ≤ℤ span.x1 }
+    requires within { span.x1 ≤ℤ pos canvas.old.width }
+    ensures { IsBlockChanged (over_around px hole) span y0 y1 canvas.old canvas.new }
+{
+    for row in y0..y1 {
+        lay_one_row(canvas, px, hole, span, row);
+    }
+}
