@@ -76,6 +76,7 @@ impl<A: Ledger> Pieces<A> {
     }
 
     /// Puts an item on top.
+    #[inline(always)]
     pub fn push_item(&mut self, item: Item<A>) -> Result<(), AllocError>
         ensures { OnOk result (laid_out self.new ≡ laid_out self.old ▷ one_leaf item) }
     {

@@ -17,6 +17,7 @@ use rd_stack::{BoxData, border_of, content_of, is_seen, outline_of, takes_hits};
 use std::sync::ledger::Ledger;
 
 /// Puts the item of a part of a box on top, which has this shape and this colour, where it shows and is wanted.
+#[inline(always)]
 #[tactic(auto, using(crate::proofs::Joining::joins))]
 fn show<A: Ledger, W: Wanted>(
     out: &mut Pieces<A>,
