@@ -1,5 +1,4 @@
 -- What private contracts say. No public clause cites it, so a reader need not read it.
-pub mod Drawn
 pub mod Looks
 pub mod Marks
 pub mod Moving
@@ -7,5 +6,4 @@ pub mod PlanCode
 pub mod PlanFalls
 pub mod Planning
 pub mod PlanRoom
-pub mod Sample
 pub mod Sought

@@ -20,6 +20,3 @@ mod spans;
 
 pub use buffers::{Buffers, paint_span, repaint};
 pub use canvas::Canvas;
-
-#[cfg(test)]
-mod tests;

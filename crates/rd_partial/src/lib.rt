@@ -17,6 +17,3 @@ mod wanted;
 
 pub use built::{build, build_all};
 pub use touched::touched_area;
-
-#[cfg(test)]
-mod tests;

@@ -18,6 +18,3 @@ pub use program::run;
 pub use status::Status;
 pub use telling::tell;
 pub use words::WordsForm;
-
-#[cfg(test)]
-mod tests;

@@ -26,6 +26,3 @@ pub use rd_edits::Edit;
 pub use reader::read;
 pub use script::{Command, MAX_COMMANDS, MAX_DISTANCE, SceneBox, Script};
 pub use writing::write_scene;
-
-#[cfg(test)]
-mod tests;

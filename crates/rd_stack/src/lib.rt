@@ -16,6 +16,3 @@ mod steps;
 pub use fresh::fresh_list;
 pub use parts::{back_of, border_of, content_of, is_seen, leaf_of, outline_of, takes_hits};
 pub use path::BoxData;
-
-#[cfg(test)]
-mod tests;

@@ -1,4 +1,0 @@
-use Rattle.rd_merge.proofs.tests.small_merges.Given as goal
-
-abbrev pub ghosts-merges : goal.ghosts-merges
-ghosts-merges g a = record { name = a.blank.name; parts = a.blank.parts }

@@ -1,4 +1,0 @@
-use Rattle.rd_stack.proofs.tests.scenes.Given as goal
-
-abbrev pub ghosts-all_scenes : goal.ghosts-all_scenes
-ghosts-all_scenes g a = record { name = a.blank.name; parts = a.blank.parts }

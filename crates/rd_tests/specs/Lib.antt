@@ -1,0 +1,2 @@
+pub mod DrawnLevels
+pub mod SampleLists
