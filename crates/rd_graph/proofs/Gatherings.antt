@@ -1,5 +1,6 @@
 -- Elements of a list by their places: one after another, and as a map.
-use Rattle.std.proofs.Common.{◌≡◌, refl, ◌∙◌, sym, subst, ℕ, zero, suc, ◌+◌, ◌<◌, ◌≤◌, List, [], ◌∷◌, ◌++◌, length, take, drop, get_or, map, inl, inr, arith, add-one, drop-cons, append_assoc}
+use Rattle.std.proofs.Common.{◌≡◌, refl, ap, ◌∙◌, sym, subst, ℕ, zero, suc, ◌+◌, ◌<◌, ◌≤◌, List, [], ◌∷◌, ◌++◌, length, take, drop, get_or, map, inl, inr, arith, add-one, drop-cons, append_assoc}
+use Rattle.std.proofs.lemmas.List.{append-nil}
 use Rattle.rd_graph.specs.Gathered.{gathered, ArePlaces}
 use Rattle.rd_graph.proofs.Listing.{Has, Once, has_map}
 
@@ -75,3 +76,7 @@ drop_end (x ∷ xs) (suc i) h = drop_end xs i (omega arith)
 -- one more of a list that is made from the front
 pub joins_on : {E : Type 0} (now then more rest whole : List E) → then ≡ now ++ more → now ++ (more ++ rest) ≡ whole → then ++ rest ≡ whole
 joins_on now then more rest whole is was = rw is (append_assoc now more rest ∙ was)
+
+-- what a loop over a list has put together when it comes to the end
+pub whole_at_end : {A E : Type 0} (f : List A → List E) (xs : List A) (i : ℕ) (now whole : List E) → length xs ≤ i → f [] ≡ [] → now ++ f (drop i xs) ≡ whole → now ≡ whole
+whole_at_end f xs i now whole l none is = sym (append-nil now) ∙ ap (λ zs. now ++ zs) (sym none) ∙ ap (λ ys. now ++ f ys) (sym (drop_end xs i l)) ∙ is

@@ -17,7 +17,7 @@ use Rattle.rd_graph.specs.Patches.{CanBePatched, IsArranged, is_gone, not_found}
 use Rattle.rd_graph.specs.Internal.Chains.{AreLabels}
 use Rattle.rd_graph.specs.Internal.Seen.{seen}
 use Rattle.rd_graph.specs.Internal.Walks.{stays_at, staying, counted, free_after}
-use Rattle.rd_graph.specs.Internal.Ranks.{fixed, loose, ranked}
+use Rattle.rd_graph.specs.Internal.Ranks.{fixed, loose, ranked, ArePlacesByRank}
 use Rattle.rd_graph.specs.declared.graph.Node.{Node}
 use Rattle.rd_graph.proofs.Listing.{Has, Once, cases, has_from, contains_from, has_left, has_right, has_either, has_map, map_has, before_left, before_right, before_across, before_once, before_from, before_to, once_join}
 use Rattle.rd_graph.proofs.Calls.{once_of, once_to}
@@ -269,23 +269,18 @@ module _ (gone : List ℕ) (chain : List EntryKey) (found : List (Option ℕ)) (
   pub count_places : length places ≡ length chain
   count_places = ap length are ∙ places_length chain found (length ns) _ can.found_are
 
-  pub once_fixed : (names : List EntryKey) → names ≡ fixed stays places chain → spec.Once names
-  once_fixed names is = subst spec.Once (sym is) (once_to (fixed stays places chain) (fx_once gone chain found (seen ns) can sound stays places size_seen marked_seen are_seen))
+  pub once_fixed : spec.Once (fixed stays places chain)
+  once_fixed = once_to (fixed stays places chain) (fx_once gone chain found (seen ns) can sound stays places size_seen marked_seen are_seen)
 
-  pub ranked_by : (names : List EntryKey) (label : EntryKey → ℕ) (start all sorted : List (ℕ × ℕ)) (kept places_sorted : List ℕ) → names ≡ fixed stays places chain → AreLabels (seen ns) names label
-      → start ≡ loose stays 0 places → kept ≡ staying stays 0 (length ns) → all ≡ start ++ ranked label (nodes (seen ns)) kept
-      → IsPermutation all sorted → IsNonDecreasingBy (λ (x : ℕ × ℕ). x.0) sorted → IsStableByKey (λ (x : ℕ × ℕ). x.0) nat_cmp all sorted → places_sorted ≡ map (λ (x : ℕ × ℕ). x.1) sorted
-      → IsArranged gone chain found (seen ns) (Some places_sorted)
-  ranked_by names label start all sorted kept places_sorted is labels start_is kept_is all_is moved up stable line_is =
-      subst (λ (ls : List ℕ). IsArranged gone chain found (seen ns) (Some ls)) (sym line_is)
-      (ranked_line gone chain found (seen ns) can sound stays places size_seen marked_seen are_seen label (subst (λ ks. AreLabels (seen ns) ks label) is labels) all sorted
-      (all_is ∙ ap (λ zs. zs ++ ranked label (nodes (seen ns)) kept) start_is ∙ ap (λ qs. loose stays 0 places ++ ranked label (nodes (seen ns)) qs) (kept_is ∙ ap (λ m. staying stays 0 m) (sym (seen_length ns)))) moved up stable)
+  pub ranked_by : (line : List ℕ) → ArePlacesByRank stays places chain (seen ns) line → IsArranged gone chain found (seen ns) (Some line)
+  ranked_by line by =
+      let r = by.by_rank in
+      subst (λ (ls : List ℕ). IsArranged gone chain found (seen ns) (Some ls)) (sym by.alone)
+      (ranked_line gone chain found (seen ns) can sound stays places size_seen marked_seen are_seen r.put.label r.put.labels r.before by.pairs
+      (r.put.pairs ∙ ap (λ m. loose stays 0 places ++ ranked r.put.label (nodes (seen ns)) (staying stays 0 m)) size_seen) r.same r.sorted r.stable)
 
-pub kept_is : (stays : List Bool) (ns : List Node) (empty kept : List ℕ) → length stays ≡ length ns → empty ≡ [] → kept ≡ empty ++ staying stays 0 (length stays - 0) → kept ≡ staying stays 0 (length ns)
-kept_is stays ns empty kept size none is = let e : length stays - 0 ≡ length ns = omega (arith, size) in is ∙ ap (λ ks. ks ++ staying stays 0 (length stays - 0)) none ∙ ap (λ m. staying stays 0 m) e
-
-pub kept_within : (stays : List Bool) (ns : List Node) (kept : List ℕ) → kept ≡ staying stays 0 (length ns) → (k : ℕ) → k < length kept → get_or kept k 0 < length ns
-kept_within stays ns kept is k l = below_at (length ns) kept k (subst (λ ks. AreBelow (length ns) ks) (sym is) (has_below (length ns) (staying stays 0 (length ns)) (λ p h. let r = staying_to stays 0 (length ns) p h in let u = r.2 in omega (arith, u)))) l
+pub kept_within : (stays : List Bool) (ns : List Node) (kept : List ℕ) → length stays ≡ length ns → kept ≡ staying stays 0 (length stays) → (k : ℕ) → k < length kept → get_or kept k 0 < length ns
+kept_within stays ns kept size is k l = below_at (length ns) kept k (subst (λ ks. AreBelow (length ns) ks) (sym is) (has_below (length ns) (staying stays 0 (length stays)) (λ p h. let r = staying_to stays 0 (length stays) p h in let u = r.2 in omega (arith, u, size)))) l
 
 pub marked_at : (now stays : List Bool) (n : ℕ) (gone : List ℕ) → now ≡ stays → ((p : ℕ) → p < n → IsTrue (stays_at stays p) ↔ (Contains gone p → ⊥)) → (p : ℕ) → p < n → IsTrue (stays_at now p) ↔ (Contains gone p → ⊥)
 marked_at now stays n gone e h = subst (λ (ss : List Bool). (p : ℕ) → p < n → IsTrue (stays_at ss p) ↔ (Contains gone p → ⊥)) (sym e) h

@@ -1,5 +1,6 @@
 -- The loops over ranks.
-use Rattle.std.proofs.Common.{◌≡◌, refl, ap, ◌∙◌, sym, ℕ, ◌+◌, ◌<◌, ◌≤◌, Bool, cond, List, [], ◌∷◌, ◌++◌, length, take, drop, get_or, inl, inr, arith}
+use Rattle.std.proofs.Common.{◌≡◌, refl, ap, ◌∙◌, sym, ℕ, ◌+◌, ◌<◌, ◌≤◌, Bool, cond, List, [], ◌∷◌, ◌++◌, length, map, take, drop, get_or, inl, inr, arith}
+use Rattle.std.proofs.lemmas.List.{map-append, take_more}
 use Rattle.rd_graph.specs.Internal.Walks.{stays_at}
 use Rattle.rd_graph.specs.Internal.Ranks.{fixed, rank_after, loose_one, loose, ranked}
 use Rattle.rd_keys.specs.declared.entry.EntryKey.{EntryKey}
@@ -36,3 +37,7 @@ ranked_next rank ns ps i x r now then whole l u was r_is is =
     let one : take 1 (drop p (nodes (seen ns))) ≡ (get_or ns p x).key ∷ [] = one_at (nodes (seen ns)) p x.key (omega (arith, e, u)) ∙ ap (λ k. k ∷ []) (node_name ns p x) in
     let split : ranked rank (nodes (seen ns)) (drop i ps) ≡ (rank (get_or ns p x).key, p) ∷ ranked rank (nodes (seen ns)) (drop (i + 1) ps) = rw (drop_at ps i 0 l, one) refl in
     joins_on now then ((rank (get_or ns p x).key, p) ∷ []) (ranked rank (nodes (seen ns)) (drop (i + 1) ps)) whole (is ∙ ap (λ n. now ++ (n, p) ∷ []) r_is) (sym (ap (λ zs. now ++ zs) split) ∙ was)
+
+pub alone_next : (ps : List (ℕ × ℕ)) (i : ℕ) (d : ℕ × ℕ) (now then : List ℕ) → i < length ps → now ≡ map (λ (p : ℕ × ℕ). p.1) (take i ps) → then ≡ now ++ (get_or ps i d).1 ∷ [] → then ≡ map (λ (p : ℕ × ℕ). p.1) (take (i + 1) ps)
+alone_next ps i d now then l was is =
+    is ∙ ap (λ ns. ns ++ (get_or ps i d).1 ∷ []) was ∙ sym (map-append (λ (p : ℕ × ℕ). p.1) (take i ps) (get_or ps i d ∷ [])) ∙ ap (map (λ (p : ℕ × ℕ). p.1)) (sym (take_more ps i d l))

@@ -1,5 +1,7 @@
 -- Lines in which the places of old elements rise, and those of made ones.
 use Rattle.std.proofs.Common.{◌≡◌, refl, ap, ◌∙◌, sym, subst, ℕ, zero, suc, ◌+◌, ◌-◌, ◌<◌, ◌≤◌, List, [], ◌∷◌, ◌++◌, length, get_or, take, drop, arith, inl, inr, append_assoc, Option, Some, None}
+use Rattle.std.proofs.lemmas.Bool.{cases_lt}
+use Rattle.std.specs.Prelude.{◌≢◌}
 use Rattle.std.specs.Vec.Iter.{into_iter_items, into_iter_len, into_iter_steps}
 use Rattle.std.specs.declared.vec.IntoIter.{IntoIter}
 use Rattle.rd_graph.specs.Gathered.{gathered, Rises}
@@ -168,6 +170,21 @@ first_of line at = get_or-drop at line 0 0 ∙ ap (λ k. get_or line k 0) (let e
 -- what is left after so many that are passed over, and more
 pub passed_to : {T : Type 0} (xs rest then : List T) (next passed to : ℕ) → rest ≡ drop next xs → then ≡ drop passed rest → to ≡ next + passed → then ≡ drop to xs
 passed_to xs rest then next passed to r t e = t ∙ ap (drop passed) r ∙ drop-drop passed next xs ∙ ap (λ k. drop k xs) (sym e)
+
+-- a run is longer than nothing where it stops at a place that is not the next one
+pub started : (line : List ℕ) (from at next : ℕ) → from ≤ at → next ≡ get_or line from 0 + (at - from) → get_or line at 0 ≢ next → from < at
+started line from at next a e n = elim (cases_lt from at) [
+  | inl l ↦ l
+  | inr r ↦
+      let same : at ≡ from = omega (arith, a, r) in
+      let first : get_or line from 0 ≡ next = omega (arith, e, same) in
+      absurd (n (ap (λ k. get_or line k 0) same ∙ first))
+]
+
+-- how many are left after so many that are passed over
+pub left_of : {T : Type 0} (xs rest then : List T) (next to end : ℕ) → length xs ≡ end → next ≤ to → rest ≡ drop next xs → then ≡ drop (to - next) rest → length then ≡ end - to
+left_of xs rest then next to end e l r t =
+    ap length (passed_to xs rest then next (to - next) to r t (omega (arith, l))) ∙ length-drop to xs ∙ ap (λ n. n - to) e
 
 -- ---- elements are taken one after another
 

@@ -1,6 +1,8 @@
 //! The line in which the nodes of a merge stand.
 ghost use Rattle.std.specs.Prelude.{◌≡◌, ◌+◌, ◌<◌, ◌≤◌, ◌↔◌, ◌⊎◌, ◌≢◌, ℕ, slice_index_or, ◌∷◌, ◌++◌, ◌^◌, [], IfOk, OnOk, IsTrue, length, Contains, option_map};
 ghost use Rattle.rd_graph.specs.Patches.{AreRising, CanBePatched, IsArranged};
+ghost use Rattle.rd_graph.specs.Graphs.{IsInOrder};
+ghost use Rattle.rd_graph.specs.Internal.Ranks.{IsLineOf};
 ghost use Rattle.rd_graph.specs.Internal.Seen.{seen};
 ghost use Rattle.rd_graph.specs.Internal.Walks.{counted, place_or, free_after, IsMet, RisesTo};
 
@@ -105,6 +107,26 @@ fn stands_still(gone: &[usize], places: &[usize], end: usize) -> bool
     are_among(gone, places)
 }
 
+/// A line in which each edge of a merge goes forward: by one walk where that serves, or else by ranks.
+fn moving_line(
+    alloc: Global,
+    nodes: &[Node],
+    gone: &[usize],
+    chain: &[EntryKey],
+    found: &[Option<usize>],
+    places: &[usize],
+) -> Result<Vec<usize>, AllocError>
+    requires sound { IsInOrder (seen nodes.now) }
+    requires can { CanBePatched gone.now chain.now found.now (seen nodes.now) }
+    requires places { places.now ≡ counted (length nodes.now) found.now }
+    ensures { IfOk result (IsLineOf gone.now chain.now found.now (seen nodes.now)) }
+{
+    if let Some(line) = walked_line(alloc, nodes, gone, chain, found, places)? {
+        return Ok(line);
+    }
+    ranked_line(alloc, nodes, gone, chain, found, places)
+}
+
 /// The places of the nodes of a merge in an order in which each edge goes forward. None where every node may stay at its
 /// place.
 pub(crate) fn arrange(
@@ -122,9 +144,6 @@ pub(crate) fn arrange(
     if stands_still(gone, &places, nodes.len()) {
         return Ok(None);
     }
-    if let Some(line) = walked_line(alloc, nodes, gone, chain, found, &places)? {
-        return Ok(Some(line));
-    }
-    let line = ranked_line(alloc, nodes, gone, chain, found, &places)?;
+    let line = moving_line(alloc, nodes, gone, chain, found, &places)?;
     Ok(Some(line))
 }

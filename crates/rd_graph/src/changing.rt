@@ -146,6 +146,18 @@ pub(crate) fn is_among(keys: &[Name], name: EntryKey) -> bool
     false
 }
 
+/// Puts a list at the end, with the place of its node.
+pub(crate) fn push_list(
+    lists: &mut Vec<(usize, Before)>,
+    place: usize,
+    before: Before,
+) -> Result<(), AllocError>
+    ensures { OnOk result (lists_seen lists.new.items ≡ lists_seen lists.old.items ++ (place, before.items) ∷ []) }
+{
+    lists.push((place, before))?;
+    Ok(())
+}
+
 /// A late node gets a new list.
 fn relist(
     alloc: Global,
@@ -159,8 +171,7 @@ fn relist(
         ++ (place, resolved_once gone.now.names notes.now node.now.before.items) ∷ []) }
 {
     let before = resolve(alloc, &gone.names, notes, &node.before)?;
-    lists.push((place, before))?;
-    Ok(())
+    push_list(lists, place, before)
 }
 
 /// A node that goes is noted, and a late one gets a new list.
@@ -410,7 +421,7 @@ fn go_along(
     }
     let before = own(alloc, gone, notes, node)?;
     let before = with_edge(before, name)?;
-    lists.push((place, before))?;
+    push_list(lists, place, before)?;
     Ok(())
 }
 
@@ -460,6 +471,47 @@ fn go_along_all(
     Ok(())
 }
 
+/// What one pass gave, and after it the new lists of the nodes of the chain.
+fn led_along(
+    alloc: Global,
+    nodes: &[Node],
+    gone: &Gone,
+    chain: &[EntryKey],
+    found: &[Option<usize>],
+    passed: Passed,
+) -> Result<Vec<(usize, Before)>, AllocError>
+    requires sound { IsInOrder (seen nodes.now) }
+    requires once { Once chain.now }
+    requires found_are { found.now ≡ found_in chain.now (seen nodes.now) }
+    requires marked { AreMarked gone.now.marks.items gone.now.names }
+    ensures { IfOk result (λ v. GoesAlong (has_it gone.now.names) same_entry (resolved_once gone.now.names passed.notes)
+        chain.now chain.now (seen nodes.now) (lists_seen passed.lists.items) (lists_seen v.items)) }
+{
+    let mut lists = passed.lists;
+    go_along_all(alloc, nodes, gone, &passed.notes, chain, found, &mut lists)?;
+    Ok(lists)
+}
+
+/// New lists of predecessors, where it is known which names go.
+fn changed_by(
+    alloc: Global,
+    nodes: &[Node],
+    places: &[usize],
+    gone: &Gone,
+    chain: &[EntryKey],
+    found: &[Option<usize>],
+) -> Result<Vec<(usize, Before)>, AllocError>
+    requires sound { IsInOrder (seen nodes.now) }
+    requires can { CanBePatched places.now chain.now found.now (seen nodes.now) }
+    requires named { fits_list gone.now.names (gathered places.now (nodes_of (seen nodes.now))) }
+    requires marked { AreMarked gone.now.marks.items gone.now.names }
+    requires whole { 0 < length places.now → length gone.now.marks.items ≡ 4096 }
+    ensures { IfOk result (λ v. IsRelisted places.now chain.now (seen nodes.now) (lists_seen v.items)) }
+{
+    let passed = pass_all(alloc, nodes, places, gone)?;
+    led_along(alloc, nodes, gone, chain, found, passed)
+}
+
 /// New lists of predecessors with the places of their nodes: of the nodes that stand after one that goes, and of those of
 /// the chain.
 pub(crate) fn changed(
@@ -475,8 +527,5 @@ pub(crate) fn changed(
 {
     let places = gone;
     let gone = gone_at(alloc, nodes, places)?;
-    let passed = pass_all(alloc, nodes, places, &gone)?;
-    let mut lists = passed.lists;
-    go_along_all(alloc, nodes, &gone, &passed.notes, chain, found, &mut lists)?;
-    Ok(lists)
+    changed_by(alloc, nodes, places, &gone, chain, found)
 }

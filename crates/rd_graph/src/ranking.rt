@@ -3,10 +3,11 @@ ghost use Rattle.std.specs.Prelude.{◌≡◌, ℕ, ◌+◌, ◌<◌, ◌++◌, 
 ghost use Rattle.std.specs.List.Sorted.{IsNonDecreasingBy, IsStableByKey};
 ghost use Rattle.std.specs.Ordering.{nat_cmp};
 ghost use Rattle.rd_graph.specs.Graphs.{IsInOrder};
+ghost use Rattle.rd_graph.specs.Orders.{Once};
 ghost use Rattle.rd_graph.specs.Patches.{CanBePatched};
 ghost use Rattle.rd_graph.specs.Internal.Seen.{seen};
-ghost use Rattle.rd_graph.specs.Internal.Walks.{stays_at, counted};
-ghost use Rattle.rd_graph.specs.Internal.Ranks.{fixed, rank_after, loose_one, loose, ranked_nodes, IsLineOf};
+ghost use Rattle.rd_graph.specs.Internal.Walks.{stays_at, staying, counted};
+ghost use Rattle.rd_graph.specs.Internal.Ranks.{fixed, rank_after, loose_one, loose, ranked_nodes, PutsLabelled, AreByRank, ArePlacesByRank, IsLineOf};
 
 use crate::chain::label_nodes;
 use crate::graph::Node;
@@ -115,6 +116,107 @@ fn places_alone(alloc: Global, pairs: &[(usize, usize)]) -> Result<Vec<usize>, A
     Ok(places)
 }
 
+/// The places that stay.
+fn staying_places(alloc: Global, stays: &[bool]) -> Result<Vec<usize>, AllocError>
+    ensures { IfOk result (λ v. v.items ≡ staying stays.now 0 (length stays.now)) }
+{
+    let mut kept = Vec::with_capacity(alloc, stays.len())?;
+    push_staying(&mut kept, stays, 0, stays.len())?;
+    Ok(kept)
+}
+
+/// Puts the places that stay at the end, with the ranks of their nodes.
+fn push_kept(
+    alloc: Global,
+    pairs: &mut Vec<(usize, usize)>,
+    nodes: &[Node],
+    stays: &[bool],
+    labels: &IndexMap<EntryKey, usize>,
+    last: usize,
+) -> Result<(), AllocError>
+    requires { length stays.now ≡ length nodes.now }
+    ensures { OnOk result (pairs.new.items
+        ≡ pairs.old.items ++ ranked_nodes labels.now last nodes.now (staying stays.now 0 (length stays.now))) }
+{
+    let kept = staying_places(alloc, stays)?;
+    push_ranked(pairs, nodes, &kept, labels, last)
+}
+
+/// Puts the places that stay at the end, with the ranks of their nodes among some names.
+fn push_labelled(
+    alloc: Global,
+    pairs: &mut Vec<(usize, usize)>,
+    nodes: &[Node],
+    stays: &[bool],
+    names: &[EntryKey],
+) -> Result<(), AllocError>
+    requires sound { IsInOrder (seen nodes.now) }
+    requires stays { length stays.now ≡ length nodes.now }
+    requires once { Once names.now }
+    ensures { OnOk result (PutsLabelled names.now stays.now (seen nodes.now) pairs.old.items pairs.new.items) }
+{
+    let labels = label_nodes(alloc, nodes, names)?;
+    push_kept(alloc, pairs, nodes, stays, &labels, names.len())
+}
+
+/// Puts the places that stay at the end, with the ranks of their nodes among the names of a chain that stay.
+fn push_nodes(
+    alloc: Global,
+    pairs: &mut Vec<(usize, usize)>,
+    nodes: &[Node],
+    stays: &[bool],
+    places: &[usize],
+    chain: &[EntryKey],
+) -> Result<(), AllocError>
+    requires sound { IsInOrder (seen nodes.now) }
+    requires stays { length stays.now ≡ length nodes.now }
+    requires places { length places.now ≡ length chain.now }
+    requires once { Once (fixed stays.now places.now chain.now) }
+    ensures { OnOk result (PutsLabelled (fixed stays.now places.now chain.now) stays.now (seen nodes.now)
+        pairs.old.items pairs.new.items) }
+{
+    let names = fixed_names(alloc, stays, places, chain)?;
+    push_labelled(alloc, pairs, nodes, stays, &names)
+}
+
+/// The places with their ranks, by their ranks.
+fn sorted_pairs(
+    alloc: Global,
+    nodes: &[Node],
+    stays: &[bool],
+    places: &[usize],
+    chain: &[EntryKey],
+) -> Result<Vec<(usize, usize)>, AllocError>
+    requires sound { IsInOrder (seen nodes.now) }
+    requires stays { length stays.now ≡ length nodes.now }
+    requires places { length places.now ≡ length chain.now }
+    requires once { Once (fixed stays.now places.now chain.now) }
+    ensures { IfOk result (λ v. AreByRank stays.now places.now chain.now (seen nodes.now) v.items) }
+{
+    let mut pairs = loose_pairs(alloc, stays, places)?;
+    push_nodes(alloc, &mut pairs, nodes, stays, places, chain)?;
+    sort(&mut pairs)?;
+    Ok(pairs)
+}
+
+/// The places by their ranks.
+fn sorted_places(
+    alloc: Global,
+    nodes: &[Node],
+    stays: &[bool],
+    places: &[usize],
+    chain: &[EntryKey],
+) -> Result<Vec<usize>, AllocError>
+    requires sound { IsInOrder (seen nodes.now) }
+    requires stays { length stays.now ≡ length nodes.now }
+    requires places { length places.now ≡ length chain.now }
+    requires once { Once (fixed stays.now places.now chain.now) }
+    ensures { IfOk result (λ v. ArePlacesByRank stays.now places.now chain.now (seen nodes.now) v.items) }
+{
+    let pairs = sorted_pairs(alloc, nodes, stays, places, chain)?;
+    places_alone(alloc, &pairs)
+}
+
 /// The line by ranks.
 pub(crate) fn ranked_line(
     alloc: Global,
@@ -129,16 +231,6 @@ pub(crate) fn ranked_line(
     requires places { places.now ≡ counted (length nodes.now) found.now }
     ensures { IfOk result (IsLineOf gone.now chain.now found.now (seen nodes.now)) }
 {
-    let marked = marks(alloc, nodes.len(), gone)?;
-    let stays: &[bool] = &marked;
-    let names = fixed_names(alloc, stays, places, chain)?;
-    let fixed: &[EntryKey] = &names;
-    let labels = label_nodes(alloc, nodes, fixed)?;
-    let mut pairs = loose_pairs(alloc, stays, places)?;
-    let mut kept = Vec::with_capacity(alloc, nodes.len())?;
-    push_staying(&mut kept, stays, 0, stays.len())?;
-    push_ranked(&mut pairs, nodes, &kept, &labels, fixed.len())?;
-    sort(&mut pairs)?;
-    let line = places_alone(alloc, &pairs)?;
-    Ok(line)
+    let stays = marks(alloc, nodes.len(), gone)?;
+    sorted_places(alloc, nodes, &stays, places, chain)
 }

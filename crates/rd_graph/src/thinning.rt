@@ -106,19 +106,27 @@ fn places_of(alloc: Global, nodes: &[Node]) -> Result<Places, AllocError>
     Ok(places)
 }
 
+/// Nodes, whose places are known, without those predecessors that short climbs find to be implied.
+fn thinned_by(alloc: Global, nodes: &[Node], places: &Places) -> Result<ThinNodes, AllocError>
+    requires { places.now ≡ nodes_of (seen nodes.now) }
+    ensures { IfOk result (λ t. IsThinned (seen nodes.now) (seen t.nodes.items) (lists_seen t.lists.items)) }
+{
+    let mut thin = Vec::with_capacity(alloc, nodes.len())?;
+    let mut lists = Vec::new(alloc);
+    for place in 0..nodes.len() {
+        let node = &nodes[place];
+        thin_one(alloc, nodes, places, &mut thin, &mut lists, place, node)?;
+    }
+    Ok(ThinNodes { nodes: thin, lists })
+}
+
 /// Nodes without those predecessors that short climbs find to be implied.
 pub(crate) fn thinned(alloc: Global, nodes: &[Node]) -> Result<ThinNodes, AllocError>
     requires { IsInOrder (seen nodes.now) }
     ensures { IfOk result (λ t. IsThinned (seen nodes.now) (seen t.nodes.items) (lists_seen t.lists.items)) }
 {
     let places = places_of(alloc, nodes)?;
-    let mut thin = Vec::with_capacity(alloc, nodes.len())?;
-    let mut lists = Vec::new(alloc);
-    for place in 0..nodes.len() {
-        let node = &nodes[place];
-        thin_one(alloc, nodes, &places, &mut thin, &mut lists, place, node)?;
-    }
-    Ok(ThinNodes { nodes: thin, lists })
+    thinned_by(alloc, nodes, &places)
 }
 
 /// Lists of predecessors, and after them others.

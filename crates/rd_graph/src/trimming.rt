@@ -1,5 +1,5 @@
 //! New lists of predecessors without what a chain implies: of the names of a chain, the last one in a list comes after the others.
-ghost use Rattle.std.specs.Prelude.{◌≡◌, IfOk, OnOk, if◌then◌else◌, [], ◌∷◌, ◌++◌};
+ghost use Rattle.std.specs.Prelude.{◌≡◌, ◌<◌, ℕ, List, Contains, length, IfOk, OnOk, if◌then◌else◌, [], ◌∷◌, ◌++◌};
 ghost use Rattle.rd_graph.specs.Names.{place_of, same_entry};
 ghost use Rattle.rd_graph.specs.Orders.{Once};
 ghost use Rattle.rd_graph.specs.Internal.Patching.{lists_seen};
@@ -8,6 +8,7 @@ ghost use Rattle.rd_graph.specs.Internal.Trimming.{higher, highest, is_left, tri
 
 use crate::asking::{marks_asked, places_asked};
 use crate::before::{Before, Name, nothing, push};
+use crate::changing::push_list;
 use crate::tables::find;
 use indexmap::IndexMap;
 use rd_keys::EntryKey;
@@ -85,6 +86,21 @@ fn trim(
     left_of(alloc, places, &keys)
 }
 
+/// Puts a list at the end, the same of it, with the place of its node.
+fn push_trimmed(
+    alloc: Global,
+    places: &IndexMap<EntryKey, usize>,
+    all: &mut Vec<(usize, Before)>,
+    place: usize,
+    keys: Before,
+) -> Result<(), AllocError>
+    ensures { OnOk result (lists_seen all.new.items
+        ≡ lists_seen all.old.items ++ (place, trimmed (at places.now) keys.items) ∷ []) }
+{
+    let keys = trim(alloc, places, keys)?;
+    push_list(all, place, keys)
+}
+
 /// The same of each of these lists.
 fn trim_all(
     alloc: Global,
@@ -96,10 +112,23 @@ fn trim_all(
 {
     let mut all = Vec::with_capacity(alloc, lists.len())?;
     for (place, before) in lists {
-        let before = trim(alloc, places, before)?;
-        all.push((place, before))?;
+        push_trimmed(alloc, places, &mut all, place, before)?;
     }
     Ok(all)
+}
+
+/// The places in a chain of its names, at least of those that stand in a list of more than one.
+fn places_in(
+    alloc: Global,
+    chain: &[EntryKey],
+    lists: &[(usize, Before)],
+) -> Result<IndexMap<EntryKey, usize>, AllocError>
+    requires { Once chain.now }
+    ensures { IfOk result (λ t. (l : ℕ × List EntryKey) → Contains (lists_seen lists.now) l → 1 < length l.1
+        → (k : EntryKey) → Contains l.1 k → at t k ≡ place_of same_entry chain.now k) }
+{
+    let marks = marks_asked(alloc, lists)?;
+    places_asked(alloc, chain, &marks)
 }
 
 /// New lists of predecessors without the names that the chain implies.
@@ -115,8 +144,6 @@ pub(crate) fn trimmed(
     if lists.is_empty() {
         return Ok(lists);
     }
-    let marks = marks_asked(alloc, &lists)?;
-    let places = places_asked(alloc, chain, &marks)?;
-    let lists = trim_all(alloc, &places, lists)?;
-    Ok(lists)
+    let places = places_in(alloc, chain, &lists)?;
+    trim_all(alloc, &places, lists)
 }

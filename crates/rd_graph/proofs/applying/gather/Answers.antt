@@ -1,6 +1,7 @@
-use Rattle.std.proofs.Common.{◌≡◌, ◌∙◌, sym, ap, arith, get_or, ◌++◌, true, not}
-use Rattle.std.proofs.lemmas.List.{length-append}
+use Rattle.std.proofs.Common.{◌≡◌, ◌∙◌, sym, ap, arith, get_or, ◌++◌, true, not, ℕ, List}
+use Rattle.std.proofs.lemmas.List.{length-append, take_all}
 use Rattle.std.specs.Result.{is_ok}
+use Rattle.rd_graph.specs.Gathered.{gathered}
 use Rattle.rd_graph.proofs.PutInPlace.{gathered_more}
 use Rattle.rd_graph.proofs.applying.gather.Goals as goal
 
@@ -24,3 +25,13 @@ loop-p-preserved c =
       filled = omega (arith, len, inv.filled);
       roomy = omega (arith, more, inv.roomy);
     }
+
+pub take_node-node-requires : goal.take_node-node-requires
+take_node-node-requires c =
+    let within = c.requires.places.within c.loop-p.p-index c.loop-p-test.true in
+    let nodes = c.loop-p.invariant.nodes in
+    let made = c.loop-p.invariant.made in
+    omega (arith, within, nodes, made)
+
+pub returns : goal.returns
+returns c = c.loop-p.invariant.moved ∙ ap (λ (ps : List ℕ). c.args.room.now.items ++ gathered ps (c.args.nodes.now.items ++ c.args.made.now.items)) (take_all c.loop-p.p-index c.args.line.now c.loop-p-test.false)

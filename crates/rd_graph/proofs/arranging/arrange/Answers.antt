@@ -1,5 +1,8 @@
-use Rattle.std.proofs.Common.{refl, subst, length}
+use Rattle.std.proofs.Common.{refl, ap, ◌∙◌, sym, subst, List, Some, length}
 use Rattle.rd_graph.specs.Graphs.{IsInOrder}
+use Rattle.rd_graph.specs.Patches.{CanBePatched, IsArranged}
+use Rattle.rd_graph.specs.Internal.Seen.{seen}
+use Rattle.rd_graph.specs.declared.graph.Node.{Node}
 use Rattle.rd_graph.proofs.StandingStill.{still_line}
 use Rattle.rd_graph.proofs.arranging.arrange.Goals as goal
 
@@ -8,3 +11,15 @@ returns-then-stands_still c =
     still_line c.args.gone.now c.args.chain.now c.args.found.now c.args.graph.now c.requires (subst IsInOrder c.graph.view_is c.graph.invariant)
     c.graph.inside.nodes.items c.deref-nodes.result.now c.in_ok-places.places.items c.deref.result.now (length c.deref-nodes.result.now) c.graph.view_is c.deref-nodes.ensures.value c.deref.ensures.value c.in_ok-places.ensures refl
     (c.if-stands_still.ensures.0 refl).0 (c.if-stands_still.ensures.0 refl).1
+
+pub moving_line-requires-clause-sound : goal.moving_line-requires-clause-sound
+moving_line-requires-clause-sound c = subst (λ (ns : List Node). IsInOrder (seen ns)) (sym c.deref-nodes.ensures.value) c.graph.invariant
+
+pub moving_line-requires-clause-can : goal.moving_line-requires-clause-can
+moving_line-requires-clause-can c = subst (CanBePatched c.args.gone.now c.args.chain.now c.args.found.now) (sym (ap seen c.deref-nodes.ensures.value ∙ c.graph.view_is)) c.requires
+
+pub moving_line-requires-clause-places : goal.moving_line-requires-clause-places
+moving_line-requires-clause-places c = c.deref-2.ensures.value ∙ c.in_ok-places.ensures
+
+pub returns : goal.returns
+returns c = subst (λ g. IsArranged c.args.gone.now c.args.chain.now c.args.found.now g (Some c.in_ok-line.line.items)) (ap seen c.deref-nodes.ensures.value ∙ c.graph.view_is) c.in_ok-line.ensures

@@ -1,6 +1,7 @@
-use Rattle.std.proofs.Common.{arith, get_or}
+use Rattle.std.proofs.Common.{◌≡◌, ◌-◌, ◌∙◌, ap, arith, length, get_or}
+use Rattle.std.proofs.lemmas.List.{length-drop}
 use Rattle.std.specs.Vec.Iter.{into_iter_items}
-use Rattle.rd_graph.proofs.RisingLines.{dropped_on, run_on, taken_on}
+use Rattle.rd_graph.proofs.RisingLines.{dropped_on, run_on, started, taken_on}
 use Rattle.rd_graph.proofs.lining_up.move_run.Goals as goal
 
 pub loop-at-preserved : goal.loop-at-preserved
@@ -26,3 +27,57 @@ loop-at-preserved g c =
       filled = omega (arith, after, len, inv.filled);
       roomy = omega (arith, more, inv.roomy);
     }
+
+pub move_next-requires-clause-some : goal.move_next-requires-clause-some
+move_next-requires-clause-some g c =
+    let start = into_iter_items c.args.rest.now in
+    let passed = c.loop-at.at - c.args.from in
+    let left : length (into_iter_items c.loop-at.rest) ≡ length start - passed = ap length c.loop-at.invariant.left ∙ length-drop passed start in
+    let rest = c.requires.rest in
+    let next = c.loop-at.invariant.next in
+    let w = c.if-next-end.true in
+    omega (arith, left, rest, next, w)
+
+pub move_next-requires-clause-room : goal.move_next-requires-clause-room
+move_next-requires-clause-room g c =
+    let filled = c.loop-at.invariant.filled in
+    let roomy = c.loop-at.invariant.roomy in
+    let after = c.loop-at.invariant.after in
+    let room = c.requires.room in
+    let l = c.loop-at-test.true in
+    omega (arith, filled, roomy, after, room, l)
+
+pub returns-else-next-end-clause-after : goal.returns-else-next-end-clause-after
+returns-else-next-end-clause-after g c =
+    let after = c.loop-at.invariant.after in
+    let next = c.loop-at.invariant.next in
+    let below = c.requires.below in
+    let w = c.if-next-end.false in
+    omega (arith, after, next, below, w)
+
+pub returns-else-next-end-clause-below : goal.returns-else-next-end-clause-below
+returns-else-next-end-clause-below g c =
+    let next = c.loop-at.invariant.next in
+    let below = c.loop-at.invariant.below in
+    omega (arith, next, below)
+
+pub returns-else-line-at-clause-after : goal.returns-else-line-at-clause-after
+returns-else-line-at-clause-after g c = started c.args.line.now c.args.from c.loop-at.at c.loop-at.next c.loop-at.invariant.after c.loop-at.invariant.next c.if-line-at.false
+
+pub returns-else-line-at-clause-below : goal.returns-else-line-at-clause-below
+returns-else-line-at-clause-below g c =
+    let next = c.loop-at.invariant.next in
+    let below = c.loop-at.invariant.below in
+    omega (arith, next, below)
+
+pub returns-after-loop-at-clause-after : goal.returns-after-loop-at-clause-after
+returns-after-loop-at-clause-after g c =
+    let from = c.requires.from in
+    let l = c.loop-at-test.false in
+    omega (arith, from, l)
+
+pub returns-after-loop-at-clause-below : goal.returns-after-loop-at-clause-below
+returns-after-loop-at-clause-below g c =
+    let next = c.loop-at.invariant.next in
+    let below = c.loop-at.invariant.below in
+    omega (arith, next, below)

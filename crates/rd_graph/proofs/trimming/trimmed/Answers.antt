@@ -1,16 +1,14 @@
-use Rattle.std.proofs.Common.{◌∙◌, sym, subst, Bool, List}
+use Rattle.std.proofs.Common.{◌∙◌, sym, subst}
+use Rattle.std.specs.Prelude.{Contains}
+use Rattle.std.proofs.lemmas.Result.{IfOk-weaker}
 use Rattle.rd_graph.specs.Names.{place_of, same_entry}
 use Rattle.rd_graph.specs.Internal.Patching.{lists_seen}
 use Rattle.rd_graph.specs.Internal.Tables.{at}
-use Rattle.rd_graph.specs.Internal.Trimming.{AreAsked, HasMark}
 use Rattle.rd_graph.proofs.Listing.{contains_from}
 use Rattle.rd_graph.proofs.Trims.{all_trimmed_same}
 use Rattle.rd_graph.proofs.trimming.trimmed.Goals as goal
 
 pub returns : goal.returns
-returns c =
-    let asked = subst (λ ls. AreAsked (lists_seen ls) c.in_ok-marks.marks.items) c.deref.ensures.value c.in_ok-marks.ensures in
-    c.in_ok-lists.ensures
+returns c = IfOk-weaker c.trim_all.result _ _ (λ v h. h
     ∙ all_trimmed_same (at c.in_ok-places.places) (place_of same_entry c.args.chain.now) (lists_seen c.args.lists.items)
-    (λ l h m k n. c.in_ok-places.ensures k
-    (subst (λ (ms : List Bool). HasMark ms k) (sym c.deref-2.ensures.value) (asked l (contains_from _ l h) m k (contains_from l.1 k n))))
+    (λ l m n k i. c.in_ok-places.ensures l (subst (λ ls. Contains (lists_seen ls) l) (sym c.deref.ensures.value) (contains_from _ l m)) n k (contains_from l.1 k i))) c.trim_all.ensures

@@ -1,4 +1,8 @@
+use Rattle.std.proofs.Common.{ap, ◌∙◌, sym, subst, List}
 use Rattle.std.specs.Prelude.{option_map}
+use Rattle.rd_graph.specs.Graphs.{IsInOrder}
+use Rattle.rd_graph.specs.Patches.{CanBePatched}
+use Rattle.rd_graph.specs.declared.graph.Node.{Node}
 use Rattle.rd_graph.specs.Internal.Patching.{lists_seen}
 use Rattle.rd_graph.specs.Internal.Seen.{seen}
 use Rattle.rd_graph.proofs.Merged.{patched_by}
@@ -18,3 +22,15 @@ returns-clause-patched c =
     c.in_ok-lists.ensures
     (patched_by c.args.gone.now c.args.chain.now c.args.found.now c.args.self.now c.deref.result.now c.self.inside.nodes.items (lists_seen c.in_ok-relisted.relisted.items) (seen c.in_ok-made.made.items) (option_map (λ v. v.items) c.in_ok-line.line)
     c.requires c.self.invariant c.self.view_is c.deref.ensures.value c.in_ok-relisted.ensures c.in_ok-line.ensures c.in_ok-made.ensures)).1
+
+pub changed-requires-clause-sound : goal.changed-requires-clause-sound
+changed-requires-clause-sound c = subst (λ (ns : List Node). IsInOrder (seen ns)) (sym c.deref.ensures.value) c.self.invariant
+
+pub changed-requires-clause-can : goal.changed-requires-clause-can
+changed-requires-clause-can c = subst (CanBePatched c.args.gone.now c.args.chain.now c.args.found.now) (sym (ap seen c.deref.ensures.value ∙ c.self.view_is)) c.requires
+
+pub trimmed-requires : goal.trimmed-requires
+trimmed-requires c = c.requires.once
+
+pub arrange-requires : goal.arrange-requires
+arrange-requires c = c.requires
