@@ -124,12 +124,18 @@ item-each p g a b r k = ap (option_map (λ n. n.item)) (r.links k) ∙ kept (p k
   kept true (Some n) = refl
   kept false o = refl
 
+same_there : {A : Type 0} (a b : A) → Some a ≡ Some b → b ≡ a
+same_there a b h = cc (h)
+
+nothing_there : {A : Type 0} (a : A) → None ≡ Some a → ⊥
+nothing_there a h = cc (h)
+
 module _ (p : BoxKey → Bool) (g : Item → Item) (at bt : BoxKey → Option Item) (more : (k : BoxKey) → bt k ≡ cond (p k) (option_map g (at k)) (at k)) where
   old_item : (c : Bool) (o : Option Item) (d : Item) → cond c (option_map g o) o ≡ Some d → (e : Item) × (o ≡ Some e) × (d ≡ cond c (g e) e)
-  old_item true None d h = cc (h)
-  old_item true (Some e) d h = (e, refl, cc (h))
-  old_item false None d h = cc (h)
-  old_item false (Some e) d h = (e, refl, cc (h))
+  old_item true None d h = absurd (nothing_there d h)
+  old_item true (Some e) d h = (e, refl, same_there (g e) d h)
+  old_item false None d h = absurd (nothing_there d h)
+  old_item false (Some e) d h = (e, refl, same_there e d h)
 
   ids_kept : ((d : Item) → (g d).id ≡ d.id) → (c : Bool) (e : Item) → (cond c (g e) e).id ≡ e.id
   ids_kept same_id true e = same_id e

@@ -4,9 +4,9 @@ use Rattle.std.specs.Prelude.{Option, Some, None, option_map, slice_index_or, sl
 use Rattle.std.specs.Option.{option_map_or}
 use Rattle.std.proofs.lemmas.List.{length-set, length-append}
 use Rattle.std.proofs.Math.Seq.{get_or-append_seam}
-use Rattle.rd_keys.specs.Arena.{Arena, Slot, unmade, slot_at, value, without_value, left, Enters}
+use Rattle.rd_keys.specs.Arena.{Arena, Slot, unmade, slot_at, value, with_value, without_value, left, Enters}
 use Rattle.rd_keys.proofs.Slots.{at_set}
-use Rattle.rd_keys.proofs.Calls.{live_within, slot-enters}
+use Rattle.rd_keys.proofs.Calls.{live_within, live_slot, slot-enters}
 use Rattle.rd_tree.specs.declared.node.Node as inner
 use Rattle.rd_tree.specs.declared.glance.Glance.{Glance}
 use Rattle.rd_tree.specs.Document.{BoxKey}
@@ -31,6 +31,20 @@ one_changed a b gs s y new r l is e = record {
 
   there : (t : ℕ) → t ≢ s → slot_at b t ≡ slot_at a t
   there t n = elim (at_set a.slots s y unmade t l) [ inl p ↦ absurd (n p.0) | inr p ↦ ap (λ l. slice_index_or l t unmade) is ∙ p.1 ]
+
+-- A value takes the place of another, and what is read of it.
+pub glances_written : (a : Arena inner.Node) (gs l : List Glance) (k : BoxKey) (s g : ℕ) (x y : inner.Node) (new : Glance) → AreGlances a gs → Some y
+    ≡ value a k.slot k.generation → s ≡ k.slot → g ≡ k.generation → new ≡ glance_of g x → l ≡ slice_set gs s new → AreGlances (with_value a k.slot x) l
+glances_written a gs l k s g x y new r v at of e is =
+    subst (λ n. AreGlances (with_value a k.slot x) n) (sym (is ∙ ap (λ n. slice_set gs n new) at))
+    (one_changed a (with_value a k.slot x) gs k.slot (record (slot_at a k.slot) { holds = Some x }) new r
+    (live_within a k.slot k.generation y (sym v)) refl
+    (e ∙ ap (λ n. glance_of n x) (of ∙ sym (live_slot a k.slot k.generation y (sym v)).0)))
+
+-- The slot of a live key is read.
+pub read_live : (a : Arena inner.Node) (gs : List Glance) (k : BoxKey) (s : ℕ) (y : inner.Node) → AreGlances a gs → Some y ≡ value a k.slot k.generation
+    → s ≡ k.slot → s < length gs
+read_live a gs k s y r v at = rw (at, r.all) (live_within a k.slot k.generation y (sym v))
 
 -- A live key dies.
 pub glances_without : (a b : Arena inner.Node) (gs : List Glance) (s g : ℕ) (y : inner.Node) (new : Glance) → AreGlances a gs → Some y ≡ value a s g

@@ -1,6 +1,7 @@
 -- The slots of an arena without what they hold.
 use Rattle.std.proofs.Common.{◌≡◌, refl, ap, ◌∙◌, sym, subst, ℕ, ◌+◌, ◌<◌, Bool, true, false, cond, List, [], ◌∷◌, length, map, count_by, inl, inr}
-use Rattle.std.specs.Prelude.{Some, slice_index_or, nat_lt, option_map}
+use Rattle.std.specs.Prelude.{Some, None, slice_index_or, nat_lt, option_map}
+use Rattle.std.specs.Option.{option_map_or}
 use Rattle.std.proofs.lemmas.List.{map-set, map-append, length-map}
 use Rattle.std.proofs.lemmas.List.Sums.{sum_by-cons}
 use Rattle.std.proofs.Math.Seq.{map-set_same}
@@ -12,6 +13,7 @@ use Rattle.rd_keys.proofs.Calls.{taken-live, live-with_value, value-with_value}
 use Rattle.rd_tree.specs.declared.node.Node as inner
 use Rattle.rd_tree.specs.Document.{BoxKey, Item, Slot, with_taken, IsNextOf}
 use Rattle.rd_tree.specs.Internal.Links.{Node, edit}
+use Rattle.rd_tree.specs.Internal.Works.{item_under}
 use Rattle.rd_tree.specs.Internal.Linked.{mark_of, marks, plain, linked, Relinks}
 
 count-map : {A B : Type 0} (p : B → Bool) (f : A → B) (xs : List A) → count_by p (map f xs) ≡ count_by (λ x. p (f x)) xs
@@ -65,6 +67,29 @@ relinks_written a k x y e v is = record {
       (linked a j)
   kept j true s = ap Some is ∙ ap (option_map e) (sym (ap (option_map plain) (ap (λ i. value a i.slot i.generation) (sym (same_key-sound k j s)) ∙ v)))
   kept j false s = refl
+
+-- No node is changed.
+pub relinks_none : (a : Arena inner.Node) → Relinks a a (linked a)
+relinks_none a = record { links = λ j. refl; same_slots = refl; same_live = refl; limit = refl; first = refl }
+
+-- No node is under the key.
+pub relinks_absent : (a : Arena inner.Node) (k : BoxKey) (e : Node BoxKey Item → Node BoxKey Item) → None ≡ value a k.slot k.generation
+    → Relinks a a (edit same_key k e (linked a))
+relinks_absent a k e v = record { links = λ j. kept j (same_key k j) refl; same_slots = refl; same_live = refl; limit = refl; first = refl } where
+  kept : (j : BoxKey) (b : Bool) → same_key k j ≡ b → linked a j ≡ cond b (option_map e (linked a j)) (linked a j)
+  kept j true s =
+      let n : linked a j ≡ None = ap (linked a) (sym (same_key-sound k j s)) ∙ sym (ap (option_map plain) v) in
+      n ∙ sym (ap (option_map e) n)
+  kept j false s = refl
+
+-- what is told of the item under a live key, and under another
+pub told_there : {U : Type 0} (a : Arena inner.Node) (k : BoxKey) (y : inner.Node) (f : Item → U) (u : U) → Some y ≡ value a k.slot k.generation → f y.item
+    ≡ option_map_or f (item_under (linked a k)) u
+told_there a k y f u v = ap (λ o. option_map_or f (item_under (option_map plain o)) u) v
+
+pub told_nowhere : {U : Type 0} (a : Arena inner.Node) (k : BoxKey) (f : Item → U) (u : U) → None ≡ value a k.slot k.generation → u
+    ≡ option_map_or f (item_under (linked a k)) u
+told_nowhere a k f u v = ap (λ o. option_map_or f (item_under (option_map plain o)) u) v
 
 -- A key that enters is that of a free slot, or the first of the next one.
 pub is_next : (old new : Arena inner.Node) (k : BoxKey) (x : inner.Node) (slots : List Slot) → slots ≡ marks old → old.first ≡ 0 → Enters old new k.slot

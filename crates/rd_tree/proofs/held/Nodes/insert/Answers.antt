@@ -1,4 +1,4 @@
-use Rattle.std.proofs.Common.{ap, ◌∙◌, sym, subst}
+use Rattle.std.proofs.Common.{ap, ◌∙◌, sym, subst, arith, length, inl, inr}
 use Rattle.rd_tree.specs.Internal.Glances.{at_generation, with_glance, AreGlances}
 use Rattle.rd_tree.proofs.Nodes.Glances.{glances_enter}
 use Rattle.rd_tree.proofs.held.Nodes.insert.Goals as goal
@@ -13,3 +13,12 @@ invariant_of-self-2 c =
     (sym (c.put.ensures ∙ ap (λ s. with_glance c.reserve.new.self.items s c.renamed.result) c.slot.ensures))
     (glances_enter c.self.inside.held c.insert.new.self c.reserve.new.self.items c.in-Ok.key.slot c.in-Ok.key.generation c.args.node
     c.renamed.result read c.in-Ok.ensures.stored new)
+
+pub put-requires : goal.put-requires
+put-requires c = elim c.in-Ok.ensures.stored.place [
+  | inl p ↦ inl (omega (arith, p.0, c.slot.ensures, ap length c.reserve.ensures.items, c.self.invariant.all))
+  | inr p ↦ inr (omega (arith, p.0, c.slot.ensures, ap length c.reserve.ensures.items, c.self.invariant.all), omega (arith, c.in_ok-reserve.ensures.ok))
+]
+
+pub invariant_of-self : goal.invariant_of-self
+invariant_of-self c = subst (λ l. AreGlances c.self.inside.held l) (sym c.reserve.ensures.items) c.self.invariant

@@ -1,13 +1,14 @@
-use Rattle.std.proofs.Common.{◌≡◌, sym, ap, ◌∙◌, refl, true, arith}
+use Rattle.std.proofs.Common.{◌≡◌, sym, ap, ◌∙◌, refl, true, arith, length, subst}
 use Rattle.rd_keys.specs.Keys.{same_key}
 use Rattle.rd_tree.specs.Forest.{empty, has, from_some}
 use Rattle.rd_tree.specs.Shown.{shown}
 use Rattle.rd_tree.specs.Seeking.{is_marked}
 use Rattle.rd_tree.specs.Internal.Summaries.{summary_of, summary_at}
 use Rattle.rd_tree.specs.Internal.Linked.{seen}
+use Rattle.rd_tree.proofs.Nodes.Glances.{glance_within}
 use Rattle.rd_tree.proofs.Nodes.Looking.{looks, apart_seen}
 use Rattle.rd_tree.proofs.Nodes.Naming.{fits_seen}
-use Rattle.rd_tree.proofs.Nodes.Seeking.{Met, met, dead_begins, next_live, seek_on, seek_found, seek_fewer}
+use Rattle.rd_tree.proofs.Nodes.Seeking.{IsLiveIfAny, Met, met, dead_begins, next_live, seek_on, seek_found, seek_fewer}
 use Rattle.rd_tree.proofs.tree.Tree.look_for_marked.Goals as goal
 
 pub returns-then-is_marked-clause-seen : goal.returns-then-is_marked-clause-seen
@@ -85,3 +86,17 @@ returns-clause-apart g c = rw (← c.self.view_is) (apart_seen c.self.inside.nod
 
 pub returns-clause-limits : goal.returns-clause-limits
 returns-clause-limits g c = rw (← c.self.view_is) (fits_seen c.self.inside.nodes c.self.inside.root c.self.inside.ids c.self.invariant.sound)
+
+pub row_at-row-requires : goal.row_at-row-requires
+row_at-row-requires g c = omega (
+  arith,
+  ap length c.deref.ensures.value,
+  c.self.invariant.table.all_rows,
+  glance_within c.self.inside.nodes c.in-Some.key c.glance_at_live-glance.result c.glance_at_live-glance.ensures,
+)
+
+pub view_at-requires : goal.view_at-requires
+view_at-requires g c = c.glance_at_live-glance.ensures
+
+pub glance_at_live-glance-requires : goal.glance_at_live-glance-requires
+glance_at_live-glance-requires g c = record { live = subst (IsLiveIfAny c.self.inside.nodes) c.in-Some.is c.loop-at.invariant.live }

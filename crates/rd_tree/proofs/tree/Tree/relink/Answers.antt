@@ -1,7 +1,12 @@
 use Rattle.std.proofs.Common.{◌≡◌, refl, ap, ◌∙◌, sym}
+use Rattle.std.specs.Prelude.{Option, Some, None}
 use Rattle.rd_keys.specs.Keys.{same_key}
+use Rattle.rd_tree.specs.declared.links.walk.Work.TheVariants.{Touch}
+use Rattle.rd_tree.specs.Document.{BoxKey, Item}
+use Rattle.rd_tree.specs.Internal.Links.{Node}
+use Rattle.rd_tree.specs.Internal.Works.{AllowsAt}
 use Rattle.rd_tree.specs.Forest.{without_branch}
-use Rattle.rd_tree.specs.Internal.Linked.{IsConsistent, marks, seen}
+use Rattle.rd_tree.specs.Internal.Linked.{IsConsistent, linked, marks, seen}
 use Rattle.rd_tree.specs.Internal.Summaries.{summary_at}
 use Rattle.rd_tree.specs.Internal.Renews.{IsRightIn, KeepsOutside}
 use Rattle.rd_tree.specs.Internal.Reaching.{moved}
@@ -9,12 +14,15 @@ use Rattle.rd_tree.proofs.Nodes.Each.{under_box, all_items}
 use Rattle.rd_tree.proofs.Nodes.Moving.{relink_sound}
 use Rattle.rd_tree.proofs.Tables.Above.{above_self}
 use Rattle.rd_tree.proofs.Tables.TreeRows.{seen_stands}
+use Rattle.rd_tree.proofs.Tables.Renewed.{row_here}
 use Rattle.rd_tree.proofs.Tables.Renewing.{whole_is, few_touched}
 use Rattle.rd_tree.proofs.Tables.Removed.{IsLeft, parent_above, is_parent}
 use Rattle.rd_tree.proofs.Tables.Moved.{IsLanded, touched_stands, touched_limit, still_there, touched_climbs, touched_left, landed}
 use Rattle.rd_tree.proofs.Nodes.Looking.{apart_seen}
 use Rattle.rd_tree.proofs.Changing.Effects.{by_that, edited-moving}
 use Rattle.rd_tree.proofs.Changing.Shallow.{shallow_moved}
+use Rattle.rd_tree.proofs.tree.Tree.relink.Given.{Over}
+use Rattle.rd_tree.proofs.tree.Tree.relink.Goals.{After-unlink, After-graft}
 use Rattle.rd_tree.proofs.tree.Tree.relink.Goals as goal
 
 pub unreachable-requires : goal.unreachable-requires
@@ -66,8 +74,10 @@ whole_of-new-requires-clause-few g c =
     c.self.inside.root c.args.key c.in-Some.up c.self.inside.ids c.self.inside.table.items c.self.invariant.sound (rw (← c.self.view_is)
     at c.requires.live) (rw (← c.self.view_is) at c.requires.below) c.work_below.ensures c.self.invariant.table up)
 
-pub lose-requires : goal.lose-requires
-lose-requires g c =
+-- The branch has left its place.
+left_here : (g : Over) (c : After-unlink g) → IsLeft c.unlink.new.nodes c.self.inside.root c.in-Some.up (without_branch same_key c.args.key (seen c.work_below.new.nodes
+    c.self.inside.root)) c.renew.new.table.items c.whole_of-old.result
+left_here g c =
     let up = is_parent c.self.inside.nodes c.self.inside.root c.args.key c.in-Some.up c.self.invariant.sound.tree (rw (← c.self.view_is) at
     c.requires.live) (rw (← c.self.view_is) at c.requires.below) (sym c.in-Some.is ∙ c.parent_of.ensures) in
     let stands = touched_stands c.self.inside.nodes c.work_below.new.nodes c.self.inside.root c.args.key c.in-Some.up c.self.inside.ids
@@ -80,8 +90,6 @@ lose-requires g c =
     (seen c.work_below.new.nodes c.self.inside.root) stands there tt in
     let outer : KeepsOutside c.work_below.new.nodes (seen c.work_below.new.nodes c.self.inside.root) c.self.inside.table.items c.renew.new.table.items
     c.args.key = c.renew.ensures.others c.self.inside.root (seen c.work_below.new.nodes c.self.inside.root) stands there in
-    let left : IsLeft c.unlink.new.nodes c.self.inside.root c.in-Some.up (without_branch same_key c.args.key (seen c.work_below.new.nodes
-    c.self.inside.root)) c.renew.new.table.items c.whole_of-old.result =
     touched_left c.self.inside.nodes c.work_below.new.nodes c.self.inside.root c.args.key c.in-Some.up c.self.inside.ids c.self.inside.table.items
     c.self.invariant.sound (rw (← c.self.view_is) at c.requires.live) (rw (← c.self.view_is) at c.requires.below) c.work_below.ensures
     c.self.invariant.table up
@@ -89,11 +97,18 @@ lose-requires g c =
     c.whole_of-old.result (c.whole_of-old.ensures ∙ whole_is c.self.inside.nodes c.self.inside.root (seen c.self.inside.nodes c.self.inside.root)
     (seen_stands c.self.inside.nodes c.self.inside.root c.self.invariant.sound.tree) c.args.key (rw (← c.self.view_is) at c.requires.live)
     c.deref.result.now (ap (λ r. summary_at r c.args.key) c.deref.ensures.value ∙ c.self.invariant.table.right c.args.key (rw (← c.self.view_is) at
-    c.requires.live))) in
-    left.climbs
+    c.requires.live)))
 
-pub gain-requires : goal.gain-requires
-gain-requires g c =
+pub lose-requires : goal.lose-requires
+lose-requires g c = (left_here g (goal.at.lose-requires g c).After-unlink).climbs
+
+-- The branch has come to its new place.
+landed_here : (g : Over) (c : After-graft g) → IsLeft c.unlink.new.nodes c.self.inside.root c.in-Some.up (without_branch same_key c.args.key (seen c.work_below.new.nodes
+    c.self.inside.root)) c.renew.new.table.items c.whole_of-old.result
+    → (IsConsistent c.graft.new.nodes c.self.inside.root c.self.inside.ids × (seen c.graft.new.nodes c.self.inside.root
+    ≡ moved c.args.key c.args.parent c.args.before (seen c.self.inside.nodes c.self.inside.root)) × (marks c.graft.new.nodes
+    ≡ marks c.self.inside.nodes)) × IsLanded c.graft.new.nodes c.self.inside.root c.args.parent c.lose.new.table.items c.whole_of-new.result
+landed_here g c left =
     let up = is_parent c.self.inside.nodes c.self.inside.root c.args.key c.in-Some.up c.self.invariant.sound.tree (rw (← c.self.view_is) at
     c.requires.live) (rw (← c.self.view_is) at c.requires.below) (sym c.in-Some.is ∙ c.parent_of.ensures) in
     let stands = touched_stands c.self.inside.nodes c.work_below.new.nodes c.self.inside.root c.args.key c.in-Some.up c.self.inside.ids
@@ -106,16 +121,6 @@ gain-requires g c =
     (seen c.work_below.new.nodes c.self.inside.root) stands there tt in
     let outer : KeepsOutside c.work_below.new.nodes (seen c.work_below.new.nodes c.self.inside.root) c.self.inside.table.items c.renew.new.table.items
     c.args.key = c.renew.ensures.others c.self.inside.root (seen c.work_below.new.nodes c.self.inside.root) stands there in
-    let left : IsLeft c.unlink.new.nodes c.self.inside.root c.in-Some.up (without_branch same_key c.args.key (seen c.work_below.new.nodes
-    c.self.inside.root)) c.renew.new.table.items c.whole_of-old.result =
-    touched_left c.self.inside.nodes c.work_below.new.nodes c.self.inside.root c.args.key c.in-Some.up c.self.inside.ids c.self.inside.table.items
-    c.self.invariant.sound (rw (← c.self.view_is) at c.requires.live) (rw (← c.self.view_is) at c.requires.below) c.work_below.ensures
-    c.self.invariant.table up
-    c.unlink.new.nodes c.renew.new.table.items c.unlink.ensures within outer c.renew.ensures.same_length
-    c.whole_of-old.result (c.whole_of-old.ensures ∙ whole_is c.self.inside.nodes c.self.inside.root (seen c.self.inside.nodes c.self.inside.root)
-    (seen_stands c.self.inside.nodes c.self.inside.root c.self.invariant.sound.tree) c.args.key (rw (← c.self.view_is) at c.requires.live)
-    c.deref.result.now (ap (λ r. summary_at r c.args.key) c.deref.ensures.value ∙ c.self.invariant.table.right c.args.key (rw (← c.self.view_is) at
-    c.requires.live))) in
     let t : IsConsistent c.graft.new.nodes c.self.inside.root c.self.inside.ids × (seen c.graft.new.nodes c.self.inside.root
     ≡ moved c.args.key c.args.parent c.args.before (seen c.self.inside.nodes c.self.inside.root)) × (marks c.graft.new.nodes
     ≡ marks c.self.inside.nodes) =
@@ -139,61 +144,20 @@ gain-requires g c =
     stands c.args.key there c.deref-2.result.now (ap (λ r. summary_at r c.args.key) c.deref-2.ensures.value
     ∙ within c.args.key (above_self c.work_below.new.nodes c.self.inside.root (seen c.work_below.new.nodes c.self.inside.root) stands c.args.key
     there))) in
-    land.climbs
+    (t, land)
+
+pub gain-requires : goal.gain-requires
+gain-requires g c = (landed_here g (goal.at.gain-requires g c).After-graft (left_here g (goal.at.gain-requires g c).After-unlink)).1.climbs
 
 pub invariant_of-self : goal.invariant_of-self
 invariant_of-self g c =
-    let up = is_parent c.self.inside.nodes c.self.inside.root c.args.key c.in-Some.up c.self.invariant.sound.tree (rw (← c.self.view_is) at
-    c.requires.live) (rw (← c.self.view_is) at c.requires.below) (sym c.in-Some.is ∙ c.parent_of.ensures) in
-    let stands = touched_stands c.self.inside.nodes c.work_below.new.nodes c.self.inside.root c.args.key c.in-Some.up c.self.inside.ids
-    c.self.inside.table.items c.self.invariant.sound (rw (← c.self.view_is) at c.requires.live) (rw (← c.self.view_is) at
-    c.requires.below) c.work_below.ensures c.self.invariant.table up in
-    let there = still_there c.self.inside.nodes c.work_below.new.nodes c.self.inside.root c.args.key c.in-Some.up c.self.inside.ids
-    c.self.inside.table.items c.self.invariant.sound (rw (← c.self.view_is) at c.requires.live) (rw (← c.self.view_is) at
-    c.requires.below) c.work_below.ensures c.self.invariant.table up in
-    let within : IsRightIn c.renew.new.table.items (seen c.work_below.new.nodes c.self.inside.root) c.args.key = c.renew.ensures.right c.self.inside.root
-    (seen c.work_below.new.nodes c.self.inside.root) stands there tt in
-    let outer : KeepsOutside c.work_below.new.nodes (seen c.work_below.new.nodes c.self.inside.root) c.self.inside.table.items c.renew.new.table.items
-    c.args.key = c.renew.ensures.others c.self.inside.root (seen c.work_below.new.nodes c.self.inside.root) stands there in
-    let left : IsLeft c.unlink.new.nodes c.self.inside.root c.in-Some.up (without_branch same_key c.args.key (seen c.work_below.new.nodes
-    c.self.inside.root)) c.renew.new.table.items c.whole_of-old.result =
-    touched_left c.self.inside.nodes c.work_below.new.nodes c.self.inside.root c.args.key c.in-Some.up c.self.inside.ids c.self.inside.table.items
-    c.self.invariant.sound (rw (← c.self.view_is) at c.requires.live) (rw (← c.self.view_is) at c.requires.below) c.work_below.ensures
-    c.self.invariant.table up
-    c.unlink.new.nodes c.renew.new.table.items c.unlink.ensures within outer c.renew.ensures.same_length
-    c.whole_of-old.result (c.whole_of-old.ensures ∙ whole_is c.self.inside.nodes c.self.inside.root (seen c.self.inside.nodes c.self.inside.root)
-    (seen_stands c.self.inside.nodes c.self.inside.root c.self.invariant.sound.tree) c.args.key (rw (← c.self.view_is) at c.requires.live)
-    c.deref.result.now (ap (λ r. summary_at r c.args.key) c.deref.ensures.value ∙ c.self.invariant.table.right c.args.key (rw (← c.self.view_is) at
-    c.requires.live))) in
-    let t : IsConsistent c.graft.new.nodes c.self.inside.root c.self.inside.ids × (seen c.graft.new.nodes c.self.inside.root
-    ≡ moved c.args.key c.args.parent c.args.before (seen c.self.inside.nodes c.self.inside.root)) × (marks c.graft.new.nodes
-    ≡ marks c.self.inside.nodes) =
-    relink_sound c.self.inside.nodes c.work_below.new.nodes c.unlink.new.nodes c.set_place.new.self c.graft.new.nodes c.self.inside.root c.args.key
-    c.args.parent c.args.before c.left_of-prev.result c.ends_of-ends.result c.self.inside.ids c.self.invariant.sound
-    (rw (← c.self.view_is) at c.requires.live) (rw (← c.self.view_is) at c.requires.below) (rw (← c.self.view_is) at c.requires.parent)
-    (rw (← c.self.view_is) at c.requires.outside) (rw (← c.self.view_is) at c.requires.place) c.requires.other
-    c.work_below.ensures c.unlink.ensures c.ends_of-ends.ensures c.left_of-prev.ensures c.set_place.ensures c.graft.ensures in
-    let right = c.lose.ensures.right c.self.inside.root (without_branch same_key c.args.key (seen c.work_below.new.nodes c.self.inside.root)) left.stands
-    left.there left.loses in
-    let others = c.lose.ensures.others c.self.inside.root (without_branch same_key c.args.key (seen c.work_below.new.nodes c.self.inside.root)) left.stands
-    left.there in
-    let land : IsLanded c.graft.new.nodes c.self.inside.root c.args.parent c.lose.new.table.items c.whole_of-new.result =
-    landed c.self.inside.nodes c.work_below.new.nodes c.self.inside.root c.args.key c.in-Some.up c.self.inside.ids c.self.inside.table.items
-    c.self.invariant.sound (rw (← c.self.view_is) at c.requires.live) (rw (← c.self.view_is) at c.requires.below) c.work_below.ensures
-    c.self.invariant.table up
-    c.unlink.new.nodes c.renew.new.table.items c.unlink.ensures within outer c.renew.ensures.same_length
-    c.args.parent c.args.before (rw (← c.self.view_is) at c.requires.parent) (rw (← c.self.view_is) at c.requires.outside) (rw (← c.self.view_is) at
-    c.requires.place) c.requires.other c.graft.new.nodes c.lose.new.table.items left.there right others c.lose.ensures.same_length t.0 t.1 t.2
-    c.whole_of-new.result (c.whole_of-new.ensures ∙ whole_is c.work_below.new.nodes c.self.inside.root (seen c.work_below.new.nodes c.self.inside.root)
-    stands c.args.key there c.deref-2.result.now (ap (λ r. summary_at r c.args.key) c.deref-2.ensures.value
-    ∙ within c.args.key (above_self c.work_below.new.nodes c.self.inside.root (seen c.work_below.new.nodes c.self.inside.root) stands c.args.key
-    there))) in
+    let came = landed_here g (goal.at.invariant_of-self g c).After-graft (left_here g (goal.at.invariant_of-self g c).After-unlink) in
     record {
-      sound = t.0;
-      table = land.table c.gain.new.table.items c.gain.ensures.same_length (c.gain.ensures.right c.self.inside.root (seen c.graft.new.nodes
-          c.self.inside.root) (seen_stands c.graft.new.nodes c.self.inside.root t.0.tree) land.there land.gains);
+      sound = came.0.0;
+      table = came.1.table c.gain.new.table.items c.gain.ensures.same_length (c.gain.ensures.right c.self.inside.root (seen c.graft.new.nodes
+          c.self.inside.root) (seen_stands c.graft.new.nodes c.self.inside.root came.0.0.tree) came.1.there came.1.gains);
       shallow = shallow_moved c.args.key c.args.parent c.args.before (seen c.self.inside.nodes c.self.inside.root) (seen c.graft.new.nodes
-          c.self.inside.root) t.1 (apart_seen c.self.inside.nodes c.self.inside.root c.self.invariant.sound.tree)
+          c.self.inside.root) came.0.1 (apart_seen c.self.inside.nodes c.self.inside.root c.self.invariant.sound.tree)
           (rw (← c.self.view_is) at c.requires.live) (rw (← c.self.view_is) at c.requires.parent) (rw (← c.self.view_is) at
           c.requires.outside) c.self.invariant.shallow (rw (← c.self.view_is) at c.requires.depth);
     }
@@ -209,3 +173,19 @@ returns g c =
     (rw (← c.self.view_is) at c.requires.outside) (rw (← c.self.view_is) at c.requires.place) c.requires.other
     c.work_below.ensures c.unlink.ensures c.ends_of-ends.ensures c.left_of-prev.ensures c.set_place.ensures c.graft.ensures in
     by_that _ _ _ (edited-moving c.args.key c.args.parent c.args.before c.args.self.now) (rw (← c.self.view_is, t.1, t.2) refl)
+
+pub whole_of-old-requires-clause-here : goal.whole_of-old-requires-clause-here
+whole_of-old-requires-clause-here g c = rw c.deref.ensures.value (row_here c.self.inside.nodes c.self.inside.root c.args.key c.self.inside.ids
+    c.self.invariant.sound (rw (← c.self.view_is) at c.requires.live) c.self.inside.table.items c.self.invariant.table)
+
+-- Any box may be touched.
+touch_allowed : (o : Option (Node BoxKey Item)) → AllowsAt Touch o
+touch_allowed None = tt
+touch_allowed (Some n) = tt
+
+pub work_below-requires-clause-here : goal.work_below-requires-clause-here
+work_below-requires-clause-here g c = touch_allowed (linked c.self.inside.nodes c.args.key)
+
+pub whole_of-new-requires-clause-here : goal.whole_of-new-requires-clause-here
+whole_of-new-requires-clause-here g c = rw (c.deref-2.ensures.value, c.renew.ensures.same_length) (row_here c.self.inside.nodes c.self.inside.root c.args.key
+    c.self.inside.ids c.self.invariant.sound (rw (← c.self.view_is) at c.requires.live) c.self.inside.table.items c.self.invariant.table)
