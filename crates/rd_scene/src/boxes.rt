@@ -1,6 +1,6 @@
 //! Boxes as a script writes them.
 
-ghost use Rattle.std.specs.Prelude.{◌≡◌, ◌≤◌, ℕ, List, [], ◌∷◌, length, All, IfOk, IfErr, OnOk, Some, None, true, vec_len, bytes_eq, if◌then◌else◌, ◌==◌};
+ghost use Rattle.std.specs.Prelude.{◌≡◌, ◌≤◌, ℕ, List, [], ◌∷◌, length, All, IfOk, IfErr, OnOk, Some, None, true, vec_len, bytes_eq, if◌then◌else◌, ◌==◌, Ok};
 ghost use Rattle.std.specs.Result.{result_map_both};
 ghost use Rattle.serde_json.specs.View.{view, items_view};
 ghost use Rattle.rd_style.specs.Limits.{Fits};
@@ -10,7 +10,7 @@ ghost use Rattle.rd_scene.specs.Boxes as spec;
 ghost use Rattle.rd_scene.specs.Places.{at};
 ghost use Rattle.rd_scene.specs.Order.{are_in_order};
 ghost use Rattle.rd_scene.specs.Internal.Gives.{Gives, GivesAt};
-ghost use Rattle.rd_scene.specs.Internal.Steps.{told, IsNoted};
+ghost use Rattle.rd_scene.specs.Internal.Steps.{told, IsNoted, box_named, names_after};
 ghost use Rattle.rd_scene.specs.Scripts.{FitsBox};
 
 use crate::fault::{Place, Refusal, SceneFault, Why};
@@ -134,6 +134,34 @@ fn note<'a>(depths: &mut IndexMap<&'a str, u32>, id: &'a str, depth: u32) -> Res
     Ok(())
 }
 
+/// A box's id and its parent's, and how deep it stands.
+#[derive(Drop)]
+struct Names {
+    id: Id,
+    parent: Option<Id>,
+    depth: u32,
+}
+
+/// The names of a box with this id, where it may stand after boxes of which `depths` has the depths.
+fn names_of(
+    alloc: Global,
+    is_first: bool,
+    depths: &IndexMap<&str, u32>,
+    text: &str,
+    v: &Value,
+) -> Result<Names, Refusal>
+    ensures value { Gives (λ n. box_named n.id n.parent) result
+        (names_after is_first (told depths.now) text.now (view v.now)).first }
+    ensures same_text { IfOk result (λ n. n.id ≡ text.now) }
+    ensures fresh { IfOk result (λ n. told depths.now n.id ≡ None) }
+    ensures stands { IfOk result (λ n. (spec.depth_under is_first (told depths.now) n.parent).first ≡ Ok n.depth) }
+{
+    let id = new_id(alloc, depths, text)?;
+    let parent = parent_name(alloc, v)?;
+    let depth = depth_under(is_first, depths, &parent)?;
+    Ok(Names { id, parent, depth })
+}
+
 /// The next box, after boxes of which `depths` has the depths; it has the depth of this one too then.
 #[tactic(auto, unfolding(crate::specs::Boxes::box_of))]
 fn box_of<'a>(
@@ -149,15 +177,13 @@ fn box_of<'a>(
     let members = members(v)?;
     known(members, &["id", "parent", "rect", "style"])?;
     let text = id_text(v)?;
-    let id = new_id(alloc, depths, text)?;
-    let parent = parent_name(alloc, v)?;
-    let depth = depth_under(is_first, depths, &parent)?;
+    let names = names_of(alloc, is_first, depths, text, v)?;
     let rect = rect_at(v)?;
     let style = style_at(v)?;
-    note(depths, text, depth)?;
+    note(depths, text, names.depth)?;
     Ok(SceneBox {
-        id,
-        parent,
+        id: names.id,
+        parent: names.parent,
         rect,
         style,
     })

@@ -10,6 +10,7 @@ ghost use Rattle.rd_scene.specs.Commands as spec;
 ghost use Rattle.rd_scene.specs.Commands.{FitsCommand};
 ghost use Rattle.rd_scene.specs.declared.fault.Place.TheVariants as place;
 ghost use Rattle.rd_scene.specs.Places.{at};
+ghost use Rattle.rd_scene.specs.Internal.Changes as changing;
 ghost use Rattle.rd_scene.specs.Internal.Gives.{Gives, GivesAt};
 
 use crate::edits::edit_named;
@@ -20,14 +21,31 @@ use rd_style::MAX_COORDINATE;
 use serde_json::{Map, Value};
 use std::alloc::Global;
 
-/// The command, where the value has no other member.
-fn alone(members: &Map<String, Value>, command: Command) -> Result<Command, Why>
-    requires { FitsCommand command }
-    ensures value { result ≡ (spec.alone command (members_view members.now.entries)).first }
+/// Paints what changed, where the value has no other member.
+fn paint_of(members: &Map<String, Value>) -> Result<Command, Refusal>
+    ensures value { Gives (λ c. c) result (spec.alone command.Paint (members_view members.now.entries)).first }
     ensures fits { IfOk result (λ c. FitsCommand c) }
 {
     known(members, &["do"])?;
-    Ok(command)
+    Ok(Command::Paint)
+}
+
+/// Writes out the display list, where the value has no other member.
+fn dump_of(members: &Map<String, Value>) -> Result<Command, Refusal>
+    ensures value { Gives (λ c. c) result (spec.alone command.Dump (members_view members.now.entries)).first }
+    ensures fits { IfOk result (λ c. FitsCommand c) }
+{
+    known(members, &["do"])?;
+    Ok(Command::Dump)
+}
+
+/// Asks for the digest of the picture, where the value has no other member.
+fn shot_of(members: &Map<String, Value>) -> Result<Command, Refusal>
+    ensures value { Gives (λ c. c) result (spec.alone command.Shot (members_view members.now.entries)).first }
+    ensures fits { IfOk result (λ c. FitsCommand c) }
+{
+    known(members, &["do"])?;
+    Ok(Command::Shot)
 }
 
 #[tactic(auto, unfolding(crate::specs::Commands::pixel_at))]
@@ -41,8 +59,9 @@ fn pixel_at(v: &Value, name: &str) -> Result<i32, Why>
 
 /// Which box is hit at a column and a row.
 #[tactic(auto, unfolding(crate::specs::Commands::at_pixel))]
-fn hit_of(members: &Map<String, Value>, v: &Value) -> Result<Command, Why>
-    ensures value { result ≡ (spec.at_pixel command.Hit (members_view members.now.entries) (view v.now)).first }
+fn hit_of(members: &Map<String, Value>, v: &Value) -> Result<Command, Refusal>
+    ensures value { Gives (λ c. c) result
+        (spec.at_pixel command.Hit (members_view members.now.entries) (view v.now)).first }
     ensures fits { IfOk result (λ c. FitsCommand c) }
 {
     known(members, &["do", "x", "y"])?;
@@ -53,14 +72,30 @@ fn hit_of(members: &Map<String, Value>, v: &Value) -> Result<Command, Why>
 
 /// Which colour a pixel has.
 #[tactic(auto, unfolding(crate::specs::Commands::at_pixel))]
-fn pixel_of(members: &Map<String, Value>, v: &Value) -> Result<Command, Why>
-    ensures value { result ≡ (spec.at_pixel command.Pixel (members_view members.now.entries) (view v.now)).first }
+fn pixel_of(members: &Map<String, Value>, v: &Value) -> Result<Command, Refusal>
+    ensures value { Gives (λ c. c) result
+        (spec.at_pixel command.Pixel (members_view members.now.entries) (view v.now)).first }
     ensures fits { IfOk result (λ c. FitsCommand c) }
 {
     known(members, &["do", "x", "y"])?;
     let x = pixel_at(v, "x")?;
     let y = pixel_at(v, "y")?;
     Ok(Command::Pixel { x, y })
+}
+
+/// The change of the tree that a word names, with its members.
+fn change_named(
+    alloc: Global,
+    word: &str,
+    members: &Map<String, Value>,
+    v: &Value,
+) -> Result<Command, Refusal>
+    ensures value { Gives (λ c. c) result
+        (changing.change_named word.now (members_view members.now.entries) (view v.now)).first }
+    ensures fits { IfOk result (λ c. FitsCommand c) }
+{
+    let edit = edit_named(alloc, word, members, v)?;
+    Ok(Command::Change(edit))
 }
 
 /// The command that a word names, with its members.
@@ -76,12 +111,12 @@ fn command_named(
     ensures fits { IfOk result (λ c. FitsCommand c) }
 {
     match word {
-        "paint" => Ok(alone(members, Command::Paint)?),
-        "hit" => Ok(hit_of(members, v)?),
-        "pixel" => Ok(pixel_of(members, v)?),
-        "dump" => Ok(alone(members, Command::Dump)?),
-        "shot" => Ok(alone(members, Command::Shot)?),
-        _ => Ok(Command::Change(edit_named(alloc, word, members, v)?)),
+        "paint" => paint_of(members),
+        "hit" => hit_of(members, v),
+        "pixel" => pixel_of(members, v),
+        "dump" => dump_of(members),
+        "shot" => shot_of(members),
+        _ => change_named(alloc, word, members, v),
     }
 }
 

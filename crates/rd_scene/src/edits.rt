@@ -1,9 +1,12 @@
 //! Edits as a script writes them.
 
-ghost use Rattle.std.specs.Prelude.{◌≡◌, pos, ◌-ℤ◌, option_map, IfOk, IsTrue};
+ghost use Rattle.std.specs.Prelude.{◌≡◌, pos, ◌-ℤ◌, codes, option_map, IfOk, IsTrue};
 ghost use Rattle.serde_json.specs.View.{view, members_view};
 ghost use Rattle.rd_style.specs.Changes.{plain, changed};
 ghost use Rattle.rd_style.specs.Limits.{is_between, Fits};
+ghost use Rattle.rd_edits.specs.declared.edit.Edit.TheVariants as edit;
+ghost use Rattle.rd_scene.specs.Boxes as boxes;
+ghost use Rattle.rd_scene.specs.Checked.{good, ◌⊛◌};
 ghost use Rattle.rd_scene.specs.Edits as spec;
 ghost use Rattle.rd_scene.specs.Edits.{FitsEdit};
 ghost use Rattle.rd_scene.specs.Internal.Gives.{Gives};
@@ -48,6 +51,29 @@ fn before_at(alloc: Global, v: &Value) -> Result<Option<Id>, Refusal>
     before_of(alloc, member(v, "before"))
 }
 
+/// A box and where it is to stand.
+#[derive(Drop)]
+struct Standing {
+    id: Id,
+    parent: Id,
+    before: Option<Id>,
+}
+
+/// An id, a parent and perhaps a box to stand before.
+fn standing_of(alloc: Global, v: &Value) -> Result<Standing, Refusal>
+    ensures insert { Gives (λ s rect style. edit.Insert s.id s.parent s.before rect style) result
+        (good edit.Insert ⊛ boxes.id_at (codes "id") (view v.now) ⊛ boxes.id_at (codes "parent") (view v.now)
+        ⊛ spec.before_at (view v.now)).first }
+    ensures moves { Gives (λ s. edit.Move s.id s.parent s.before) result
+        (good edit.Move ⊛ boxes.id_at (codes "id") (view v.now) ⊛ boxes.id_at (codes "parent") (view v.now)
+        ⊛ spec.before_at (view v.now)).first }
+{
+    let id = id_at(alloc, v, "id")?;
+    let parent = id_at(alloc, v, "parent")?;
+    let before = before_at(alloc, v)?;
+    Ok(Standing { id, parent, before })
+}
+
 /// A new box: an id, a parent, perhaps a box to stand before, a rectangle and perhaps a style.
 #[tactic(auto, unfolding(crate::specs::Edits::insert_of))]
 fn insert_of(alloc: Global, members: &Map<String, Value>, v: &Value) -> Result<Edit, Refusal>
@@ -55,15 +81,13 @@ fn insert_of(alloc: Global, members: &Map<String, Value>, v: &Value) -> Result<E
     ensures fits { IfOk result (λ e. FitsEdit e) }
 {
     known(members, &["do", "id", "parent", "before", "rect", "style"])?;
-    let id = id_at(alloc, v, "id")?;
-    let parent = id_at(alloc, v, "parent")?;
-    let before = before_at(alloc, v)?;
+    let standing = standing_of(alloc, v)?;
     let rect = rect_at(v)?;
     let style = style_at(v)?;
     Ok(Edit::Insert {
-        id,
-        parent,
-        before,
+        id: standing.id,
+        parent: standing.parent,
+        before: standing.before,
         rect,
         style,
     })
@@ -87,10 +111,12 @@ fn move_of(alloc: Global, members: &Map<String, Value>, v: &Value) -> Result<Edi
     ensures fits { IfOk result (λ e. FitsEdit e) }
 {
     known(members, &["do", "id", "parent", "before"])?;
-    let id = id_at(alloc, v, "id")?;
-    let parent = id_at(alloc, v, "parent")?;
-    let before = before_at(alloc, v)?;
-    Ok(Edit::Move { id, parent, before })
+    let standing = standing_of(alloc, v)?;
+    Ok(Edit::Move {
+        id: standing.id,
+        parent: standing.parent,
+        before: standing.before,
+    })
 }
 
 fn change_at(v: &Value) -> Result<StyleChange, Why>

@@ -13,6 +13,8 @@ ghost use Rattle.rd_scene.specs.Reading.{Reads, HasNoReading, IsOffForm, IsScrip
 ghost use Rattle.rd_scene.specs.Scripts as spec;
 ghost use Rattle.rd_scene.specs.Scripts.{IsScript, FitsBox};
 ghost use Rattle.rd_scene.specs.Internal.Gives.{GivesAt};
+ghost use Rattle.rd_scene.specs.Internal.Heads as heads;
+ghost use Rattle.rd_scene.specs.Internal.Heads.{script_on};
 
 use crate::boxes::boxes_of;
 use crate::commands::commands_of;
@@ -100,14 +102,22 @@ fn commands_at(alloc: Global, v: Value) -> Result<Vec<Command>, SceneFault>
     commands_of(alloc, list)
 }
 
+/// The canvas of an object of a script's members, of version 1.
+fn head_of(v: &Value) -> Result<Size, SceneFault>
+    ensures value { GivesAt script_on result (heads.head_of (view v.now)).first }
+    ensures canvas { IfOk result (λ s. IsCanvas s) }
+{
+    known_at(v)?;
+    version_at(v)?;
+    canvas_at(v)
+}
+
 /// The script that a value is. The value goes as it is read.
 #[tactic(auto, unfolding(crate::specs::Scripts::reading_of))]
 fn script_of(alloc: Global, v: Value) -> Result<Script, SceneFault>
     ensures { GivesAt (λ s. s) result (spec.reading_of (view v)).first }
 {
-    known_at(&v)?;
-    version_at(&v)?;
-    let canvas = canvas_at(&v)?;
+    let canvas = head_of(&v)?;
     let boxes = boxes_at(alloc, &v)?;
     let commands = commands_at(alloc, v)?;
     Ok(Script {

@@ -2,7 +2,8 @@
 
 ghost use Rattle.std.specs.Prelude.{◌≡◌, ◌<◌, ◌++◌, map, codes, IfOk, OnOk, option_map, string_bytes, false};
 ghost use Rattle.std.specs.Fmt.{digit_glyph};
-ghost use Rattle.serde_json.specs.Data.{string, number, unsigned};
+ghost use Rattle.serde_json.specs.Data.{string, number, unsigned, array};
+ghost use Rattle.serde_json.specs.Data as json_data;
 ghost use Rattle.serde_json.specs.Written.{compact_text};
 ghost use Rattle.serde_json.specs.View.{view, items_view, items_of, members_view};
 ghost use Rattle.rd_edits.specs.declared.edit.Edit.TheVariants.{Insert, Remove, Move, SetStyle, SetRect, Shift};
@@ -355,15 +356,125 @@ fn style_value(alloc: Global, s: &Style) -> Result<Value, AllocError>
     change_value(alloc, &change)
 }
 
+/// The member of this name, a text.
+fn add_text(
+    alloc: Global,
+    map: &mut Map<String, Value>,
+    name: &str,
+    text: &str,
+) -> Result<(), AllocError>
+    ensures { OnOk result (members_view map.new.entries
+        ≡ json_data.put name.now (string text.now) (members_view map.old.entries)) }
+{
+    put(map, alloc, name, Value::try_from_str(alloc, text)?)
+}
+
+/// The member of this name, a whole number.
+fn add_integer(
+    alloc: Global,
+    map: &mut Map<String, Value>,
+    name: &str,
+    z: i32,
+) -> Result<(), AllocError>
+    ensures { OnOk result (members_view map.new.entries
+        ≡ json_data.put name.now (spec.number_value z) (members_view map.old.entries)) }
+{
+    put(map, alloc, name, Value::from(z))
+}
+
+/// The member of this name, an id or `null` for none.
+fn add_id(
+    alloc: Global,
+    map: &mut Map<String, Value>,
+    name: &str,
+    id: &Option<Id>,
+) -> Result<(), AllocError>
+    ensures { OnOk result (members_view map.new.entries
+        ≡ json_data.put name.now (spec.id_value id.now) (members_view map.old.entries)) }
+{
+    put(map, alloc, name, id_value(alloc, id)?)
+}
+
+/// The member `rect`.
+fn add_rect(alloc: Global, map: &mut Map<String, Value>, rect: Rect) -> Result<(), AllocError>
+    ensures { OnOk result (members_view map.new.entries
+        ≡ json_data.put (codes "rect") (spec.rect_value rect) (members_view map.old.entries)) }
+{
+    put(map, alloc, "rect", rect_value(alloc, rect)?)
+}
+
+/// The member `style`, of what a change names.
+fn add_change(
+    alloc: Global,
+    map: &mut Map<String, Value>,
+    change: &StyleChange,
+) -> Result<(), AllocError>
+    ensures { OnOk result (members_view map.new.entries
+        ≡ json_data.put (codes "style") (spec.change_value change.now) (members_view map.old.entries)) }
+{
+    put(map, alloc, "style", change_value(alloc, change)?)
+}
+
+/// The member `style`, of a whole style.
+fn add_style(alloc: Global, map: &mut Map<String, Value>, style: &Style) -> Result<(), AllocError>
+    ensures { OnOk result (members_view map.new.entries
+        ≡ json_data.put (codes "style") (spec.style_value style.now) (members_view map.old.entries)) }
+{
+    put(map, alloc, "style", style_value(alloc, style)?)
+}
+
+/// The rectangle and the style of a box.
+fn add_looks(
+    alloc: Global,
+    map: &mut Map<String, Value>,
+    rect: Rect,
+    style: &Style,
+) -> Result<(), AllocError>
+    ensures { OnOk result (members_view map.new.entries ≡ json_data.put (codes "style") (spec.style_value style.now)
+        (json_data.put (codes "rect") (spec.rect_value rect) (members_view map.old.entries))) }
+{
+    add_rect(alloc, map, rect)?;
+    add_style(alloc, map, style)
+}
+
+/// The word of an edit and the box that it names.
+fn add_head(
+    alloc: Global,
+    map: &mut Map<String, Value>,
+    word: &str,
+    id: &Id,
+) -> Result<(), AllocError>
+    ensures { OnOk result (members_view map.new.entries ≡ json_data.put (codes "id") (string id.now)
+        (json_data.put (codes "do") (string word.now) (members_view map.old.entries))) }
+{
+    add_text(alloc, map, "do", word)?;
+    add_text(alloc, map, "id", id.text())
+}
+
+/// The parent of a box and the box that it stands before.
+fn add_place(
+    alloc: Global,
+    map: &mut Map<String, Value>,
+    parent: &Id,
+    before: &Option<Id>,
+) -> Result<(), AllocError>
+    ensures { OnOk result (members_view map.new.entries ≡ json_data.put (codes "before") (spec.id_value before.now)
+        (json_data.put (codes "parent") (string parent.now) (members_view map.old.entries))) }
+{
+    add_text(alloc, map, "parent", parent.text())?;
+    add_id(alloc, map, "before", before)
+}
+
 /// A box object, with all four members.
 #[tactic(auto, unfolding(crate::specs::Writing::box_value))]
 fn box_value(alloc: Global, b: &SceneBox) -> Result<Value, AllocError>
     ensures { IfOk result (λ v. view v ≡ spec.box_value b.now) }
 {
-    let parent = id_value(alloc, &b.parent)?;
-    let rect = rect_value(alloc, b.rect)?;
-    let style = style_value(alloc, &b.style)?;
-    json!(in alloc; {"id": b.id.text(), "parent": parent, "rect": rect, "style": style})
+    let mut map = Map::new(alloc);
+    add_text(alloc, &mut map, "id", b.id.text())?;
+    add_id(alloc, &mut map, "parent", &b.parent)?;
+    add_looks(alloc, &mut map, b.rect, &b.style)?;
+    Ok(Value::Object(map))
 }
 
 #[tactic(auto, unfolding(crate::specs::Writing::edit_value))]
@@ -377,18 +488,21 @@ fn insert_value(
 ) -> Result<Value, AllocError>
     ensures { IfOk result (λ v. view v ≡ spec.edit_value (Insert id.now parent.now before.now rect style.now)) }
 {
-    let before = id_value(alloc, before)?;
-    let rect = rect_value(alloc, rect)?;
-    let style = style_value(alloc, style)?;
-    json!(in alloc; {"do": "insert", "id": id.text(), "parent": parent.text(), "before": before, "rect": rect, "style": style})
+    let mut map = Map::new(alloc);
+    add_head(alloc, &mut map, "insert", id)?;
+    add_place(alloc, &mut map, parent, before)?;
+    add_looks(alloc, &mut map, rect, style)?;
+    Ok(Value::Object(map))
 }
 
 #[tactic(auto, unfolding(crate::specs::Writing::edit_value))]
 fn move_value(alloc: Global, id: &Id, parent: &Id, before: &Option<Id>) -> Result<Value, AllocError>
     ensures { IfOk result (λ v. view v ≡ spec.edit_value (Move id.now parent.now before.now)) }
 {
-    let before = id_value(alloc, before)?;
-    json!(in alloc; {"do": "move", "id": id.text(), "parent": parent.text(), "before": before})
+    let mut map = Map::new(alloc);
+    add_head(alloc, &mut map, "move", id)?;
+    add_place(alloc, &mut map, parent, before)?;
+    Ok(Value::Object(map))
 }
 
 #[tactic(auto, unfolding(crate::specs::Writing::edit_value))]
@@ -402,23 +516,31 @@ fn remove_value(alloc: Global, id: &Id) -> Result<Value, AllocError>
 fn set_style_value(alloc: Global, id: &Id, change: &StyleChange) -> Result<Value, AllocError>
     ensures { IfOk result (λ v. view v ≡ spec.edit_value (SetStyle id.now change.now)) }
 {
-    let style = change_value(alloc, change)?;
-    json!(in alloc; {"do": "style", "id": id.text(), "style": style})
+    let mut map = Map::new(alloc);
+    add_head(alloc, &mut map, "style", id)?;
+    add_change(alloc, &mut map, change)?;
+    Ok(Value::Object(map))
 }
 
 #[tactic(auto, unfolding(crate::specs::Writing::edit_value))]
 fn set_rect_value(alloc: Global, id: &Id, rect: Rect) -> Result<Value, AllocError>
     ensures { IfOk result (λ v. view v ≡ spec.edit_value (SetRect id.now rect)) }
 {
-    let rect = rect_value(alloc, rect)?;
-    json!(in alloc; {"do": "rect", "id": id.text(), "rect": rect})
+    let mut map = Map::new(alloc);
+    add_head(alloc, &mut map, "rect", id)?;
+    add_rect(alloc, &mut map, rect)?;
+    Ok(Value::Object(map))
 }
 
 #[tactic(auto, unfolding(crate::specs::Writing::edit_value))]
 fn shift_value(alloc: Global, id: &Id, dx: i32, dy: i32) -> Result<Value, AllocError>
     ensures { IfOk result (λ v. view v ≡ spec.edit_value (Shift id.now dx dy)) }
 {
-    json!(in alloc; {"do": "shift", "id": id.text(), "dx": dx, "dy": dy})
+    let mut map = Map::new(alloc);
+    add_head(alloc, &mut map, "shift", id)?;
+    add_integer(alloc, &mut map, "dx", dx)?;
+    add_integer(alloc, &mut map, "dy", dy)?;
+    Ok(Value::Object(map))
 }
 
 fn edit_value(alloc: Global, edit: &Edit) -> Result<Value, AllocError>
@@ -449,7 +571,11 @@ fn bare(alloc: Global, word: &str) -> Result<Value, AllocError>
 fn at_pixel(alloc: Global, word: &str, x: i32, y: i32) -> Result<Value, AllocError>
     ensures { IfOk result (λ v. view v ≡ spec.at_pixel word.now x y) }
 {
-    json!(in alloc; {"do": word, "x": x, "y": y})
+    let mut map = Map::new(alloc);
+    add_text(alloc, &mut map, "do", word)?;
+    add_integer(alloc, &mut map, "x", x)?;
+    add_integer(alloc, &mut map, "y", y)?;
+    Ok(Value::Object(map))
 }
 
 fn command_value(alloc: Global, command: &Command) -> Result<Value, AllocError>
@@ -491,14 +617,66 @@ fn canvas_value(alloc: Global, size: Size) -> Result<Value, AllocError>
     json!(in alloc; {"w": size.w, "h": size.h})
 }
 
+/// The member `version`, which is 1.
+fn add_version(alloc: Global, map: &mut Map<String, Value>) -> Result<(), AllocError>
+    ensures { OnOk result (members_view map.new.entries
+        ≡ json_data.put (codes "version") (number (unsigned 1)) (members_view map.old.entries)) }
+{
+    put(map, alloc, "version", Value::from(1u32))
+}
+
+/// The member `canvas`.
+fn add_canvas(alloc: Global, map: &mut Map<String, Value>, size: Size) -> Result<(), AllocError>
+    ensures { OnOk result (members_view map.new.entries
+        ≡ json_data.put (codes "canvas") (spec.canvas_value size) (members_view map.old.entries)) }
+{
+    put(map, alloc, "canvas", canvas_value(alloc, size)?)
+}
+
+/// The member `boxes`.
+fn add_boxes(
+    alloc: Global,
+    members: &mut Map<String, Value>,
+    boxes: &[SceneBox],
+) -> Result<(), AllocError>
+    ensures { OnOk result (members_view members.new.entries ≡ json_data.put (codes "boxes")
+        (array (items_of (map spec.box_value boxes.now))) (members_view members.old.entries)) }
+{
+    put(
+        members,
+        alloc,
+        "boxes",
+        Value::Array(boxes_value(alloc, boxes)?),
+    )
+}
+
+/// The member `script`, of the commands.
+fn add_commands(
+    alloc: Global,
+    members: &mut Map<String, Value>,
+    commands: &[Command],
+) -> Result<(), AllocError>
+    ensures { OnOk result (members_view members.new.entries ≡ json_data.put (codes "script")
+        (array (items_of (map spec.command_value commands.now))) (members_view members.old.entries)) }
+{
+    put(
+        members,
+        alloc,
+        "script",
+        Value::Array(commands_value(alloc, commands)?),
+    )
+}
+
 #[tactic(auto, unfolding(crate::specs::Writing::scene_value))]
 fn scene_value(alloc: Global, script: &Script) -> Result<Value, AllocError>
     ensures { IfOk result (λ v. view v ≡ spec.scene_value script.now) }
 {
-    let canvas = canvas_value(alloc, script.canvas)?;
-    let boxes = Value::Array(boxes_value(alloc, &script.boxes)?);
-    let commands = Value::Array(commands_value(alloc, &script.commands)?);
-    json!(in alloc; {"version": 1u32, "canvas": canvas, "boxes": boxes, "script": commands})
+    let mut map = Map::new(alloc);
+    add_version(alloc, &mut map)?;
+    add_canvas(alloc, &mut map, script.canvas)?;
+    add_boxes(alloc, &mut map, &script.boxes)?;
+    add_commands(alloc, &mut map, &script.commands)?;
+    Ok(Value::Object(map))
 }
 
 /// The compact text of a script's value.
