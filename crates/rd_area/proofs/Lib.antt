@@ -3,3 +3,4 @@ pub mod Banded
 pub mod Spans
 pub mod Pixels
 pub mod Counting
+pub mod Crossing

@@ -5,6 +5,7 @@ ghost use Rattle.rd_geom.specs.Plane.{meet, right, bottom, holds_pixel, has_none
 ghost use Rattle.rd_geom.specs.Canvas.{IsCanvas, canvas_of};
 ghost use Rattle.rd_geom.specs.Areas.{in_area, spans_at, count_of, meets_area};
 ghost use Rattle.rd_area.specs.Rows.{IsRising};
+ghost use Rattle.rd_area.specs.Internal.Crossing.{crosses, overlap};
 ghost use Rattle.rd_area.specs.Internal.Normal.{IsOn};
 
 use crate::{bands, row, rows};
@@ -66,6 +67,33 @@ fn rows_of(r: Rect) -> (usize, usize)
     ensures last { pos result.1 ≡ bottom r }
 {
     (r.y() as usize, r.bottom() as usize)
+}
+
+/// Do the columns of both overlap?
+#[inline(always)]
+fn columns_overlap(a: Rect, b: Rect) -> bool
+    ensures { result ≡ overlap a.x (right a) b.x (right b) }
+{
+    a.x() < b.right() && b.x() < a.right()
+}
+
+/// Do the rows of both overlap?
+#[inline(always)]
+fn rows_overlap(a: Rect, b: Rect) -> bool
+    ensures { result ≡ overlap a.y (bottom a) b.y (bottom b) }
+{
+    a.y() < b.bottom() && b.y() < a.bottom()
+}
+
+/// Is neither empty, and do their columns and their rows overlap?
+#[inline(always)]
+fn cross(a: Rect, b: Rect) -> bool
+    ensures { result ≡ crosses a b }
+{
+    if a.is_empty() || b.is_empty() {
+        return false;
+    }
+    columns_overlap(a, b) && rows_overlap(a, b)
 }
 
 impl Area {
@@ -145,15 +173,24 @@ impl Area {
     }
 
     /// Is a pixel of the rectangle in the area?
+    #[inline(always)]
     pub fn meets(&self, r: Rect) -> bool
+        ensures { result ≡ meets_area self.now r }
+    {
+        if self.is_full {
+            return cross(self.used, r);
+        }
+        self.meets_bands(r)
+    }
+
+    /// Is a pixel of the rectangle in one of the bands?
+    #[inline(never)]
+    fn meets_bands(&self, r: Rect) -> bool
         ensures { result ≡ meets_area self.now r }
     {
         let seen = meet(self.used, r);
         if seen.is_empty() {
             return false;
-        }
-        if self.is_full {
-            return true;
         }
         let (from, to) = rows_of(seen);
         let (first, last) = bands::between(&self.ends, from, to);
