@@ -6,46 +6,12 @@ use Rattle.rd_list.specs.Entries.{Entries, nil, leaf, group, ◌▷◌, is_empty
 use Rattle.rd_list.proofs.Joins.{join_assoc, join-nil}
 use Rattle.rd_list.specs.declared.fresh.NewEntry.{NewEntry}
 use Rattle.rd_list.specs.declared.fresh.NewEntry.TheVariants.{Leaf, Group}
-use Rattle.rd_list.specs.declared.pieces.Piece.{Piece}
-use Rattle.rd_list.specs.declared.pieces.Piece.TheVariants as piece
 use Rattle.rd_list.specs.NewView.{new_entries}
 use Rattle.rd_list.specs.Wrappers.{Wrapper}
-use Rattle.rd_list.specs.Nested.{Nested, no_more, leaf_then, group_then, list_then, laid_out}
+use Rattle.rd_list.specs.Nested.{Nested, on_top, list_then, laid_out}
 use Rattle.rd_list.specs.Internal.Piled.{piled, nested_size, IsFilled}
 
 module _ {G L : Type 0} where
-  infixr 5 ◌⊳◌
-  -- one put-together list with another on top of it
-  abbrev pub ◌⊳◌ : Nested G L → Nested G L → Nested G L
-  no_more ⊳ ys = ys
-  (leaf_then l xs) ⊳ ys = leaf_then l (xs ⊳ ys)
-  (group_then g inner xs) ⊳ ys = group_then g inner (xs ⊳ ys)
-  (list_then inner xs) ⊳ ys = list_then inner (xs ⊳ ys)
-
-pub new_entries-append : {A : Type 0} (xs ys : List (NewEntry A)) → new_entries (xs ++ ys) ≡ new_entries xs ▷ new_entries ys
-new_entries-append [] ys = refl
-new_entries-append (Leaf l ∷ xs) ys = ap (leaf l) (new_entries-append xs ys)
-new_entries-append (Group k o inner ∷ xs) ys = ap (group (record { key = k; opacity = o }) inner) (new_entries-append xs ys)
-
-pub piled-append : {A : Type 0} (xs ys : List (Piece A)) → piled (xs ++ ys) ≡ piled xs ⊳ piled ys
-piled-append [] ys = refl
-piled-append (piece.Entry (Leaf l) ∷ xs) ys = ap (leaf_then l) (piled-append xs ys)
-piled-append (piece.Entry (Group k o inner) ∷ xs) ys = ap (group_then (record { key = k; opacity = o }) inner) (piled-append xs ys)
-piled-append (piece.List inner ∷ xs) ys = ap (list_then inner) (piled-append xs ys)
-
-module _ {G L : Type 0} where
-  pub laid-join : (xs ys : Nested G L) → laid_out (xs ⊳ ys) ≡ laid_out xs ▷ laid_out ys
-  laid-join no_more ys = refl
-  laid-join (leaf_then l xs) ys = ap (leaf l) (laid-join xs ys)
-  laid-join (group_then g inner xs) ys = ap (group g inner) (laid-join xs ys)
-  laid-join (list_then inner xs) ys = ap (λ zs. laid_out inner ▷ zs) (laid-join xs ys) ∙ sym (join_assoc (laid_out inner) (laid_out xs) (laid_out ys))
-
-  pub filled-join : (xs ys : Nested G L) → IsFilled xs → IsFilled ys → IsFilled (xs ⊳ ys)
-  filled-join no_more ys h k = k
-  filled-join (leaf_then l xs) ys h k = filled-join xs ys h k
-  filled-join (group_then g inner xs) ys h k = filled-join xs ys h k
-  filled-join (list_then inner xs) ys h k = (h.0, filled-join xs ys h.1 k)
-
   pub empty-join : (xs ys : Entries G L) → is_empty xs ≡ false → is_empty (xs ▷ ys) ≡ false
   empty-join nil ys h = cc
   empty-join (leaf l xs) ys h = refl
@@ -56,45 +22,71 @@ module _ {G L : Type 0} where
   none_there (leaf l xs) h = cc
   none_there (group g i xs) h = cc
 
-pub laid-append : {A : Type 0} (xs ys : List (Piece A)) → laid_out (piled (xs ++ ys)) ≡ laid_out (piled xs) ▷ laid_out (piled ys)
-laid-append xs ys = ap laid_out (piled-append xs ys) ∙ laid-join (piled xs) (piled ys)
+pub new_entries-append : {A : Type 0} (xs ys : List (NewEntry A)) → new_entries (xs ++ ys) ≡ new_entries xs ▷ new_entries ys
+new_entries-append [] ys = refl
+new_entries-append (Leaf l ∷ xs) ys = ap (leaf l) (new_entries-append xs ys)
+new_entries-append (Group k o inner ∷ xs) ys = ap (group (record { key = k; opacity = o }) inner) (new_entries-append xs ys)
 
-pub filled-append : {A : Type 0} (xs ys : List (Piece A)) → IsFilled (piled xs) → IsFilled (piled ys) → IsFilled (piled (xs ++ ys))
-filled-append xs ys h k = rw (piled-append xs ys) (filled-join (piled xs) (piled ys) h k)
+-- entries put on top, of a run that is said to be the two
+pub laid-on : {A : Type 0} (bs : List (Nested Wrapper Made)) (top more new : List (NewEntry A)) → new ≡ top ++ more → laid_out (piled bs new) ≡ laid_out (piled bs top) ▷ new_entries more
+laid-on [] top more new e = rw e (new_entries-append top more)
+laid-on (b ∷ bs) top more new e =
+    ap (λ zs. laid_out b ▷ zs) (laid-on bs top more new e) ∙ sym (join_assoc (laid_out b) (laid_out (piled bs top)) (new_entries more))
 
--- the same of a list that is said to be the two
-pub laid-appended : {A : Type 0} (xs ys zs : List (Piece A)) → zs ≡ xs ++ ys → laid_out (piled zs) ≡ laid_out (piled xs) ▷ laid_out (piled ys)
-laid-appended xs ys zs e = rw e (laid-append xs ys)
+-- what is on top may be empty
+pub filled-on : {A B : Type 0} (bs : List (Nested Wrapper Made)) (top : List (NewEntry A)) (new : List (NewEntry B)) → IsFilled (piled bs top) → IsFilled (piled bs new)
+filled-on [] top new h = tt
+filled-on (b ∷ bs) top new h = (h.0, filled-on bs top new h.1)
 
-pub filled-appended : {A : Type 0} (xs ys zs : List (Piece A)) → zs ≡ xs ++ ys → IsFilled (piled xs) → IsFilled (piled ys) → IsFilled (piled zs)
-filled-appended xs ys zs e h k = rw e (filled-append xs ys h k)
+-- a list put on top, where no entry is there
+pub laid-below : {A : Type 0} (bs cs : List (Nested Wrapper Made)) (b : Nested Wrapper Made) (top : List (NewEntry A)) → cs ≡ bs ++ b ∷ [] → top ≡ [] → laid_out (piled cs top) ≡ laid_out (piled bs top) ▷ laid_out b
+laid-below [] cs b top e t = rw (e, t) (join-nil (laid_out b))
+laid-below (c ∷ bs) cs b top e t =
+    rw e (ap (λ zs. laid_out c ▷ zs) (laid-below bs (bs ++ b ∷ []) b top refl t) ∙ sym (join_assoc (laid_out c) (laid_out (piled bs top)) (laid_out b)))
 
--- one entry
-pub laid-entry : {A : Type 0} (e : NewEntry A) → laid_out (piled (piece.Entry e ∷ [])) ≡ new_entries (e ∷ [])
-laid-entry (Leaf l) = refl
-laid-entry (Group k o inner) = refl
+pub filled-below : {A : Type 0} (bs cs : List (Nested Wrapper Made)) (b : Nested Wrapper Made) (top : List (NewEntry A)) → cs ≡ bs ++ b ∷ [] → is_empty (laid_out b) ≡ false → IsFilled (piled bs top) → IsFilled (piled cs top)
+filled-below [] cs b top e n h = rw e (n, tt)
+filled-below (c ∷ bs) cs b top e n h = rw e (h.0, filled-below bs (bs ++ b ∷ []) b top refl n h.1)
 
-pub empty-piled : {A : Type 0} (es : List (Piece A)) (n : ℕ) → IsFilled (piled es) → length es ≡ n → (n == 0) ≡ is_empty (laid_out (piled es))
-empty-piled [] n f e = rw (← e) refl
-empty-piled (piece.Entry (Leaf l) ∷ es) n f e = rw (← e) (grind arith)
-empty-piled (piece.Entry (Group k o inner) ∷ es) n f e = rw (← e) (grind arith)
-empty-piled (piece.List inner ∷ es) n f e = rw (← e, empty-join (laid_out inner) (laid_out (piled es)) f.0) (grind arith)
+-- the run on top becomes a list below
+pub laid-ended : {A : Type 0} (bs cs : List (Nested Wrapper Made)) (b : Nested Wrapper Made) (top new : List (NewEntry A)) → cs ≡ bs ++ b ∷ [] → laid_out b ≡ new_entries top → new ≡ [] → laid_out (piled cs new) ≡ laid_out (piled bs top)
+laid-ended [] cs b top new e h t = rw (e, t) (join-nil (laid_out b) ∙ h)
+laid-ended (c ∷ bs) cs b top new e h t = rw e (ap (λ zs. laid_out c ▷ zs) (laid-ended bs (bs ++ b ∷ []) b top new refl h t))
 
-pub size-rest : {A : Type 0} (x : Piece A) (xs : List (Piece A)) → nested_size (piled xs) ≤ nested_size (piled (x ∷ xs))
-size-rest (piece.Entry (Leaf l)) xs = omega arith
-size-rest (piece.Entry (Group k o inner)) xs = omega arith
-size-rest (piece.List inner) xs = omega arith
+pub some_new : {A : Type 0} (top : List (NewEntry A)) (n : ℕ) → length top ≡ n → (n == 0) ≡ false → is_empty (new_entries top) ≡ false
+some_new [] n e h = let k : true ≡ false = ap (λ m. m == 0) e ∙ h in cc
+some_new (Leaf l ∷ top) n e h = refl
+some_new (Group k o inner ∷ top) n e h = refl
 
--- one piece more is laid out
-pub lay_more : {A : Type 0} (ps qs : List (Piece A)) (x : Piece A) (out old new : Entries Wrapper Made) (whole : Nested Wrapper Made) → ps ≡ x ∷ qs → new ≡ out ▷ laid_out (piled (x ∷ []))
-    → (nested_size (piled ps) ≤ nested_size whole) × (out ▷ laid_out (piled ps) ≡ old ▷ laid_out whole)
-    → (nested_size (piled qs) ≤ nested_size whole) × (new ▷ laid_out (piled qs) ≡ old ▷ laid_out whole)
-lay_more ps qs x out old new whole e n h =
-    let size : nested_size (piled (x ∷ qs)) ≤ nested_size whole = rw e at h.0 in
-    let same : out ▷ laid_out (piled (x ∷ qs)) ≡ old ▷ laid_out whole = rw e at h.1 in
-    (omega (arith, size, size-rest x qs), rw n (join_assoc out (laid_out (piled (x ∷ []))) (laid_out (piled qs)) ∙ ap (λ zs. out ▷ zs) (sym (laid-append (x ∷ []) qs)) ∙ same))
+-- no list is there where some list below or some entry on top is
+pub empty-below : {A : Type 0} (bs : List (Nested Wrapper Made)) (top : List (NewEntry A)) (m n : ℕ) → IsFilled (piled bs top) → length top ≡ m → (m == 0) ≡ true → length bs ≡ n → (n == 0) ≡ is_empty (laid_out (piled bs top))
+empty-below [] [] m n f t h e = rw (← e) refl
+empty-below [] (x ∷ top) m n f t h e =
+    let some : (length (x ∷ top) == 0) ≡ false = grind arith in
+    let k : false ≡ true = sym some ∙ ap (λ m. m == 0) t ∙ h in cc
+empty-below (b ∷ bs) top m n f t h e = rw (← e, empty-join (laid_out b) (laid_out (piled bs top)) f.0) (grind arith)
 
-pub none_left : {A : Type 0} (ps : List (Piece A)) (out old : Entries Wrapper Made) (whole : Nested Wrapper Made) → length ps ≡ 0
-    → (nested_size (piled ps) ≤ nested_size whole) × (out ▷ laid_out (piled ps) ≡ old ▷ laid_out whole) → out ≡ old ▷ laid_out whole
-none_left [] out old whole e h = sym (join-nil out) ∙ h.1
-none_left (x ∷ ps) out old whole e h = absurd (omega (arith, e))
+pub some-below : {A : Type 0} (bs : List (Nested Wrapper Made)) (top : List (NewEntry A)) → IsFilled (piled bs top) → is_empty (new_entries top) ≡ false → is_empty (laid_out (piled bs top)) ≡ false
+some-below [] top f h = h
+some-below (b ∷ bs) top f h = empty-join (laid_out b) (laid_out (piled bs top)) f.0
+
+pub none_below : {A : Type 0} (bs : List (Nested Wrapper Made)) (top : List (NewEntry A)) (m : ℕ) → length bs ≡ m → (m == 0) ≡ true → laid_out (piled bs top) ≡ new_entries top
+none_below [] top m e h = refl
+none_below (b ∷ bs) top m e h =
+    let some : (length (b ∷ bs) == 0) ≡ false = grind arith in
+    let k : false ≡ true = sym some ∙ ap (λ m. m == 0) e ∙ h in cc
+
+-- a list below is laid out
+pub lay_more : {A : Type 0} (bs cs : List (Nested Wrapper Made)) (b : Nested Wrapper Made) (top : List (NewEntry A)) (out old new : Entries Wrapper Made) (whole : Nested Wrapper Made) → bs ≡ b ∷ cs → new ≡ out ▷ laid_out b
+    → (nested_size (piled bs top) ≤ nested_size whole) × (out ▷ laid_out (piled bs top) ≡ old ▷ laid_out whole)
+    → (nested_size (piled cs top) ≤ nested_size whole) × (new ▷ laid_out (piled cs top) ≡ old ▷ laid_out whole)
+lay_more bs cs b top out old new whole e n h =
+    let size : nested_size (piled (b ∷ cs) top) ≤ nested_size whole = rw e at h.0 in
+    let same : out ▷ laid_out (piled (b ∷ cs) top) ≡ old ▷ laid_out whole = rw e at h.1 in
+    (omega (arith, size), rw n (join_assoc out (laid_out b) (laid_out (piled cs top)) ∙ same))
+
+-- the run on top is laid out last
+pub lay_top : {A : Type 0} (bs : List (Nested Wrapper Made)) (top : List (NewEntry A)) (out old : Entries Wrapper Made) (whole : Nested Wrapper Made) → length bs ≡ 0
+    → (nested_size (piled bs top) ≤ nested_size whole) × (out ▷ laid_out (piled bs top) ≡ old ▷ laid_out whole) → out ▷ new_entries top ≡ old ▷ laid_out whole
+lay_top [] top out old whole e h = h.1
+lay_top (b ∷ bs) top out old whole e h = absurd (omega (arith, e))

@@ -1,10 +1,11 @@
 //! Lists that are put together without copying.
-ghost use Rattle.std.specs.Prelude.{◌≡◌, OnOk, ◌∷◌, []};
+ghost use Rattle.std.specs.Prelude.{◌≡◌, ◌≤◌, ◌+◌, OnOk, [], vec_len, vec_capacity};
 ghost use Rattle.rd_list.specs.Entries as list;
 ghost use Rattle.rd_list.specs.Entries.{◌▷◌, is_empty, one_leaf, one_group};
 ghost use Rattle.rd_list.specs.Wrappers.{wrapper};
+ghost use Rattle.rd_list.specs.NewView.{new_entries};
 ghost use Rattle.rd_list.specs.Nested.{laid_out};
-ghost use Rattle.rd_list.specs.Internal.Piled.{piled};
+ghost use Rattle.rd_list.specs.Internal.Piled.{piled, IsFilled};
 
 use crate::fresh::{NewEntry, NewList};
 use rd_item::Item;
@@ -14,19 +15,22 @@ use std::marker::Model;
 use std::mem::replace;
 use std::sync::ledger::Ledger;
 
-/// A new list, from bottom to top, that is put together of entries and of whole lists, which are moved as they are.
+/// How many entries a run has room for at first.
+const FIRST: usize = 11;
+
+/// How many entries a run has room for at most where they are put there one by one; all of them take less than 4 kB.
+const RUN: usize = 44;
+
+/// How many entries are copied at most where a whole list is put on top.
+const SHORT: usize = 22;
+
+/// A new list, from bottom to top, that is put together of whole lists, which are moved as they are, and of a run of
+/// entries on top of them. No list below is empty.
 #[derive(Drop)]
 #[cycle(pile)]
 pub struct Pieces<A: Ledger> {
-    pieces: Vec<Piece<A>>,
-}
-
-/// An entry, or a list that stands in place of its entries and has at least one.
-#[derive(Drop)]
-#[cycle(pile)]
-enum Piece<A: Ledger> {
-    Entry(NewEntry<A>),
-    List(Pieces<A>),
+    below: Vec<Pieces<A>>,
+    top: Vec<NewEntry<A>>,
 }
 
 impl<A: Ledger> Model for Pieces<A> {
@@ -42,20 +46,108 @@ impl<A: Ledger> Model for Pieces<A> {
 
     ghost Value = { Nested Wrapper Made };
 
-    ghost coded = { nested_code (made_code leaf.the_row.coded) (wrapper_code (key.the_row mark.the_row).coded) (entries_code (made_code leaf.the_row.coded) (wrapper_code (key.the_row mark.the_row).coded)) };
+    ghost coded = { nested_code (entries_code (made_code leaf.the_row.coded) (wrapper_code (key.the_row mark.the_row).coded)) };
 
     ghost use Rattle.rd_list.specs.Internal.Piled.{piled, nested_size, IsFilled};
 
-    ghost view = { λ a. piled a.pieces.items };
+    ghost view = { λ a. piled a.below.items a.top.items };
 
-    ghost invariant = { λ a. IsFilled (piled a.pieces.items) };
+    ghost invariant = { λ a. IsFilled (piled a.below.items a.top.items) };
 
     ghost size = { nested_size };
 
     ghost use Rattle.std.proofs.Common.{arith};
     ghost use Rattle.rd_list.specs.Internal.PileFalls.{most_le-nested_size};
 
-    ghost size_decreases = { λ a h. Prim.omega (arith, most_le-nested_size A.Ledger a.pieces.items) };
+    ghost size_decreases = { λ a h. Prim.omega (arith, most_le-nested_size a.below.items a.top.items) };
+}
+
+/// Ends the run on top, where it has entries; the next one begins with none.
+fn end_run<A: Ledger>(
+    below: &mut Vec<Pieces<A>>,
+    top: &mut Vec<NewEntry<A>>,
+    next: Vec<NewEntry<A>>,
+) -> Result<(), AllocError>
+    requires none { next.items ≡ [] }
+    ensures next { top.new ≡ next }
+    ensures same { OnOk result (laid_out (piled below.new.items top.new.items)
+        ≡ laid_out (piled below.old.items top.old.items)) }
+    ensures filled { IsFilled (piled below.old.items top.old.items) → IsFilled (piled below.new.items top.new.items) }
+{
+    let alloc = *top.allocator();
+    let run = replace(top, next);
+    if run.is_empty() {
+        return Ok(());
+    }
+    below.push(Pieces {
+        below: Vec::new(alloc),
+        top: run,
+    })?;
+    Ok(())
+}
+
+/// A short run grows, and a long one is ended, so that there is room for so many entries more on top. No entry of a long
+/// one is moved.
+#[inline(never)]
+fn widen<A: Ledger>(
+    below: &mut Vec<Pieces<A>>,
+    top: &mut Vec<NewEntry<A>>,
+    more: usize,
+) -> Result<(), AllocError>
+    requires few { more ≤ RUN }
+    ensures room { OnOk result (vec_len top.new + more ≤ vec_capacity top.new) }
+    ensures same { OnOk result (laid_out (piled below.new.items top.new.items)
+        ≡ laid_out (piled below.old.items top.old.items)) }
+    ensures filled { IsFilled (piled below.old.items top.old.items) → IsFilled (piled below.new.items top.new.items) }
+{
+    let len = top.len();
+    let sum = len.saturating_add(more);
+    if sum <= FIRST {
+        top.reserve(FIRST - len)?;
+        return Ok(());
+    }
+    if sum <= RUN {
+        top.reserve(RUN - len)?;
+        return Ok(());
+    }
+    let next = Vec::with_capacity(*top.allocator(), RUN)?;
+    end_run(below, top, next)
+}
+
+/// Makes room for so many entries more on top, where there is none.
+#[inline(always)]
+fn make_room<A: Ledger>(
+    below: &mut Vec<Pieces<A>>,
+    top: &mut Vec<NewEntry<A>>,
+    more: usize,
+) -> Result<(), AllocError>
+    requires few { more ≤ RUN }
+    ensures room { OnOk result (vec_len top.new + more ≤ vec_capacity top.new) }
+    ensures same { OnOk result (laid_out (piled below.new.items top.new.items)
+        ≡ laid_out (piled below.old.items top.old.items)) }
+    ensures filled { IsFilled (piled below.old.items top.old.items) → IsFilled (piled below.new.items top.new.items) }
+{
+    if more <= top.capacity() - top.len() {
+        return Ok(());
+    }
+    widen(below, top, more)
+}
+
+/// Puts a short run on top, whose room is left.
+fn put_run<A: Ledger>(
+    below: &mut Vec<Pieces<A>>,
+    top: &mut Vec<NewEntry<A>>,
+    run: &mut Vec<NewEntry<A>>,
+) -> Result<(), AllocError>
+    requires few { vec_len run.old ≤ RUN }
+    ensures list { OnOk result (laid_out (piled below.new.items top.new.items)
+        ≡ laid_out (piled below.old.items top.old.items) ▷ new_entries run.old.items) }
+    ensures none { OnOk result (run.new.items ≡ []) }
+    ensures filled { IsFilled (piled below.old.items top.old.items) → IsFilled (piled below.new.items top.new.items) }
+{
+    make_room(below, top, run.len())?;
+    top.append(run)?;
+    Ok(())
 }
 
 impl<A: Ledger> Pieces<A> {
@@ -64,7 +156,8 @@ impl<A: Ledger> Pieces<A> {
         ensures { laid_out result ≡ list.nil }
     {
         Pieces {
-            pieces: Vec::new(alloc),
+            below: Vec::new(alloc),
+            top: Vec::new(alloc),
         }
     }
 
@@ -72,7 +165,7 @@ impl<A: Ledger> Pieces<A> {
     pub fn is_empty(&self) -> bool
         ensures { result ≡ is_empty (laid_out self.now) }
     {
-        self.pieces.is_empty()
+        self.top.is_empty() && self.below.is_empty()
     }
 
     /// Puts an item on top.
@@ -80,40 +173,8 @@ impl<A: Ledger> Pieces<A> {
     pub fn push_item(&mut self, item: Item<A>) -> Result<(), AllocError>
         ensures { OnOk result (laid_out self.new ≡ laid_out self.old ▷ one_leaf item) }
     {
-        self.make_room()?;
-        self.pieces.push(Piece::Entry(NewEntry::Leaf(item)))?;
-        Ok(())
-    }
-
-    /// Makes room for a piece, where there is none.
-    #[inline(always)]
-    fn make_room(&mut self) -> Result<(), AllocError>
-        ensures { OnOk result (laid_out self.new ≡ laid_out self.old) }
-    {
-        if self.pieces.len() < self.pieces.capacity() {
-            return Ok(());
-        }
-        self.widen()
-    }
-
-    /// Makes room on top: a long list becomes the first piece of one with room for twice as many, and no piece is moved.
-    fn widen(&mut self) -> Result<(), AllocError>
-        ensures { OnOk result (laid_out self.new ≡ laid_out self.old) }
-    {
-        let len = self.pieces.len();
-        if self.is_empty() {
-            self.pieces.reserve(1)?;
-            return Ok(());
-        }
-        if len < 16 {
-            self.pieces.reserve(1)?;
-            return Ok(());
-        }
-        let wider = Pieces {
-            pieces: Vec::with_capacity(*self.pieces.allocator(), len.saturating_add(len))?,
-        };
-        let full = replace(self, wider);
-        self.pieces.push(Piece::List(full))?;
+        make_room(&mut self.below, &mut self.top, 1)?;
+        self.top.push_reserved(NewEntry::Leaf(item));
         Ok(())
     }
 
@@ -126,15 +187,15 @@ impl<A: Ledger> Pieces<A> {
     ) -> Result<(), AllocError>
         ensures { OnOk result (laid_out self.new ≡ laid_out self.old ▷ one_group (wrapper key opacity) inner) }
     {
-        self.pieces.push(Piece::Entry(NewEntry::Group {
+        self.top.push(NewEntry::Group {
             key,
             opacity,
             inner,
-        }))?;
+        })?;
         Ok(())
     }
 
-    /// Puts a whole list on top. A list of more than four pieces is moved as one, and no entry is copied.
+    /// Puts a whole list on top. A list that is not short is moved as one, and no entry is copied.
     pub fn join(&mut self, from: Pieces<A>) -> Result<(), AllocError>
         ensures { OnOk result (laid_out self.new ≡ laid_out self.old ▷ laid_out from) }
     {
@@ -145,21 +206,33 @@ impl<A: Ledger> Pieces<A> {
             *self = from;
             return Ok(());
         }
-        if from.pieces.len() <= 4 {
-            self.make_room()?;
-            let Pieces { mut pieces } = from;
-            self.pieces.append(&mut pieces)?;
-            return Ok(());
+        if from.below.is_empty() && from.top.len() <= SHORT {
+            let Pieces { below: _, mut top } = from;
+            return put_run(&mut self.below, &mut self.top, &mut top);
         }
-        self.pieces.push(Piece::List(from))?;
+        let next = Vec::new(*self.top.allocator());
+        end_run(&mut self.below, &mut self.top, next)?;
+        self.below.push(from)?;
         Ok(())
+    }
+
+    /// Puts a whole list on top, and leaves it empty; its room is left where it is short, so that its entries are copied.
+    pub fn append(&mut self, from: &mut Pieces<A>) -> Result<(), AllocError>
+        ensures list { OnOk result (laid_out self.new ≡ laid_out self.old ▷ laid_out from.old) }
+        ensures none { OnOk result (laid_out from.new ≡ list.nil) }
+    {
+        if from.below.is_empty() && from.top.len() <= SHORT {
+            return put_run(&mut self.below, &mut self.top, &mut from.top);
+        }
+        let none = Pieces::empty(*self.top.allocator());
+        self.join(replace(from, none))
     }
 
     /// Lays the entries out on top of a list, each moved once.
     pub fn lay_out(self, out: &mut NewList<A>) -> Result<(), AllocError>
         ensures { OnOk result (out.new ≡ out.old ▷ laid_out self) }
     {
-        out.entries.reserve(entries_in(&self))?;
+        out.entries.reserve(self.entries())?;
         self.lay(out)
     }
 
@@ -167,41 +240,21 @@ impl<A: Ledger> Pieces<A> {
     fn lay(self, out: &mut NewList<A>) -> Result<(), AllocError>
         ensures { OnOk result (out.new ≡ out.old ▷ laid_out self) }
     {
-        let Pieces { pieces } = self;
-        for piece in pieces {
-            lay_piece(piece, out)?;
+        let Pieces { below, mut top } = self;
+        for list in below {
+            list.lay(out)?;
         }
+        out.entries.append(&mut top)?;
         Ok(())
     }
-}
 
-#[cycle(lay)]
-fn lay_piece<A: Ledger>(piece: Piece<A>, out: &mut NewList<A>) -> Result<(), AllocError>
-    ensures { OnOk result (out.new ≡ out.old ▷ laid_out (piled (piece ∷ []))) }
-{
-    match piece {
-        Piece::Entry(entry) => {
-            out.entries.push(entry)?;
-            Ok(())
+    /// How many entries there are.
+    #[cycle(count)]
+    fn entries(&self) -> usize {
+        let mut count = self.top.len();
+        for list in &self.below {
+            count = count.saturating_add(list.entries());
         }
-        Piece::List(inner) => inner.lay(out),
-    }
-}
-
-/// How many entries there are, in whole lists and outside.
-#[cycle(count)]
-fn entries_in<A: Ledger>(list: &Pieces<A>) -> usize {
-    let mut count: usize = 0;
-    for piece in &list.pieces {
-        count = count.saturating_add(entries_of(piece));
-    }
-    count
-}
-
-#[cycle(count)]
-fn entries_of<A: Ledger>(piece: &Piece<A>) -> usize {
-    match piece {
-        Piece::Entry(_) => 1,
-        Piece::List(inner) => entries_in(inner),
+        count
     }
 }

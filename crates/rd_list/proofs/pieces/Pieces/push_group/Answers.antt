@@ -1,11 +1,10 @@
 use Rattle.std.proofs.Common.{◌∷◌, []}
 use Rattle.rd_list.specs.declared.fresh.NewEntry.TheVariants as entry
-use Rattle.rd_list.specs.declared.pieces.Piece.TheVariants as piece
-use Rattle.rd_list.proofs.Piling.{laid-appended, filled-appended}
+use Rattle.rd_list.proofs.Piling.{laid-on, filled-on}
 use Rattle.rd_list.proofs.pieces.Pieces.push_group.Goals as goal
 
 pub invariant_of-self-2 : goal.invariant_of-self-2
-invariant_of-self-2 g c = filled-appended c.self.inside.pieces.items (piece.Entry (entry.Group c.args.key c.args.opacity c.args.inner) ∷ []) c.push.new.self.items c.in_ok-push.ensures.items c.self.invariant tt
+invariant_of-self-2 g c = filled-on c.self.inside.below.items c.self.inside.top.items c.push.new.self.items c.self.invariant
 
 pub returns : goal.returns
-returns g c = rw (← c.self.view_is) (laid-appended c.self.inside.pieces.items (piece.Entry (entry.Group c.args.key c.args.opacity c.args.inner) ∷ []) c.push.new.self.items c.in_ok-push.ensures.items)
+returns g c = rw (← c.self.view_is) (laid-on c.self.inside.below.items c.self.inside.top.items (entry.Group c.args.key c.args.opacity c.args.inner ∷ []) c.push.new.self.items c.in_ok-push.ensures.items)
