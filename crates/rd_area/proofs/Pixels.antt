@@ -232,8 +232,9 @@ grown_filled s used from to span old new w g r e x y h =
     subst (λ b. IsTrue b) (sym (row_grown s from to span old new w y x g (r y)))
     (left_true (holds_pixel s x (pos y)) (in_spans (get_or old y []) x) k)
 
-pub none_filled : (rows : List (List Span)) → IsFilled no_pixels rows
-none_filled rows x y h = absurd (no_pixel_in no_pixels x (pos y) refl h)
+-- what has the edges of a rectangle with a pixel is not empty
+pub some_edges : (a b : Rectangle) → HasEdges a b → has_none b ≡ false → has_none a ≡ false
+some_edges a b e h = rw (e.wide, e.high) h
 
 -- an empty rectangle adds no pixel
 pub none_added : (s : Rectangle) (x y : ℤ) (b : Bool) → has_none s ≡ true → b ≡ (holds_pixel s x y || b)

@@ -21,7 +21,7 @@ pub struct Area {
     /// No pixel of the area is outside.
     used: Rect,
 
-    /// Only where each pixel of `used` is in the area.
+    /// Only where `used` is not empty, and each pixel of it is in the area.
     is_full: bool,
 
     /// The row after the last of each band, from top to bottom.
@@ -33,7 +33,8 @@ pub struct Area {
 
 impl Model for Area {
     ghost use Rattle.rd_geom.specs.Areas.{Region};
-    ghost use Rattle.std.specs.Prelude.{unsigned_abs, vec_len, IsTrue};
+    ghost use Rattle.rd_geom.specs.Plane.{has_none};
+    ghost use Rattle.std.specs.Prelude.{◌≡◌, unsigned_abs, vec_len, IsTrue, false};
     ghost use Rattle.rd_area.specs.Internal.Normal.{spans_of, IsFilled, IsNormalized};
     ghost use Rattle.rd_area.specs.Internal.Bands.{rows_of, IsBanded};
 
@@ -47,7 +48,7 @@ impl Model for Area {
     ghost invariant = { λ a. IsNormalized a.size a.used
         (rows_of (unsigned_abs a.size.h) a.ends.items (spans_of a.bands.items))
         × IsBanded (unsigned_abs a.size.h) a.ends.items (vec_len a.bands)
-        × (IsTrue a.is_full → IsFilled a.used (rows_of (unsigned_abs a.size.h) a.ends.items (spans_of a.bands.items))) };
+        × (IsTrue a.is_full → (has_none a.used ≡ false) × IsFilled a.used (rows_of (unsigned_abs a.size.h) a.ends.items (spans_of a.bands.items))) };
 }
 
 /// The columns of a rectangle.
@@ -71,26 +72,27 @@ fn rows_of(r: Rect) -> (usize, usize)
 
 /// Do the columns of both overlap?
 #[inline(always)]
-fn columns_overlap(a: Rect, b: Rect) -> bool
-    ensures { result ≡ overlap a.x (right a) b.x (right b) }
+fn columns_overlap(a: &Rect, b: &Rect) -> bool
+    ensures { result ≡ overlap a.now.x (right a.now) b.now.x (right b.now) }
 {
     a.x() < b.right() && b.x() < a.right()
 }
 
 /// Do the rows of both overlap?
 #[inline(always)]
-fn rows_overlap(a: Rect, b: Rect) -> bool
-    ensures { result ≡ overlap a.y (bottom a) b.y (bottom b) }
+fn rows_overlap(a: &Rect, b: &Rect) -> bool
+    ensures { result ≡ overlap a.now.y (bottom a.now) b.now.y (bottom b.now) }
 {
     a.y() < b.bottom() && b.y() < a.bottom()
 }
 
-/// Is neither empty, and do their columns and their rows overlap?
+/// Is the second one not empty either, and do their columns and their rows overlap?
 #[inline(always)]
-fn cross(a: Rect, b: Rect) -> bool
-    ensures { result ≡ crosses a b }
+fn cross(a: &Rect, b: &Rect) -> bool
+    requires some { has_none a.now ≡ false }
+    ensures { result ≡ crosses a.now b.now }
 {
-    if a.is_empty() || b.is_empty() {
+    if b.is_empty() {
         return false;
     }
     columns_overlap(a, b) && rows_overlap(a, b)
@@ -110,7 +112,7 @@ impl Area {
         Ok(Area {
             size,
             used: Rect::EMPTY,
-            is_full: true,
+            is_full: false,
             ends,
             bands,
         })
@@ -178,7 +180,7 @@ impl Area {
         ensures { result ≡ meets_area self.now r }
     {
         if self.is_full {
-            return cross(self.used, r);
+            return cross(&self.used, &r);
         }
         self.meets_bands(r)
     }

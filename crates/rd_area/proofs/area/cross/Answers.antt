@@ -7,10 +7,10 @@ use Rattle.rd_area.proofs.area.cross.Goals as goal
 -- where the columns overlap, the rows tell
 pub returns-then-columns_overlap : goal.returns-then-columns_overlap
 returns-then-columns_overlap c =
-    let a = c.args.a in
-    let b = c.args.b in
-    let e : has_none a ≡ false = rw (← c.is_empty.ensures) c.if-is_empty.false in
-    let f : has_none b ≡ false = rw (← c.is_empty-else-is_empty.ensures) c.if-is_empty-2.false in
+    let a = c.args.a.now in
+    let b = c.args.b.now in
+    let e : has_none a ≡ false = c.requires.some in
+    let f : has_none b ≡ false = rw (← c.is_empty.ensures) c.if-is_empty.false in
     let cols : c.columns_overlap.result ≡ overlap a.x (right a) b.x (right b) =
     c.columns_overlap.ensures in
     let rows : c.rows_overlap.result ≡ overlap a.y (bottom a) b.y (bottom b) =
@@ -21,10 +21,10 @@ returns-then-columns_overlap c =
 -- where they do not, there is no common pixel
 pub returns-else-columns_overlap : goal.returns-else-columns_overlap
 returns-else-columns_overlap c =
-    let a = c.args.a in
-    let b = c.args.b in
-    let e : has_none a ≡ false = rw (← c.is_empty.ensures) c.if-is_empty.false in
-    let f : has_none b ≡ false = rw (← c.is_empty-else-is_empty.ensures) c.if-is_empty-2.false in
+    let a = c.args.a.now in
+    let b = c.args.b.now in
+    let e : has_none a ≡ false = c.requires.some in
+    let f : has_none b ≡ false = rw (← c.is_empty.ensures) c.if-is_empty.false in
     let cols : c.columns_overlap.result ≡ overlap a.x (right a) b.x (right b) =
     c.columns_overlap.ensures in
     c.if-columns_overlap.false ∙ subst (λ k. (k && overlap a.y (bottom a) b.y (bottom b)) ≡ crosses a b) c.if-columns_overlap.false

@@ -24,3 +24,6 @@ pub join-requires-clause-on : goal.join-requires-clause-on
 join-requires-clause-on c =
     rw (← c.self.view_is) (rw (c.meet-seen.ensures.value, c.rect.ensures) (common_on_right c.args.r (canvas_of c.self.inside.size) c.self.inside.size c.self.invariant.0.canvas
     (canvas_on c.self.inside.size)))
+
+pub between-first-requires-clause-rising : goal.between-first-requires-clause-rising
+between-first-requires-clause-rising c = rw c.deref.ensures.value c.self.invariant.1.rising

@@ -4,7 +4,7 @@ use Rattle.rd_geom.specs.Plane.{right}
 use Rattle.rd_area.specs.Internal.Normal.{spans_of}
 use Rattle.rd_area.specs.Internal.Bands.{row_at, rows_of}
 use Rattle.rd_area.proofs.Banded.{table_same}
-use Rattle.rd_area.proofs.Pixels.{IsBlock, IsGrown, block_top, grown_rows, grown_sound, grown_filled, grown_pixels, same_edges}
+use Rattle.rd_area.proofs.Pixels.{HasEdges, IsBlock, IsGrown, block_top, grown_rows, grown_sound, grown_filled, grown_pixels, same_edges, some_edges}
 use Rattle.rd_area.proofs.area.Area.join.Goals as goal
 
 pub invariant_of-self : goal.invariant_of-self
@@ -33,9 +33,13 @@ invariant_of-self-2 c =
           (rows_of h c.self.inside.ends.items (spans_of c.self.inside.bands.items)) (rows_of h c.prepare.new.ends.items (spans_of c.join.new.rows.items))
           c.self.inside.size g (rw (← c.self.view_is) at c.requires.on) c.self.invariant.0 c.hull-self-inside.ensures.value c.hull-self-inside.ensures.first c.hull-self-inside.ensures.second,
       rw c.join.ensures.len (c.prepare.ensures.banded h top c.self.invariant.1),
-      λ t. grown_filled c.args.seen c.hull-self-inside.result c.rows_of-from.result.0 c.rows_of-from.result.1 c.columns.result
-          (rows_of h c.self.inside.ends.items (spans_of c.self.inside.bands.items)) (rows_of h c.prepare.new.ends.items (spans_of c.join.new.rows.items))
-          c.self.inside.size.w g c.self.invariant.0.rising (same_edges c.hull-self-inside.result c.args.seen (sym c.eq-self-inside.ensures ∙ t)),
+      λ t.
+          let edges : HasEdges c.hull-self-inside.result c.args.seen = same_edges c.hull-self-inside.result c.args.seen (sym c.eq-self-inside.ensures ∙ t) in (
+            some_edges c.hull-self-inside.result c.args.seen edges c.requires.some,
+            grown_filled c.args.seen c.hull-self-inside.result c.rows_of-from.result.0 c.rows_of-from.result.1 c.columns.result
+                (rows_of h c.self.inside.ends.items (spans_of c.self.inside.bands.items)) (rows_of h c.prepare.new.ends.items (spans_of c.join.new.rows.items))
+                c.self.inside.size.w g c.self.invariant.0.rising edges,
+          ),
     )
 
 pub returns-clause-pixels : goal.returns-clause-pixels

@@ -25,6 +25,6 @@ returns-then-self c =
     let o : IsOn (meet used r) c.self.inside.size =
     common_on_left used r c.self.inside.size c.self.invariant.0.canvas c.self.invariant.0.on in
     rw (← c.self.view_is, c.cross.ensures, crosses_meets used r) (same_test (meets used r) _
-    (λ h. shares-meets_area _ r (filled_shares c.self.inside.size used r rows (c.self.invariant.2 c.if-self.true) o (some_there used r h)))
+    (λ h. shares-meets_area _ r (filled_shares c.self.inside.size used r rows (c.self.invariant.2 c.if-self.true).1 o (some_there used r h)))
     (λ h. true_unless (meets used r) (λ apart.
     apart_shares c.self.inside.size used r rows c.self.invariant.0 (none_there used r apart) (meets_area-shares _ r h))))

@@ -56,3 +56,6 @@ returns c =
     (λ n a l. let b = within n a l in
     rw (table_at height (row_at ends bands) n (omega (arith, l, top))) (c.meets.ensures.none no_row (band_of ends n) b.0 b.1))
     (meets_area-shares _ c.args.r h))))
+
+pub between-first-requires-clause-rising : goal.between-first-requires-clause-rising
+between-first-requires-clause-rising c = rw c.deref.ensures.value c.self.invariant.1.rising

@@ -4,7 +4,7 @@ use Rattle.std.proofs.lemmas.Int.{ints}
 use Rattle.rd_area.specs.Internal.Bands.{row_at, rows_of}
 use Rattle.rd_area.specs.Internal.Normal.{spans_of}
 use Rattle.rd_area.proofs.Banded.{none_rows, one_banded, table_length}
-use Rattle.rd_area.proofs.Pixels.{none_sound, none_in, none_filled}
+use Rattle.rd_area.proofs.Pixels.{none_sound, none_in}
 use Rattle.rd_area.proofs.area.Area.none.Goals as goal
 
 pub invariant_of-result-2 : goal.invariant_of-result-2
@@ -16,7 +16,7 @@ invariant_of-result-2 c =
           (table_length (unsigned_abs c.args.size.h) (row_at c.push.new.self.items (spans_of c.push-2.new.self.items)))
           (λ y. none_rows (unsigned_abs c.args.size.h) c.push.new.self.items (spans_of c.push-2.new.self.items) y b),
       rw n (one_banded (unsigned_abs c.args.size.h) c.push.new.self.items (omega (arith, ints, c.requires.some_high)) e),
-      λ t. none_filled (rows_of (unsigned_abs c.args.size.h) c.push.new.self.items (spans_of c.push-2.new.self.items)),
+      λ t. cc,
     )
 
 pub returns-clause-pixels : goal.returns-clause-pixels
