@@ -38,7 +38,7 @@ fn look_at<B: Ledger>(tree: &Tree<B>, key: BoxKey, looks: &mut Steps<B>) -> Opti
 {
     match tree.look(key, looks) {
         Some(view) => Some(Visit {
-            here: BoxData::new(view.key, view.rect, *view.style),
+            here: BoxData::new(view.key, &view.rect, view.style),
             first_child: view.first_child,
             next_sibling: view.next_sibling,
         }),

@@ -31,11 +31,16 @@ impl Model for BoxData {
 }
 
 impl BoxData {
-    pub fn new(key: BoxKey, rect: Rect, style: Style) -> BoxData
-        requires { IsPlaced (outset rect style.outline_width) }
-        ensures { result ≡ record { key = key; rect = rect; style = style } }
+    #[inline(always)]
+    pub fn new(key: BoxKey, rect: &Rect, style: &Style) -> BoxData
+        requires { IsPlaced (outset rect.now style.now.outline_width) }
+        ensures { result ≡ record { key = key; rect = rect.now; style = style.now } }
     {
-        BoxData { key, rect, style }
+        BoxData {
+            key,
+            rect: *rect,
+            style: *style,
+        }
     }
 
     pub fn key(&self) -> BoxKey
