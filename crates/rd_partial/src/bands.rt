@@ -18,6 +18,9 @@ pub struct Local<A: Ledger> {
     pub line: Pieces<A>,
     pub contents: Pieces<A>,
     pub outlines: Pieces<A>,
+
+    /// An empty list, whose room is used again.
+    pub spare: Pieces<A>,
 }
 
 /// What boxes give to their stacking context.

@@ -34,7 +34,7 @@ impl<'a> Looked<'a> {
         requires { OutlineFits (here_of self.now) }
         ensures { result ≡ here_of self.now }
     {
-        BoxData::new(self.key, self.rect, *self.style)
+        BoxData::new(self.key, &self.rect, self.style)
     }
 }
 

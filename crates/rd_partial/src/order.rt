@@ -22,6 +22,7 @@ use std::alloc::Global;
 use std::sync::ledger::Ledger;
 
 /// The background, and the border on top of it (CSS 2.2 Appendix E.2).
+#[inline(always)]
 #[tactic(auto, using(crate::proofs::Joining::joins))]
 pub fn back_border<A: Ledger, W: Wanted>(
     out: &mut Pieces<A>,
@@ -111,6 +112,31 @@ fn in_order<A: Ledger>(layers: &mut Vec<Stacked<A>>) -> Result<(), NoMemory>
     Ok(())
 }
 
+/// The lists of layers, the lowest level first and those of one level as they stood (CSS 2.2 section 9.9.1).
+#[tactic(auto, using(crate::proofs::Joining::joins))]
+fn join_by_level<A: Ledger>(out: &mut Pieces<A>, layers: Vec<Stacked<A>>) -> Result<(), NoMemory>
+    ensures { OnOk result (laid_out out.new ≡ laid_out out.old ▷ each (λ y. y.order) (by_level
+        (map held_stack layers.items))) }
+{
+    let mut layers = layers;
+    in_order(&mut layers)?;
+    join_layers(out, layers)
+}
+
+/// What a box paints that is no layer and no outline, one on top of another. The outlines.
+#[tactic(auto, using(crate::proofs::Joining::joins))]
+fn join_local<A: Ledger>(out: &mut Pieces<A>, local: Local<A>) -> Result<Pieces<A>, NoMemory>
+    ensures list { OnOk result (laid_out out.new ≡ laid_out out.old ▷ laid_out local.backgrounds
+        ▷ laid_out local.floats ▷ laid_out local.line ▷ laid_out local.contents) }
+    ensures outlines { IfOk result (λ p. p ≡ local.outlines) }
+{
+    out.join(local.backgrounds)?;
+    out.join(local.floats)?;
+    out.join(local.line)?;
+    out.join(local.contents)?;
+    Ok(local.outlines)
+}
+
 /// All lists of a box, one on top of another (CSS 2.2 Appendix E.2).
 #[tactic(auto, using(crate::proofs::Joining::joins))]
 pub fn finish<A: Ledger>(
@@ -124,21 +150,16 @@ pub fn finish<A: Ledger>(
         ▷ each (λ y. y.order) (by_level (map held_stack layers.positives.items)) ▷ laid_out local.outlines) }
 {
     let Layers {
-        mut negatives,
+        negatives,
         zeros,
-        mut positives,
+        positives,
     } = layers;
     let mut out = out;
-    in_order(&mut negatives)?;
-    join_layers(&mut out, negatives)?;
-    out.join(local.backgrounds)?;
-    out.join(local.floats)?;
-    out.join(local.line)?;
-    out.join(local.contents)?;
+    join_by_level(&mut out, negatives)?;
+    let outlines = join_local(&mut out, local)?;
     out.join(zeros)?;
-    in_order(&mut positives)?;
-    join_layers(&mut out, positives)?;
-    out.join(local.outlines)?;
+    join_by_level(&mut out, positives)?;
+    out.join(outlines)?;
     Ok(out)
 }
 

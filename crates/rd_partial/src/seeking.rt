@@ -1,11 +1,13 @@
 //! Searches among siblings for the next box that a walk stops at.
-ghost use Rattle.std.specs.Prelude.{◌≡◌, ◌≤◌, None, MatchOption};
+ghost use Rattle.std.specs.Prelude.{◌≡◌, ◌≤◌, None, MatchOption, true};
+ghost use Rattle.rd_geom.specs.Plane.{Rectangle};
+ghost use Rattle.rd_tree.specs.Seeking.{reaches};
 ghost use Rattle.rd_stack.specs.Internal.Looks.{IsFirst};
 ghost use Rattle.rd_partial.specs.Internal.Seeking.{IsNextMarked, IsNextNear, IsNextWanted, PassesMarks, PassesWanted};
 
 use crate::look::{Looked, looked_of};
 use crate::wanted::Wanted;
-use rd_geom::Steps;
+use rd_geom::{Rect, Steps};
 use rd_keys::BoxKey;
 use rd_tree::Tree;
 use std::sync::ledger::Ledger;
@@ -26,18 +28,20 @@ pub(crate) fn next_marked<'a, B: Ledger>(
     }
 }
 
-/// The first of some siblings, from one on, whose hull reaches into the frame of what is wanted.
+/// The first of some siblings, from one on, whose hull reaches into a frame of what is wanted.
 fn next_near<'a, B: Ledger, W: Wanted>(
     tree: &'a Tree<B>,
     wanted: &W,
+    frame: &Rect,
     first: Option<BoxKey>,
     looks: &mut Steps<B>,
 ) -> Option<Looked<'a>>
+    requires frame { (r : Rectangle) → W.wants wanted.now r ≡ true → reaches frame.now r ≡ true }
     requires live { IsFirst first tree.now }
     ensures { MatchOption result (PassesWanted (W.wants wanted.now) tree.now first None looks.old looks.new)
         (λ v. IsNextNear (W.wants wanted.now) tree.now first v looks.old looks.new) }
 {
-    match tree.look_for_hull(first, wanted.frame(), looks) {
+    match tree.look_for_hull(first, *frame, looks) {
         Some(view) => Some(looked_of(view)),
         None => None,
     }
@@ -47,16 +51,18 @@ fn next_near<'a, B: Ledger, W: Wanted>(
 pub(crate) fn next_wanted<'a, B: Ledger, W: Wanted>(
     tree: &'a Tree<B>,
     wanted: &W,
+    frame: &Rect,
     first: Option<BoxKey>,
     looks: &mut Steps<B>,
 ) -> Option<Looked<'a>>
+    requires frame { (r : Rectangle) → W.wants wanted.now r ≡ true → reaches frame.now r ≡ true }
     requires live { IsFirst first tree.now }
     ensures { MatchOption result (PassesWanted (W.wants wanted.now) tree.now first None looks.old looks.new)
         (λ v. IsNextWanted (W.wants wanted.now) tree.now first v looks.old looks.new) }
 {
     let mut at = first;
     loop {
-        let looked = match next_near(tree, wanted, at, looks) {
+        let looked = match next_near(tree, wanted, frame, at, looks) {
             Some(looked) => looked,
             None => return None,
         };

@@ -76,6 +76,7 @@ fn context<A: Ledger, B: Ledger, W: Wanted>(
         line,
         contents: Pieces::empty(alloc),
         outlines,
+        spare: Pieces::empty(alloc),
     };
     let mut layers = Layers {
         negatives: Vec::new(alloc),
@@ -134,6 +135,7 @@ fn aside<A: Ledger, B: Ledger, W: Wanted>(
         line,
         contents: Pieces::empty(alloc),
         outlines,
+        spare: Pieces::empty(alloc),
     };
     those_below(
         alloc, tree, wanted, number, s, b, first, &mut local, layers, made, looks,
@@ -213,6 +215,7 @@ fn atom<A: Ledger, B: Ledger, W: Wanted>(
 
 /// Drops an inline box, and those below it into the same line.
 #[cycle(build)]
+#[inline(never)]
 fn inline<A: Ledger, B: Ledger, W: Wanted>(
     alloc: Global,
     tree: &Tree<B>,
@@ -246,6 +249,7 @@ fn inline<A: Ledger, B: Ledger, W: Wanted>(
 }
 
 /// Drops a block itself.
+#[inline(never)]
 fn block_itself<A: Ledger, W: Wanted>(
     wanted: &W,
     number: u64,
@@ -271,6 +275,19 @@ fn block_itself<A: Ledger, W: Wanted>(
     Ok(())
 }
 
+/// An empty list, which takes the room that is left in another.
+#[inline(always)]
+fn empty_one<A: Ledger>(alloc: Global, spare: &mut Pieces<A>) -> Pieces<A>
+    ensures { laid_out result ≡ nil }
+{
+    let taken = replace(spare, Pieces::empty(alloc));
+    if taken.is_empty() {
+        taken
+    } else {
+        Pieces::empty(alloc)
+    }
+}
+
 /// Begins the line of a block on top of the contents. The line of the box that paints it, which waits while those below the
 /// block are dropped.
 fn open_line<A: Ledger>(alloc: Global, local: &mut Local<A>) -> Pieces<A>
@@ -281,7 +298,8 @@ fn open_line<A: Ledger>(alloc: Global, local: &mut Local<A>) -> Pieces<A>
     ensures contents { laid_out local.new.contents ≡ nil }
     ensures outlines { local.new.outlines ≡ local.old.outlines }
 {
-    let line = replace(&mut local.contents, Pieces::empty(alloc));
+    let none = empty_one(alloc, &mut local.spare);
+    let line = replace(&mut local.contents, none);
     replace(&mut local.line, line)
 }
 
@@ -294,8 +312,9 @@ fn close_line<A: Ledger>(local: &mut Local<A>, outer: Pieces<A>) -> Result<(), N
     ensures outlines { OnOk result (local.new.outlines ≡ local.old.outlines) }
 {
     let line = replace(&mut local.line, outer);
-    let contents = replace(&mut local.contents, line);
-    local.contents.join(contents)?;
+    let mut contents = replace(&mut local.contents, line);
+    local.contents.append(&mut contents)?;
+    local.spare = contents;
     Ok(())
 }
 
@@ -585,9 +604,10 @@ fn children<A: Ledger, B: Ledger, W: Wanted>(
     ensures most { made.new ≤ made.old + siblings_cost (W.wants wanted.now) number s.now first tree.now }
     ensures looks { looks.new ≤ looks.old + visits_from (W.wants wanted.now) first tree.now }
 {
+    let frame = wanted.frame();
     let mut at = first;
     loop {
-        let looked = match next_wanted(tree, wanted, at, looks) {
+        let looked = match next_wanted(tree, wanted, &frame, at, looks) {
             Some(looked) => looked,
             None => return Ok(()),
         };

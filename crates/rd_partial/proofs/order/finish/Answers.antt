@@ -7,26 +7,17 @@ same-out g c = refl
 pub same-out-2 : goal.same-out-2
 same-out-2 g c = refl
 
+pub same-zeros : goal.same-zeros
+same-zeros g c = refl
+
 pub same-out-3 : goal.same-out-3
 same-out-3 g c = refl
 
 pub same-out-4 : goal.same-out-4
 same-out-4 g c = refl
 
+pub same-outlines : goal.same-outlines
+same-outlines g c = refl
+
 pub same-out-5 : goal.same-out-5
 same-out-5 g c = refl
-
-pub same-out-6 : goal.same-out-6
-same-out-6 g c = refl
-
-pub same-zeros : goal.same-zeros
-same-zeros g c = refl
-
-pub same-out-7 : goal.same-out-7
-same-out-7 g c = refl
-
-pub same-out-8 : goal.same-out-8
-same-out-8 g c = refl
-
-pub same-out-9 : goal.same-out-9
-same-out-9 g c = refl

@@ -89,13 +89,13 @@ real_layer-returns-clause-list g t c =
 
 pub context-returns-clause-list : goal.context-returns-clause-list
 context-returns-clause-list g t c =
-    c.in_ok-order.ensures ∙ context_order (g.W.Wanted.wants c.args.wanted.now) c.args.number c.args.s.now c.args.b.now (inner (g.W.Wanted.wants c.args.wanted.now) c.args.number c.args.s.now c.args.b.now c.args.first c.args.tree.now.boxes) (laid_out c.in_ok-out.field-0.out) (held {A = g.row.A.Denot} (record { backgrounds = c.empty.result; floats = c.empty-2.result; line = c.in_ok-out.field-0.line; contents = c.empty-3.result; outlines = c.in_ok-out.field-0.outlines }) (record { negatives = c.new.result; zeros = c.empty-4.result; positives = c.new-2.result })) (held c.those_below.new.local c.those_below.new.layers) c.requires.real c.in_ok-out.ensures.out
-    (rw (c.empty.ensures, c.empty-2.ensures, c.empty-3.ensures, c.new.ensures.items, c.empty-4.ensures, c.new-2.ensures.items, c.in_ok-out.ensures.line, c.in_ok-out.ensures.outlines) refl)
+    c.in_ok-order.ensures ∙ context_order (g.W.Wanted.wants c.args.wanted.now) c.args.number c.args.s.now c.args.b.now (inner (g.W.Wanted.wants c.args.wanted.now) c.args.number c.args.s.now c.args.b.now c.args.first c.args.tree.now.boxes) (laid_out c.in_ok-out.field-0.out) (held {A = g.row.A.Denot} (record { backgrounds = c.empty.result; floats = c.empty-2.result; line = c.in_ok-out.field-0.line; contents = c.empty-3.result; outlines = c.in_ok-out.field-0.outlines; spare = c.empty-4.result }) (record { negatives = c.new.result; zeros = c.empty-5.result; positives = c.new-2.result })) (held c.those_below.new.local c.those_below.new.layers) c.requires.real c.in_ok-out.ensures.out
+    (rw (c.empty.ensures, c.empty-2.ensures, c.empty-3.ensures, c.new.ensures.items, c.empty-5.ensures, c.new-2.ensures.items, c.in_ok-out.ensures.line, c.in_ok-out.ensures.outlines) refl)
     c.in_ok-those_below.ensures.list
 
 pub aside-returns-clause-list : goal.aside-returns-clause-list
 aside-returns-clause-list g t c =
-    c.in_ok-order.ensures ∙ rw (c.new.ensures.items, c.empty-4.ensures, c.new-2.ensures.items) (aside_order (g.W.Wanted.wants c.args.wanted.now) c.args.number c.args.s.now c.args.b.now (inner (g.W.Wanted.wants c.args.wanted.now) c.args.number c.args.s.now c.args.b.now c.args.first c.args.tree.now.boxes) (laid_out c.in_ok-out.field-0.out) (held {A = g.row.A.Denot} (record { backgrounds = c.empty.result; floats = c.empty-2.result; line = c.in_ok-out.field-0.line; contents = c.empty-3.result; outlines = c.in_ok-out.field-0.outlines }) c.args.layers.now) (held c.those_below.new.local c.those_below.new.layers) c.requires.unreal c.in_ok-out.ensures.out
+    c.in_ok-order.ensures ∙ rw (c.new.ensures.items, c.empty-5.ensures, c.new-2.ensures.items) (aside_order (g.W.Wanted.wants c.args.wanted.now) c.args.number c.args.s.now c.args.b.now (inner (g.W.Wanted.wants c.args.wanted.now) c.args.number c.args.s.now c.args.b.now c.args.first c.args.tree.now.boxes) (laid_out c.in_ok-out.field-0.out) (held {A = g.row.A.Denot} (record { backgrounds = c.empty.result; floats = c.empty-2.result; line = c.in_ok-out.field-0.line; contents = c.empty-3.result; outlines = c.in_ok-out.field-0.outlines; spare = c.empty-4.result }) c.args.layers.now) (held c.those_below.new.local c.those_below.new.layers) c.requires.unreal c.in_ok-out.ensures.out
     (rw (c.empty.ensures, c.empty-2.ensures, c.empty-3.ensures, c.in_ok-out.ensures.line, c.in_ok-out.ensures.outlines) refl)
     c.in_ok-those_below.ensures.list)
 
