@@ -1,6 +1,6 @@
-//! Tests of the public calls of the crates whose proofs take minutes. A check of a crate with tests of its own proves the whole crate
-//! once more; here the crates below stand proved, and the tests alone are checked. Tests that read what is private, and those of small
-//! crates, stand in the crates themselves.
+//! Tests of the public calls of the crates whose proofs take a minute or more. A check of a crate with tests of its own proves the
+//! whole crate once more; here the crates below stand proved, and the tests alone are checked. Tests that read what is private, and
+//! those of small crates, stand in the crates themselves.
 #![tactic(auto)]
 
 #[cfg(test)]
@@ -11,6 +11,8 @@ mod merge;
 mod paint;
 #[cfg(test)]
 mod partial;
+#[cfg(test)]
+mod planting;
 #[cfg(test)]
 mod run;
 #[cfg(test)]

@@ -1,19 +1,21 @@
 //! A small new list as a kept one, worked out by hand.
-ghost use Rattle.std.specs.Prelude.{◌≡◌, ◌<◌, ◌∷◌, [], true, false, IfOk};
+ghost use Rattle.std.specs.Prelude.{◌≡◌, ◌<◌, ◌++◌, ◌∷◌, [], true, false};
 ghost use Rattle.rd_geom.specs.Plane.{has_none};
 ghost use Rattle.rd_list.specs.Apart.{LevelsApart};
 ghost use Rattle.rd_list.specs.Entries as list;
 ghost use Rattle.rd_list.specs.EntryNames.{entry_names, new_leaves};
 ghost use Rattle.rd_list.specs.NewView.{new_entries};
 
+use super::planting::rect_of;
 use rd_geom::{Color, Rect, Steps};
+use rd_graph::OrderGraph;
 use rd_item::{Item, Shape};
 use rd_keys::{Arena, BoxKey, BoxMark, Part};
 use rd_list::{Entry, Kept, NewEntry, NewList};
-use std::alloc::{AllocError, Global};
+use std::alloc::Global;
 use std::marker::Brand;
+use std::process::Abort;
 use std::sync::ledger::{Blank, Ledger};
-use std::test::Fail;
 
 const INK: Color = Color {
     r: 0,
@@ -36,65 +38,74 @@ fn leaf<A: Ledger>(owner: BoxKey, part: Part, rect: Rect, made: &mut Steps<A>) -
     NewEntry::Leaf(Item::make(owner, part, rect, shape, INK, true, 1, made))
 }
 
+fn put<A: Ledger>(rt: &impl Abort, entries: &mut Vec<NewEntry<A>>, entry: NewEntry<A>)
+    ensures { entries.new.items ≡ entries.old.items ++ entry ∷ [] }
+{
+    entries.push(entry).expect(rt, "room for an entry");
+}
+
 // The back of a box, and a group with its border and its content.
 fn nested<A: Ledger>(
+    rt: &impl Abort,
     alloc: Global,
     owner: BoxKey,
     rect: Rect,
     made: &mut Steps<A>,
-) -> Result<NewList<A>, AllocError>
+) -> NewList<A>
     requires { has_none rect ≡ false }
-    ensures { IfOk result (λ l. LevelsApart entry_names (new_leaves l)) }
+    ensures { LevelsApart entry_names (new_leaves result) }
 {
-    let mut inside = Vec::with_capacity(alloc, 2)?;
-    inside.push(leaf(owner, Part::Border, rect, made))?;
-    inside.push(leaf(owner, Part::Content, rect, made))?;
-    let mut entries = Vec::with_capacity(alloc, 2)?;
-    entries.push(leaf(owner, Part::Back, rect, made))?;
-    entries.push(NewEntry::Group {
+    let mut inside = Vec::new(alloc);
+    put(rt, &mut inside, leaf(owner, Part::Border, rect, made));
+    put(rt, &mut inside, leaf(owner, Part::Content, rect, made));
+    let mut entries = Vec::new(alloc);
+    put(rt, &mut entries, leaf(owner, Part::Back, rect, made));
+    let group = NewEntry::Group {
         key: owner,
         opacity: 128,
         inner: NewList { entries: inside },
-    })?;
-    Ok(NewList { entries })
+    };
+    put(rt, &mut entries, group);
+    NewList { entries }
 }
 
-fn is_nested<A: Ledger>(alloc: Global, kept: &Kept<A>) -> Result<bool, AllocError> {
-    let order = kept.graph.order(alloc)?;
-    if order.len() != 2 || kept.entries.len() != 2 {
-        return Ok(false);
-    }
+// A graph has so many names.
+fn has_names(rt: &impl Abort, alloc: Global, graph: &OrderGraph, names: usize) {
+    let order = graph.order(alloc).expect(rt, "an order");
+    assert_eq!(rt; order.len(), names);
+}
+
+fn is_nested<A: Ledger>(rt: &impl Abort, alloc: Global, kept: &Kept<A>) {
+    has_names(rt, alloc, &kept.graph, 2);
+    assert_eq!(rt; kept.entries.len(), 2);
     match &kept.entries[1] {
-        Entry::Leaf(_) => Ok(false),
+        Entry::Leaf(_) => panic!(rt; "no group"),
         Entry::Group(group) => {
-            let inside = group.inner.graph.order(alloc)?;
-            Ok(group.opacity == 128 && group.inner.entries.len() == 2 && inside.len() == 2)
+            has_names(rt, alloc, &group.inner.graph, 2);
+            assert_eq!(rt; group.opacity, 128);
+            assert_eq!(rt; group.inner.entries.len(), 2);
         }
     }
 }
 
-fn lines_up<A: Ledger>(alloc: Global, owner: BoxKey, blank: Blank) -> Result<bool, AllocError>
+fn lines_up<A: Ledger>(rt: &impl Abort, alloc: Global, owner: BoxKey, blank: Blank)
     requires name { blank.name ≡ A.name }
     requires parts { blank.parts ≡ A.parts }
     requires some { 0 < blank.parts }
 {
     let mut made = Steps::<A>::new(blank);
-    match Rect::new(0, 0, 4, 4) {
-        Some(rect) => {
-            let list = nested(alloc, owner, rect, &mut made)?;
-            let kept = Kept::linear(alloc, list)?;
-            is_nested(alloc, &kept)
-        }
-        None => Ok(false),
-    }
+    let rect = rect_of(rt, [0, 0, 4, 4]);
+    assert!(rt; !rect.is_empty());
+    let list = nested(rt, alloc, owner, rect, &mut made);
+    let kept = Kept::linear(alloc, list).expect(rt, "a kept list");
+    is_nested(rt, alloc, &kept);
 }
 
 #[test]
-fn a_new_list_is_kept(rt: HostRuntime) -> Result<(), Fail> {
+fn a_new_list_is_kept(rt: HostRuntime) {
     let mut boxes = Arena::<u8, BoxMark>::starting_at(rt.alloc(), 1, 0);
     match boxes.insert(0) {
-        Ok(owner) => assert!(rt; lines_up::<Brand>(rt.alloc(), owner, Blank::new(1))?),
-        Err(_) => assert!(rt; false),
+        Ok(owner) => lines_up::<Brand>(&rt, rt.alloc(), owner, Blank::new(1)),
+        Err(_) => panic!(&rt; "no room for a box"),
     }
-    Ok(())
 }

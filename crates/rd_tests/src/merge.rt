@@ -1,5 +1,5 @@
 //! Merges of small lists, worked out by hand, and of drawn levels beside a matrix.
-ghost use Rattle.std.specs.Prelude.{◌≡◌, ◌<◌, ◌||◌, ◌∷◌, [], true, false, IfOk};
+ghost use Rattle.std.specs.Prelude.{◌≡◌, ◌<◌, ◌++◌, ◌||◌, ◌∷◌, [], true, false, IfOk};
 ghost use Rattle.rd_geom.specs.Plane.{has_none};
 ghost use Rattle.rd_keys.specs.Keys.{same_key};
 ghost use Rattle.rd_list.specs.Entries as list;
@@ -11,7 +11,8 @@ mod drawing;
 mod drawn;
 mod matrix;
 
-use drawn::{MERGES, Tally, compare};
+use super::planting::rect_of;
+use drawn::compare;
 use rd_geom::{Color, Rect, Steps};
 use rd_item::{Item, Shape};
 use rd_keys::{Arena, BoxKey, BoxMark, Part};
@@ -19,8 +20,8 @@ use rd_list::{Entry, Kept, NewEntry, NewList};
 use rd_merge::{Touches, merge};
 use std::alloc::{AllocError, Global};
 use std::marker::Brand;
+use std::process::Abort;
 use std::sync::ledger::{Blank, Ledger};
-use std::test::Fail;
 
 const INK: Color = Color {
     r: 0,
@@ -61,52 +62,68 @@ fn leaf<A: Ledger>(
     NewEntry::Leaf(Item::make(owner, part, rect, shape, INK, true, at, made))
 }
 
+fn put<A: Ledger>(rt: &impl Abort, entries: &mut Vec<NewEntry<A>>, entry: NewEntry<A>)
+    ensures { entries.new.items ≡ entries.old.items ++ entry ∷ [] }
+{
+    entries.push(entry).expect(rt, "room for an entry");
+}
+
 fn whole<A: Ledger>(
+    rt: &impl Abort,
     alloc: Global,
     one: BoxKey,
     other: BoxKey,
     outside: Rect,
     inside: Rect,
     made: &mut Steps<A>,
-) -> Result<NewList<A>, AllocError>
+) -> NewList<A>
     requires outside { has_none outside ≡ false }
     requires inside { has_none inside ≡ false }
-    ensures { IfOk result (λ l. l ≡ whole_list one other outside inside INK) }
+    ensures { result ≡ whole_list one other outside inside INK }
 {
-    let mut inner = Vec::with_capacity(alloc, 2)?;
-    inner.push(leaf(one, Part::Border, inside, 1, made))?;
-    inner.push(leaf(other, Part::Back, inside, 1, made))?;
-    let mut entries = Vec::with_capacity(alloc, 3)?;
-    entries.push(leaf(one, Part::Back, outside, 1, made))?;
-    entries.push(NewEntry::Group {
-        key: one,
-        opacity: 128,
-        inner: NewList { entries: inner },
-    })?;
-    entries.push(leaf(one, Part::Content, outside, 1, made))?;
-    Ok(NewList { entries })
+    let mut inner = Vec::new(alloc);
+    put(rt, &mut inner, leaf(one, Part::Border, inside, 1, made));
+    put(rt, &mut inner, leaf(other, Part::Back, inside, 1, made));
+    let mut entries = Vec::new(alloc);
+    put(rt, &mut entries, leaf(one, Part::Back, outside, 1, made));
+    put(
+        rt,
+        &mut entries,
+        NewEntry::Group {
+            key: one,
+            opacity: 128,
+            inner: NewList { entries: inner },
+        },
+    );
+    put(rt, &mut entries, leaf(one, Part::Content, outside, 1, made));
+    NewList { entries }
 }
 
 fn part<A: Ledger>(
+    rt: &impl Abort,
     alloc: Global,
     one: BoxKey,
     other: BoxKey,
     inside: Rect,
     made: &mut Steps<A>,
-) -> Result<NewList<A>, AllocError>
+) -> NewList<A>
     requires { has_none inside ≡ false }
-    ensures { IfOk result (λ l. l ≡ part_list one other inside INK) }
+    ensures { result ≡ part_list one other inside INK }
 {
-    let mut inner = Vec::with_capacity(alloc, 2)?;
-    inner.push(leaf(one, Part::Border, inside, 2, made))?;
-    inner.push(leaf(other, Part::Back, inside, 2, made))?;
-    let mut entries = Vec::with_capacity(alloc, 1)?;
-    entries.push(NewEntry::Group {
-        key: one,
-        opacity: 128,
-        inner: NewList { entries: inner },
-    })?;
-    Ok(NewList { entries })
+    let mut inner = Vec::new(alloc);
+    put(rt, &mut inner, leaf(one, Part::Border, inside, 2, made));
+    put(rt, &mut inner, leaf(other, Part::Back, inside, 2, made));
+    let mut entries = Vec::new(alloc);
+    put(
+        rt,
+        &mut entries,
+        NewEntry::Group {
+            key: one,
+            opacity: 128,
+            inner: NewList { entries: inner },
+        },
+    );
+    NewList { entries }
 }
 
 fn is_leaf<A: Ledger>(entry: &Entry<A>, owner: BoxKey, part: Part, at: u64) -> bool {
@@ -137,28 +154,37 @@ fn is_as_worked<A: Ledger>(kept: &Kept<A>, one: BoxKey, other: BoxKey) -> bool {
 }
 
 fn late<A: Ledger>(
+    rt: &impl Abort,
     alloc: Global,
     one: BoxKey,
     other: BoxKey,
     outside: Rect,
     inside: Rect,
     made: &mut Steps<A>,
-) -> Result<NewList<A>, AllocError>
+) -> NewList<A>
     requires outside { has_none outside ≡ false }
     requires inside { has_none inside ≡ false }
-    ensures { IfOk result (λ l. l ≡ late_list one other outside inside INK) }
+    ensures { result ≡ late_list one other outside inside INK }
 {
-    let mut inner = Vec::with_capacity(alloc, 1)?;
-    inner.push(leaf(other, Part::Back, inside, 2, made))?;
-    let mut entries = Vec::with_capacity(alloc, 3)?;
-    entries.push(NewEntry::Group {
-        key: one,
-        opacity: 128,
-        inner: NewList { entries: inner },
-    })?;
-    entries.push(leaf(other, Part::Content, inside, 2, made))?;
-    entries.push(leaf(one, Part::Content, outside, 2, made))?;
-    Ok(NewList { entries })
+    let mut inner = Vec::new(alloc);
+    put(rt, &mut inner, leaf(other, Part::Back, inside, 2, made));
+    let mut entries = Vec::new(alloc);
+    put(
+        rt,
+        &mut entries,
+        NewEntry::Group {
+            key: one,
+            opacity: 128,
+            inner: NewList { entries: inner },
+        },
+    );
+    put(
+        rt,
+        &mut entries,
+        leaf(other, Part::Content, inside, 2, made),
+    );
+    put(rt, &mut entries, leaf(one, Part::Content, outside, 2, made));
+    NewList { entries }
 }
 
 // Two entries of one box and a group of one leaf between them.
@@ -197,6 +223,7 @@ fn is_widened<A: Ledger>(kept: &Kept<A>, one: BoxKey, other: BoxKey) -> bool {
 
 // A first merge of nothing with the whole list.
 fn first<A: Ledger>(
+    rt: &impl Abort,
     alloc: Global,
     one: BoxKey,
     other: BoxKey,
@@ -209,7 +236,7 @@ fn first<A: Ledger>(
     requires apart { same_key other one ≡ false }
     ensures { IfOk result (IsFirst one other outside inside INK) }
 {
-    let list = whole(alloc, one, other, outside, inside, made)?;
+    let list = whole(rt, alloc, one, other, outside, inside, made);
     let all = Only {
         all: true,
         key: other,
@@ -220,8 +247,27 @@ fn first<A: Ledger>(
     }
 }
 
+// What the first merge gives.
+fn begun<A: Ledger>(
+    rt: &impl Abort,
+    alloc: Global,
+    one: BoxKey,
+    other: BoxKey,
+    outside: Rect,
+    inside: Rect,
+    made: &mut Steps<A>,
+) -> Kept<A>
+    requires outside { has_none outside ≡ false }
+    requires inside { has_none inside ≡ false }
+    requires apart { same_key other one ≡ false }
+    ensures { IsFirst one other outside inside INK result }
+{
+    first(rt, alloc, one, other, outside, inside, made).expect(rt, "a first merge")
+}
+
 // A second merge where the other box was touched.
 fn merged_twice<A: Ledger>(
+    rt: &impl Abort,
     alloc: Global,
     one: BoxKey,
     other: BoxKey,
@@ -233,8 +279,8 @@ fn merged_twice<A: Ledger>(
     requires inside { has_none inside ≡ false }
     requires apart { same_key other one ≡ false }
 {
-    let kept = first(alloc, one, other, outside, inside, made)?;
-    let second = part(alloc, one, other, inside, made)?;
+    let kept = begun(rt, alloc, one, other, outside, inside, made);
+    let second = part(rt, alloc, one, other, inside, made);
     let touched = Only {
         all: false,
         key: other,
@@ -247,6 +293,7 @@ fn merged_twice<A: Ledger>(
 
 // A second merge where the other box has gone, and nothing is new.
 fn merged_to_less<A: Ledger>(
+    rt: &impl Abort,
     alloc: Global,
     one: BoxKey,
     other: BoxKey,
@@ -258,7 +305,7 @@ fn merged_to_less<A: Ledger>(
     requires inside { has_none inside ≡ false }
     requires apart { same_key other one ≡ false }
 {
-    let kept = first(alloc, one, other, outside, inside, made)?;
+    let kept = begun(rt, alloc, one, other, outside, inside, made);
     let touched = Only {
         all: false,
         key: other,
@@ -271,6 +318,7 @@ fn merged_to_less<A: Ledger>(
 
 // A second merge where a new entry comes between two that stand already.
 fn merged_to_more<A: Ledger>(
+    rt: &impl Abort,
     alloc: Global,
     one: BoxKey,
     other: BoxKey,
@@ -282,8 +330,8 @@ fn merged_to_more<A: Ledger>(
     requires inside { has_none inside ≡ false }
     requires apart { same_key other one ≡ false }
 {
-    let kept = first(alloc, one, other, outside, inside, made)?;
-    let second = late(alloc, one, other, outside, inside, made)?;
+    let kept = begun(rt, alloc, one, other, outside, inside, made);
+    let second = late(rt, alloc, one, other, outside, inside, made);
     let touched = Only {
         all: false,
         key: other,
@@ -294,83 +342,77 @@ fn merged_to_more<A: Ledger>(
     }
 }
 
-fn merges<A: Ledger>(
-    alloc: Global,
-    one: BoxKey,
-    other: BoxKey,
-    blank: Blank,
-) -> Result<bool, AllocError>
+// A rectangle of 4 by 4 at the upper edge.
+fn at(rt: &impl Abort, x: i32) -> Rect
+    ensures { has_none result ≡ false }
+{
+    let rect = rect_of(rt, [x, 0, 4, 4]);
+    assert!(rt; !rect.is_empty());
+    rect
+}
+
+fn merges<A: Ledger>(rt: &impl Abort, alloc: Global, one: BoxKey, other: BoxKey, blank: Blank)
     requires name { blank.name ≡ A.name }
     requires parts { blank.parts ≡ A.parts }
     requires some { 0 < blank.parts }
 {
     let mut made = Steps::<A>::new(blank);
-    if other.is(one) {
-        return Ok(false);
-    }
-    match (Rect::new(0, 0, 4, 4), Rect::new(8, 0, 4, 4)) {
-        (Some(outside), Some(inside)) => {
-            let twice = merged_twice(alloc, one, other, outside, inside, &mut made)?;
-            let less = merged_to_less(alloc, one, other, outside, inside, &mut made)?;
-            let more = merged_to_more(alloc, one, other, outside, inside, &mut made)?;
-            Ok(twice && less && more)
-        }
-        (_, _) => Ok(false),
+    assert!(rt; !other.is(one));
+    let outside = at(rt, 0);
+    let inside = at(rt, 8);
+    let twice = merged_twice(rt, alloc, one, other, outside, inside, &mut made);
+    assert!(rt; twice.expect(rt, "a second merge"));
+    let less = merged_to_less(rt, alloc, one, other, outside, inside, &mut made);
+    assert!(rt; less.expect(rt, "a second merge"));
+    let more = merged_to_more(rt, alloc, one, other, outside, inside, &mut made);
+    assert!(rt; more.expect(rt, "a second merge"));
+}
+
+// A new box.
+fn new_box(rt: &impl Abort, boxes: &mut Arena<u8, BoxMark>) -> BoxKey {
+    match boxes.insert(0) {
+        Ok(key) => key,
+        Err(_) => panic!(rt; "no room for a box"),
     }
 }
 
 #[test]
-fn small_merges(rt: HostRuntime) -> Result<(), Fail> {
+fn small_merges(rt: HostRuntime) {
     let mut boxes = Arena::<u8, BoxMark>::starting_at(rt.alloc(), 2, 0);
-    match (boxes.insert(0), boxes.insert(1)) {
-        (Ok(one), Ok(other)) => {
-            assert!(rt; merges::<Brand>(rt.alloc(), one, other, Blank::new(1))?);
-        }
-        (_, _) => assert!(rt; false),
-    }
-    Ok(())
+    let one = new_box(&rt, &mut boxes);
+    let other = new_box(&rt, &mut boxes);
+    merges::<Brand>(&rt, rt.alloc(), one, other, Blank::new(1));
 }
 
-// The spots of some boxes in a row, each of which overlaps the next one.
-fn row(alloc: Global, keys: &[BoxKey]) -> Result<Vec<(BoxKey, Rect)>, AllocError> {
+// The spots of so many new boxes in a row, each of which overlaps the next one.
+fn row(rt: &impl Abort, alloc: Global, count: u8) -> Vec<(BoxKey, Rect)> {
+    let mut boxes = Arena::<u8, BoxMark>::starting_at(alloc, u32::from(count), 0);
     let mut all = Vec::new(alloc);
-    let mut x: i32 = 0;
-    for key in keys {
-        if let Some(rect) = Rect::new(x, 0, 4, 4) {
-            all.push((*key, rect))?;
-        }
-        x = x.wrapping_add(3);
+    for number in 0..count {
+        let spot = (new_box(rt, &mut boxes), at(rt, i32::from(number) * 3));
+        all.push(spot).expect(rt, "room for a spot");
     }
-    Ok(all)
+    all
 }
 
 fn drawn_merges<A: Ledger>(
+    rt: &impl Abort,
     alloc: Global,
     every: &[(BoxKey, Rect)],
     blank: Blank,
-) -> Result<Tally, AllocError>
+) -> u64
     requires name { blank.name ≡ A.name }
     requires parts { blank.parts ≡ A.parts }
     requires some { 0 < blank.parts }
 {
     let mut made = Steps::<A>::new(blank);
-    compare(alloc, every, &mut made)
+    compare(rt, alloc, every, &mut made)
 }
 
 // Many merges of drawn levels give what brute force gives.
 #[test]
-fn drawn_merges_agree(rt: HostRuntime) -> Result<(), Fail> {
-    let mut boxes = Arena::<u8, BoxMark>::starting_at(rt.alloc(), 10, 0);
-    let mut keys = Vec::new(rt.alloc());
-    for number in 0..10 {
-        match boxes.insert(number) {
-            Ok(key) => keys.push(key)?,
-            Err(_) => assert!(rt; false),
-        }
-    }
-    let every = row(rt.alloc(), &keys)?;
-    let tally = drawn_merges::<Brand>(rt.alloc(), &every, Blank::new(1))?;
-    assert_eq!(rt; tally.agreed, MERGES);
-    assert!(rt; tally.free > 0);
-    Ok(())
+fn drawn_merges_agree(rt: HostRuntime) {
+    let every = row(&rt, rt.alloc(), 10);
+    let free = drawn_merges::<Brand>(&rt, rt.alloc(), &every, Blank::new(1));
+    assert!(rt; free > 0);
 }

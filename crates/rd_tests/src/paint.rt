@@ -1,8 +1,9 @@
 //! Spans that are lent, and a list with groups on a canvas with marked pixels.
 
-ghost use Rattle.std.specs.Prelude.{◌≡◌, ◌<◌, ◌≤◌, ◌∷◌, [], IfSome};
+ghost use Rattle.std.specs.Prelude.{◌≡◌, ◌<◌, ◌≤◌, ◌∷◌, []};
 ghost use Rattle.rd_list.specs.KeptView.{kept_entries};
 ghost use Rattle.rd_list.specs.Views.{levels};
+ghost use Rattle.rd_paint.specs.Pictures.{size_of};
 
 use rd_area::Area;
 use rd_geom::{Color, NoMemory, Px, Rect, Size, Steps, px_of};
@@ -13,12 +14,13 @@ use rd_list::{Entry, Group, Kept};
 use rd_paint::{Buffers, Canvas, paint_span, repaint};
 use std::alloc::Global;
 use std::marker::Brand;
+use std::process::Abort;
 use std::sync::ledger::{Blank, Ledger};
 
 // On a canvas of 4 by 2: the pixels 1 1 and 2 1 are lent and made clear, and no other changes.
 #[test]
-fn a_span_is_written(rt: HostRuntime) -> Result<(), NoMemory> {
-    let mut canvas = Canvas::new(rt.alloc(), Size { w: 4, h: 2 })?;
+fn a_span_is_written(rt: HostRuntime) {
+    let mut canvas = Canvas::new(rt.alloc(), Size { w: 4, h: 2 }).expect(&rt, "a canvas");
     let span = canvas.span_mut(1, 1, 3);
     assert_eq!(rt; span.len(), 2);
     for p in span.iter_mut() {
@@ -38,7 +40,6 @@ fn a_span_is_written(rt: HostRuntime) -> Result<(), NoMemory> {
     for (x, y, want) in table {
         assert!(rt; canvas.pixel(x, y) == want);
     }
-    Ok(())
 }
 
 const fn color(r: u8, g: u8, b: u8, a: u8) -> Color {
@@ -46,16 +47,20 @@ const fn color(r: u8, g: u8, b: u8, a: u8) -> Color {
 }
 
 // A leaf of some columns and four rows.
-fn columns<A: Ledger>(x: i32, w: i32, color: Color, made: &mut Steps<A>) -> Option<Item<A>> {
-    let outer = Rect::new(x, 0, w, 4)?;
-    if outer.is_empty() {
-        return None;
-    }
+fn columns<A: Ledger>(
+    rt: &impl Abort,
+    x: i32,
+    w: i32,
+    color: Color,
+    made: &mut Steps<A>,
+) -> Item<A> {
+    let outer = Rect::new(x, 0, w, 4).expect(rt, "some columns");
+    assert!(rt; !outer.is_empty());
     let shape = Shape {
         outer,
         inner: Rect::EMPTY,
     };
-    Some(Item::make(
+    Item::make(
         Key::new(0, 0),
         Part::Back,
         outer,
@@ -64,7 +69,7 @@ fn columns<A: Ledger>(x: i32, w: i32, color: Color, made: &mut Steps<A>) -> Opti
         true,
         1,
         made,
-    ))
+    )
 }
 
 fn faded<A: Ledger>(opacity: u8, entries: Vec<Entry<A>>, graph: OrderGraph) -> Group<A>
@@ -78,17 +83,17 @@ fn faded<A: Ledger>(opacity: u8, entries: Vec<Entry<A>>, graph: OrderGraph) -> G
 }
 
 // A group of opacity 128 with one entry.
-fn half<A: Ledger>(alloc: Global, entry: Entry<A>) -> Option<Group<A>>
-    ensures { IfSome result (λ g. levels g.inner.entries ≡ levels (kept_entries (entry ∷ []))) }
+fn half<A: Ledger>(rt: &impl Abort, alloc: Global, entry: Entry<A>) -> Group<A>
+    ensures { levels result.inner.entries ≡ levels (kept_entries (entry ∷ [])) }
 {
     let mut entries = Vec::new(alloc);
     match entries.push(entry) {
-        Ok(()) => Some(faded(128, entries, OrderGraph::empty(alloc))),
-        Err(_) => None,
+        Ok(()) => faded(128, entries, OrderGraph::empty(alloc)),
+        Err(_) => panic!(rt; "no room for an entry"),
     }
 }
 
-fn put<A: Ledger>(list: &mut Vec<Entry<A>>, entry: Entry<A>) -> Result<(), NoMemory>
+fn push<A: Ledger>(list: &mut Vec<Entry<A>>, entry: Entry<A>) -> Result<(), NoMemory>
     requires list { levels (kept_entries list.old.items) ≤ 3 }
     requires entry { levels (kept_entries (entry ∷ [])) ≤ 3 }
     ensures { levels (kept_entries list.new.items) ≤ 3 }
@@ -97,33 +102,40 @@ fn put<A: Ledger>(list: &mut Vec<Entry<A>>, entry: Entry<A>) -> Result<(), NoMem
     Ok(())
 }
 
+fn put<A: Ledger>(rt: &impl Abort, list: &mut Vec<Entry<A>>, entry: Entry<A>)
+    requires list { levels (kept_entries list.old.items) ≤ 3 }
+    requires entry { levels (kept_entries (entry ∷ [])) ≤ 3 }
+    ensures { levels (kept_entries list.new.items) ≤ 3 }
+{
+    push(list, entry).expect(rt, "room for an entry");
+}
+
 // On column 1 red in a group of opacity 128, and on column 2 the same in one more such group.
-fn put_red<A: Ledger>(alloc: Global, list: &mut Vec<Entry<A>>, made: &mut Steps<A>) -> Option<()>
+fn put_red<A: Ledger>(rt: &impl Abort, alloc: Global, list: &mut Vec<Entry<A>>, made: &mut Steps<A>)
     requires { levels (kept_entries list.old.items) ≤ 3 }
     ensures { levels (kept_entries list.new.items) ≤ 3 }
 {
-    let one = columns(1, 1, color(255, 0, 0, 255), made)?;
-    let one = half(alloc, Entry::Leaf(one))?;
-    put(list, Entry::Group(one)).ok()?;
-    let two = columns(2, 1, color(255, 0, 0, 255), made)?;
-    let two = half(alloc, Entry::Leaf(two))?;
-    let two = half(alloc, Entry::Group(two))?;
-    put(list, Entry::Group(two)).ok()?;
-    Some(())
+    let one = columns(rt, 1, 1, color(255, 0, 0, 255), made);
+    let one = half(rt, alloc, Entry::Leaf(one));
+    put(rt, list, Entry::Group(one));
+    let two = columns(rt, 2, 1, color(255, 0, 0, 255), made);
+    let two = half(rt, alloc, Entry::Leaf(two));
+    let two = half(rt, alloc, Entry::Group(two));
+    put(rt, list, Entry::Group(two));
 }
 
 // On a white root of six columns those of `put_red`, and on column 4 green of opacity 128.
-fn scene<A: Ledger>(alloc: Global, made: &mut Steps<A>) -> Option<Kept<A>>
-    ensures { IfSome result (λ k. levels k.entries ≤ 3) }
+fn scene<A: Ledger>(rt: &impl Abort, alloc: Global, made: &mut Steps<A>) -> Kept<A>
+    ensures { levels result.entries ≤ 3 }
 {
     let mut entries = Vec::new(alloc);
-    let root = columns(0, 6, color(255, 255, 255, 255), made)?;
-    put(&mut entries, Entry::Leaf(root)).ok()?;
-    put_red(alloc, &mut entries, made)?;
-    let green = columns(4, 1, color(0, 255, 0, 128), made)?;
-    put(&mut entries, Entry::Leaf(green)).ok()?;
+    let root = columns(rt, 0, 6, color(255, 255, 255, 255), made);
+    put(rt, &mut entries, Entry::Leaf(root));
+    put_red(rt, alloc, &mut entries, made);
+    let green = columns(rt, 4, 1, color(0, 255, 0, 128), made);
+    put(rt, &mut entries, Entry::Leaf(green));
     let graph = OrderGraph::empty(alloc);
-    Some(Kept { entries, graph })
+    Kept { entries, graph }
 }
 
 const SIZE: Size = Size { w: 6, h: 4 };
@@ -143,26 +155,53 @@ fn room_for(buffers: &mut Buffers, entries: Option<usize>) -> Result<(), NoMemor
     }
 }
 
-// Paints columns 0 to 4 of rows 1 and 2 of a clear canvas, with room for so many entries, or with none.
-fn painted<A: Ledger>(
-    alloc: Global,
-    list: &Kept<A>,
-    entries: Option<usize>,
-) -> Result<Canvas, NoMemory>
-    requires { levels list.now.entries ≤ 3 }
+// A clear canvas.
+fn cleared(rt: &impl Abort, alloc: Global) -> Canvas
+    ensures { size_of result ≡ SIZE }
 {
-    let mut canvas = Canvas::new(alloc, SIZE)?;
+    let mut canvas = Canvas::new(alloc, SIZE).expect(rt, "a canvas");
     for row in 0..4usize {
         for p in canvas.span_mut(row as i32, 0, 6).iter_mut() {
             *p = Px::CLEAR;
         }
     }
-    let mut area = Area::none(alloc, SIZE)?;
-    area.add(Rect::new(0, 1, 5, 2).unwrap_or(Rect::EMPTY))?;
-    let mut buffers = Buffers::new(alloc, SIZE, 2)?;
-    room_for(&mut buffers, entries)?;
+    canvas
+}
+
+// Columns 0 to 4 of rows 1 and 2.
+fn area(rt: &impl Abort, alloc: Global) -> Area
+    ensures { result.size ≡ SIZE }
+{
+    let mut area = Area::none(alloc, SIZE).expect(rt, "an area");
+    area.add(Rect::new(0, 1, 5, 2).unwrap_or(Rect::EMPTY))
+        .expect(rt, "a larger area");
+    area
+}
+
+// Buffers with room for so many entries, or with none.
+fn buffers_for(rt: &impl Abort, alloc: Global, entries: Option<usize>) -> Buffers
+    ensures size { result.size ≡ SIZE }
+    ensures rows { result.rows ≡ 2 }
+{
+    let mut buffers = Buffers::new(alloc, SIZE, 2).expect(rt, "buffers");
+    room_for(&mut buffers, entries).expect(rt, "room for entries");
+    buffers
+}
+
+// Paints columns 0 to 4 of rows 1 and 2 of a clear canvas, with room for so many entries, or with none.
+fn painted<A: Ledger>(
+    rt: &impl Abort,
+    alloc: Global,
+    list: &Kept<A>,
+    entries: Option<usize>,
+) -> Canvas
+    requires { levels list.now.entries ≤ 3 }
+{
+    let mut canvas = cleared(rt, alloc);
+    let area = area(rt, alloc);
+    let mut buffers = buffers_for(rt, alloc, entries);
     repaint(&mut canvas, list.view(), &area, &mut buffers);
-    Ok(canvas)
+    canvas
 }
 
 // The pixels at y = 2 by hand; the others of the canvas stay clear.
@@ -186,30 +225,27 @@ fn is_right(canvas: &Canvas) -> bool {
 }
 
 // With no room for picks, and with room for those of all its entries.
-fn are_right<A: Ledger>(alloc: Global, list: &Kept<A>) -> Result<bool, NoMemory>
+fn are_right<A: Ledger>(rt: &impl Abort, alloc: Global, list: &Kept<A>)
     requires { levels list.now.entries ≤ 3 }
 {
-    let plain = is_right(&painted(alloc, list, None)?);
-    let narrowed = is_right(&painted(alloc, list, Some(7))?);
-    Ok(plain && narrowed)
+    for entries in [None, Some(7)] {
+        let canvas = painted(rt, alloc, list, entries);
+        assert!(rt; is_right(&canvas));
+    }
 }
 
-// Is the scene painted right?
-fn is_painted<A: Ledger>(alloc: Global, blank: Blank) -> Result<bool, NoMemory>
+// The scene is painted right.
+fn is_painted<A: Ledger>(rt: &impl Abort, alloc: Global, blank: Blank)
     requires name { blank.name ≡ A.name }
     requires parts { blank.parts ≡ A.parts }
     requires some { 0 < blank.parts }
 {
     let mut made = Steps::<A>::new(blank);
-    let Some(list) = scene(alloc, &mut made) else {
-        return Ok(false);
-    };
-    are_right(alloc, &list)
+    let list = scene(rt, alloc, &mut made);
+    are_right(rt, alloc, &list);
 }
 
 #[test]
-fn groups_are_painted(rt: HostRuntime) -> Result<(), NoMemory> {
-    let right = is_painted::<Brand>(rt.alloc(), Blank::new(1))?;
-    assert!(rt; right);
-    Ok(())
+fn groups_are_painted(rt: HostRuntime) {
+    is_painted::<Brand>(&rt, rt.alloc(), Blank::new(1));
 }

@@ -1,27 +1,16 @@
 //! The plain program on small documents, of which every pixel and hit was worked out by hand.
 ghost use Rattle.std.specs.Prelude.{◌≡◌, ◌<◌};
 
-use rd_geom::{Color, Rect, Sides, Size, Steps};
-use rd_list::{plain_hit, plain_pixel};
+use super::planting::{Row, add, rect_of, root_alone};
+use rd_geom::{Color, Sides, Steps};
+use rd_list::{PlainList, plain_hit, plain_pixel};
 use rd_stack::fresh_list;
-use rd_style::{
-    Display, Floating, Overflow, Pointer, Position, Style, Visibility, fits, fits_rect,
-};
-use rd_tree::{BoxKey, Id, Tree};
+use rd_style::{Display, Floating, Overflow, Pointer, Position, Style, Visibility};
+use rd_tree::{BoxKey, Tree};
 use std::alloc::Global;
 use std::marker::Brand;
 use std::process::Abort;
 use std::sync::ledger::{Blank, Ledger};
-use std::test::Fail;
-
-/// A box below another one.
-#[derive(Clone, Copy)]
-struct Row<'a> {
-    id: &'a str,
-    parent: &'a str,
-    rect: [i32; 4],
-    style: Style,
-}
 
 /// A document, how many entries its list has outside groups, some pixels of it and some hits.
 #[derive(Clone, Copy)]
@@ -88,46 +77,15 @@ fn translucent(color: Color, opacity: u8) -> Style {
     s
 }
 
-fn rect_of(rt: &impl Abort, r: &[i32; 4]) -> Rect {
-    Rect::new(r[0], r[1], r[2], r[3]).expect(rt, "a rectangle")
-}
-
-fn add<B: Ledger>(
-    rt: &impl Abort,
-    alloc: Global,
-    tree: &mut Tree<B>,
-    row: &Row,
-) -> Result<(), Fail> {
-    let parent = Id::new(alloc, row.parent)?;
-    let parent = tree.find(&parent).expect(rt, "the parent");
-    let id = Id::new(alloc, row.id)?;
-    assert!(rt; tree.find(&id).is_none());
-    assert!(rt; tree.depth(parent) < 256);
-    assert!(rt; u64::from(tree.boxes()) + u64::from(tree.retired()) < 20000);
-    let rect = rect_of(rt, &row.rect);
-    assert!(rt; fits_rect(rect));
-    assert!(rt; fits(&row.style));
-    tree.insert(parent, None, &id, rect, row.style)?;
-    Ok(())
-}
-
-fn planted<B: Ledger>(
-    rt: &impl Abort,
-    alloc: Global,
-    side: i32,
-    rows: &[Row],
-) -> Result<Tree<B>, Fail> {
-    assert!(rt; 1 <= side && side <= 4096);
-    let canvas = Size { w: side, h: side };
+/// The first row is the root.
+fn planted<B: Ledger>(rt: &impl Abort, alloc: Global, side: i32, rows: &[Row]) -> Tree<B> {
     let (first, rest) = rows.split_first().expect(rt, "a root");
-    let rect = rect_of(rt, &first.rect);
-    assert!(rt; fits_rect(rect));
-    assert!(rt; fits(&first.style));
-    let mut tree = Tree::new(alloc, canvas, Id::new(alloc, first.id)?, rect, first.style)?;
+    let rect = rect_of(rt, first.rect);
+    let mut tree = root_alone(rt, alloc, side, first.id, rect, &first.style);
     for row in rest {
-        add(rt, alloc, &mut tree, row)?;
+        add(rt, alloc, &mut tree, row);
     }
-    Ok(tree)
+    tree
 }
 
 /// Is it the box of this id, or none where the id is empty?
@@ -141,32 +99,31 @@ fn is_box<B: Ledger>(tree: &Tree<B>, found: Option<BoxKey>, id: &str) -> bool {
     }
 }
 
-fn check<B: Ledger>(
-    rt: &impl Abort,
-    alloc: Global,
-    case: &Case,
-    looks: &mut Steps<B>,
-) -> Result<(), Fail> {
-    let tree: Tree<B> = planted(rt, alloc, case.side, case.rows)?;
-    let list = fresh_list(alloc, &tree, looks)?;
+fn have_pixels(rt: &impl Abort, list: &PlainList, case: &Case) {
+    for (x, y, want) in case.pixels {
+        let px = plain_pixel(list, *x, *y);
+        assert_eq!(rt; [px.r(), px.g(), px.b()], *want, "pixel of {}", case.name);
+    }
+}
+
+fn have_hits<B: Ledger>(rt: &impl Abort, tree: &Tree<B>, list: &PlainList, case: &Case) {
+    for (x, y, want) in case.hits {
+        let hit = plain_hit(list, *x, *y);
+        assert!(rt; is_box(tree, hit, want), "hit of {}", case.name);
+    }
+}
+
+fn check<B: Ledger>(rt: &impl Abort, alloc: Global, case: &Case, looks: &mut Steps<B>) {
+    let tree: Tree<B> = planted(rt, alloc, case.side, case.rows);
+    let list = fresh_list(alloc, &tree, looks).expect(rt, "a list");
     assert_eq!(rt;
         list.entries.len(),
         case.entries,
         "entries of {}",
         case.name
     );
-    for (x, y, want) in case.pixels {
-        let px = plain_pixel(&list, *x, *y);
-        assert_eq!(rt; [px.r(), px.g(), px.b()], *want, "pixel of {}", case.name);
-    }
-    for (x, y, want) in case.hits {
-        assert!(rt;
-            is_box(&tree, plain_hit(&list, *x, *y), want),
-            "hit of {}",
-            case.name
-        );
-    }
-    Ok(())
+    have_pixels(rt, &list, case);
+    have_hits(rt, &tree, &list, case);
 }
 
 fn white(side: i32) -> Row<'static> {
@@ -188,7 +145,7 @@ fn a_box<'a>(id: &'a str, parent: &'a str, rect: [i32; 4], style: Style) -> Row<
 }
 
 /// A translucent box alone, one in another, one whose children lie apart, and the root.
-fn groups<B: Ledger>(rt: &impl Abort, alloc: Global, looks: &mut Steps<B>) -> Result<(), Fail> {
+fn groups<B: Ledger>(rt: &impl Abort, alloc: Global, looks: &mut Steps<B>) {
     let alone = Case {
         name: "a translucent box",
         side: 1,
@@ -200,7 +157,7 @@ fn groups<B: Ledger>(rt: &impl Abort, alloc: Global, looks: &mut Steps<B>) -> Re
         pixels: &[(0, 0, [255, 127, 127])],
         hits: &[(0, 0, "g")],
     };
-    check(rt, alloc, &alone, looks)?;
+    check(rt, alloc, &alone, looks);
     let nested = Case {
         name: "a group in a group",
         side: 1,
@@ -213,7 +170,7 @@ fn groups<B: Ledger>(rt: &impl Abort, alloc: Global, looks: &mut Steps<B>) -> Re
         pixels: &[(0, 0, [255, 191, 191])],
         hits: &[(0, 0, "g"), (1, 1, "")],
     };
-    check(rt, alloc, &nested, looks)?;
+    check(rt, alloc, &nested, looks);
     let apart = Case {
         name: "a group of boxes that lie apart",
         side: 10,
@@ -233,7 +190,7 @@ fn groups<B: Ledger>(rt: &impl Abort, alloc: Global, looks: &mut Steps<B>) -> Re
         ],
         hits: &[(1, 1, "c1"), (4, 0, "K"), (8, 0, "c2"), (8, 2, "root")],
     };
-    check(rt, alloc, &apart, looks)?;
+    check(rt, alloc, &apart, looks);
     let root = Case {
         name: "a translucent root",
         side: 1,
@@ -242,11 +199,11 @@ fn groups<B: Ledger>(rt: &impl Abort, alloc: Global, looks: &mut Steps<B>) -> Re
         pixels: &[(0, 0, [127, 127, 127])],
         hits: &[(0, 0, "root")],
     };
-    check(rt, alloc, &root, looks)
+    check(rt, alloc, &root, looks);
 }
 
 /// A float lies above a block's border and under its content; its positioned child lies above both.
-fn floats<B: Ledger>(rt: &impl Abort, alloc: Global, looks: &mut Steps<B>) -> Result<(), Fail> {
+fn floats<B: Ledger>(rt: &impl Abort, alloc: Global, looks: &mut Steps<B>) {
     let mut float = of_color(RED);
     float.float = Floating::Left;
     let mut bordered = of_color(BLUE);
@@ -269,7 +226,7 @@ fn floats<B: Ledger>(rt: &impl Abort, alloc: Global, looks: &mut Steps<B>) -> Re
         pixels: &[(0, 0, [255, 0, 0]), (1, 1, [0, 255, 0])],
         hits: &[(0, 0, "f"), (1, 1, "d")],
     };
-    check(rt, alloc, &beside, looks)?;
+    check(rt, alloc, &beside, looks);
     let mut text = Style::plain();
     text.content = Some(GREEN);
     let inside = Case {
@@ -290,11 +247,11 @@ fn floats<B: Ledger>(rt: &impl Abort, alloc: Global, looks: &mut Steps<B>) -> Re
         pixels: &[(1, 1, [0, 0, 255])],
         hits: &[(1, 1, "m"), (5, 5, "root")],
     };
-    check(rt, alloc, &inside, looks)
+    check(rt, alloc, &inside, looks);
 }
 
 /// The children of negative level lie above the background of a block, and below that of an inline box.
-fn contexts<B: Ledger>(rt: &impl Abort, alloc: Global, looks: &mut Steps<B>) -> Result<(), Fail> {
+fn contexts<B: Ledger>(rt: &impl Abort, alloc: Global, looks: &mut Steps<B>) {
     let block = at_position(RED, Position::Relative, Some(0));
     let mut inline = block;
     inline.display = Display::Inline;
@@ -312,7 +269,7 @@ fn contexts<B: Ledger>(rt: &impl Abort, alloc: Global, looks: &mut Steps<B>) -> 
             pixels: &[(1, 1, want)],
             hits: &[],
         };
-        check(rt, alloc, &case, looks)?;
+        check(rt, alloc, &case, looks);
     }
     let highest = at_position(RED, Position::Relative, Some(2147483647));
     let zero = at_position(GREEN, Position::Relative, Some(0));
@@ -337,11 +294,11 @@ fn contexts<B: Ledger>(rt: &impl Abort, alloc: Global, looks: &mut Steps<B>) -> 
         ],
         hits: &[(4, 4, "s"), (2, 2, "r"), (0, 0, "p")],
     };
-    check(rt, alloc, &levels, looks)
+    check(rt, alloc, &levels, looks);
 }
 
 /// An absolute or fixed box is clipped only by boxes on its containing chain.
-fn clips<B: Ledger>(rt: &impl Abort, alloc: Global, looks: &mut Steps<B>) -> Result<(), Fail> {
+fn clips<B: Ledger>(rt: &impl Abort, alloc: Global, looks: &mut Steps<B>) {
     let mut hidden = of_color(RED);
     hidden.overflow = Overflow::Hidden;
     let mut relative = hidden;
@@ -365,13 +322,12 @@ fn clips<B: Ledger>(rt: &impl Abort, alloc: Global, looks: &mut Steps<B>) -> Res
             pixels: &[(6, 6, want), (1, 1, [255, 0, 0]), (3, 3, [0, 0, 255])],
             hits: &[],
         };
-        check(rt, alloc, &case, looks)?;
+        check(rt, alloc, &case, looks);
     }
-    Ok(())
 }
 
 /// A hidden box has no leaves, and a box without pointer events takes no hit.
-fn unseen<B: Ledger>(rt: &impl Abort, alloc: Global, looks: &mut Steps<B>) -> Result<(), Fail> {
+fn unseen<B: Ledger>(rt: &impl Abort, alloc: Global, looks: &mut Steps<B>) {
     let mut passed = Style::plain();
     passed.pointer = Pointer::Off;
     let hits = Case {
@@ -387,7 +343,7 @@ fn unseen<B: Ledger>(rt: &impl Abort, alloc: Global, looks: &mut Steps<B>) -> Re
         pixels: &[(1, 1, [255, 0, 0]), (5, 5, [255, 255, 255])],
         hits: &[(1, 1, "u"), (5, 5, "v"), (10, 0, ""), (-1, 0, "")],
     };
-    check(rt, alloc, &hits, looks)?;
+    check(rt, alloc, &hits, looks);
     let mut hidden = of_color(RED);
     hidden.visibility = Visibility::Hidden;
     let case = Case {
@@ -402,23 +358,23 @@ fn unseen<B: Ledger>(rt: &impl Abort, alloc: Global, looks: &mut Steps<B>) -> Re
         pixels: &[(0, 0, [255, 255, 255]), (1, 1, [0, 255, 0])],
         hits: &[(0, 0, "root"), (1, 1, "k")],
     };
-    check(rt, alloc, &case, looks)
+    check(rt, alloc, &case, looks);
 }
 
-fn all_scenes<B: Ledger>(rt: &impl Abort, alloc: Global, blank: Blank) -> Result<(), Fail>
+fn all_scenes<B: Ledger>(rt: &impl Abort, alloc: Global, blank: Blank)
     requires name { blank.name ≡ B.name }
     requires parts { blank.parts ≡ B.parts }
     requires some { 0 < blank.parts }
 {
     let mut looks = Steps::<B>::new(blank);
-    groups(rt, alloc, &mut looks)?;
-    floats(rt, alloc, &mut looks)?;
-    contexts(rt, alloc, &mut looks)?;
-    clips(rt, alloc, &mut looks)?;
-    unseen(rt, alloc, &mut looks)
+    groups(rt, alloc, &mut looks);
+    floats(rt, alloc, &mut looks);
+    contexts(rt, alloc, &mut looks);
+    clips(rt, alloc, &mut looks);
+    unseen(rt, alloc, &mut looks);
 }
 
 #[test]
-fn scenes(rt: HostRuntime) -> Result<(), Fail> {
-    all_scenes::<Brand>(&rt, rt.alloc(), Blank::new(1))
+fn scenes(rt: HostRuntime) {
+    all_scenes::<Brand>(&rt, rt.alloc(), Blank::new(1));
 }

@@ -1,29 +1,38 @@
 //! A small tree, whose boxes and marks were worked out by hand.
-ghost use Rattle.std.specs.Prelude.{◌≡◌, ◌<◌, true};
-ghost use Rattle.rd_tree.specs.Document.{contains};
+ghost use Rattle.std.specs.Prelude.{◌≡◌, ◌<◌};
 
-use rd_geom::{Rect, Size, Steps};
-use rd_style::{Style, fits, fits_rect};
-use rd_tree::{BoxKey, Id, IdFault, MAX_BOXES, MAX_DEPTH, Tree};
+use super::planting::{box_of, id_of, put, rect_of, root_alone};
+use rd_geom::Steps;
+use rd_style::{Style, fits_rect};
+use rd_tree::{BoxKey, BoxView, Id, IdFault, MAX_DEPTH, Tree};
 use std::alloc::Global;
 use std::marker::Brand;
 use std::process::Abort;
 use std::sync::ledger::{Blank, Ledger};
-use std::test::Fail;
 
-fn rect_of(rt: &impl Abort, r: [i32; 4]) -> Rect {
-    Rect::new(r[0], r[1], r[2], r[3]).expect(rt, "a rectangle")
+/// The text is an id.
+fn is_id(rt: &impl Abort, alloc: Global, text: &str) {
+    let id = id_of(rt, alloc, text);
+    assert_eq!(rt; id.text(), text);
+}
+
+/// The text is refused for its form.
+fn is_off_form(rt: &impl Abort, alloc: Global, text: &str) {
+    let made = Id::new(alloc, text);
+    assert!(rt;
+        matches!(&made, Err(IdFault::Form)),
+        "this is an id: {text}"
+    );
 }
 
 #[test]
-fn the_form_of_ids(rt: HostRuntime) -> Result<(), Fail> {
-    let alloc = rt.alloc();
+fn the_form_of_ids(rt: HostRuntime) {
     for text in [
         "a",
         "A-b_c.9:z",
         "0123456789012345678901234567890123456789012345678901234567890123",
     ] {
-        assert_eq!(rt; Id::new(alloc, text)?.text(), text);
+        is_id(&rt, rt.alloc(), text);
     }
     for text in [
         "",
@@ -32,76 +41,73 @@ fn the_form_of_ids(rt: HostRuntime) -> Result<(), Fail> {
         "a/b",
         "01234567890123456789012345678901234567890123456789012345678901234",
     ] {
-        match Id::new(alloc, text) {
-            Err(IdFault::Form) => {}
-            _ => panic!(&rt; "this is an id: {text}"),
-        }
+        is_off_form(&rt, rt.alloc(), text);
     }
-    Ok(())
 }
 
-fn build<B: Ledger>(rt: &impl Abort, alloc: Global, looks: &mut Steps<B>) -> Result<(), Fail> {
+/// The ids of the boxes.
+#[derive(Drop)]
+struct Names {
+    top: Id,
+    a: Id,
+    b: Id,
+    c: Id,
+}
+
+fn ids(rt: &impl Abort, alloc: Global) -> Names {
+    Names {
+        top: id_of(rt, alloc, "root"),
+        a: id_of(rt, alloc, "A"),
+        b: id_of(rt, alloc, "B"),
+        c: id_of(rt, alloc, "C"),
+    }
+}
+
+/// The root alone, on a canvas of 10 by 10.
+fn planted<B: Ledger>(rt: &impl Abort, alloc: Global) -> Tree<B> {
     let rect = rect_of(rt, [0, 0, 10, 10]);
-    let style = Style::plain();
-    assert!(rt; fits_rect(rect));
-    assert!(rt; fits(&style));
-    let mut tree = Tree::<B>::new(
-        alloc,
-        Size { w: 10, h: 10 },
-        Id::new(alloc, "root")?,
-        rect,
-        style,
-    )?;
-    let root = tree.root();
-    let a = Id::new(alloc, "A")?;
-    assert!(rt; tree.find(&a).is_none());
-    let a_key = tree.insert(root, None, &a, rect, style)?;
-    assert_eq!(rt; tree.find(&a), Some(a_key));
+    root_alone(rt, alloc, 10, "root", rect, &Style::plain())
+}
+
+/// A box as large as the root comes last below another.
+fn put_plain<B: Ledger>(rt: &impl Abort, tree: &mut Tree<B>, parent: &Id, id: &Id) -> BoxKey {
+    let rect = rect_of(rt, [0, 0, 10, 10]);
+    put(rt, tree, parent, id, rect, &Style::plain())
+}
+
+/// A box comes below the root, and is touched.
+fn insert_one<B: Ledger>(rt: &impl Abort, tree: &mut Tree<B>, names: &Names) -> BoxKey {
+    assert!(rt; tree.find(&names.a).is_none());
+    let key = put_plain(rt, tree, &names.top, &names.a);
+    assert_eq!(rt; tree.find(&names.a), Some(key));
     assert_eq!(rt; tree.boxes(), 2);
     assert_eq!(rt; tree.retired(), 0);
-    assert!(rt; tree.touched(a_key));
-    tree.settle();
-    assert!(rt; !tree.touched(a_key));
-    assert!(rt; !tree.touched(root));
-    match tree.look(root, looks) {
-        Some(view) => {
-            assert!(rt; view.is_root);
-            assert_eq!(rt; view.first_child, Some(a_key));
-        }
-        None => panic!(rt; "the root is gone"),
-    }
-    remove_two(rt, alloc, &mut tree, looks)?;
-    move_two(rt, alloc, &mut tree, looks)?;
-    near_three(rt, alloc, &mut tree, looks)
+    assert!(rt; tree.touched(key));
+    key
 }
 
-/// The box with this id.
-#[tactic(auto, using(rd_tree::proofs::Nodes::Naming::named_there))]
-fn box_of<B: Ledger>(rt: &impl Abort, tree: &Tree<B>, id: &Id) -> BoxKey
-    ensures { contains tree.now result ≡ true }
-{
-    match tree.find(id) {
-        Some(key) => key,
-        None => panic!(rt; "no box has this id"),
-    }
-}
-
-/// A box with this id comes last below another.
-fn put<B: Ledger>(
+/// What a look at the box gives.
+fn look_at<'a, B: Ledger>(
     rt: &impl Abort,
-    tree: &mut Tree<B>,
-    parent: &Id,
-    id: &Id,
-) -> Result<BoxKey, Fail> {
-    let rect = rect_of(rt, [0, 0, 10, 10]);
-    let style = Style::plain();
-    assert!(rt; fits_rect(rect));
-    assert!(rt; fits(&style));
-    assert!(rt; tree.find(id).is_none());
-    assert!(rt; u64::from(tree.boxes()) + u64::from(tree.retired()) < u64::from(MAX_BOXES));
-    let parent = box_of(rt, tree, parent);
-    assert!(rt; u64::from(tree.depth(parent)) < u64::from(MAX_DEPTH));
-    Ok(tree.insert(parent, None, id, rect, style)?)
+    tree: &'a Tree<B>,
+    looks: &mut Steps<B>,
+    key: BoxKey,
+) -> BoxView<'a> {
+    match tree.look(key, looks) {
+        Some(view) => view,
+        None => panic!(rt; "the box is gone"),
+    }
+}
+
+/// The marks are cleared, and the root has the box as its first child.
+fn settle_two<B: Ledger>(rt: &impl Abort, tree: &mut Tree<B>, looks: &mut Steps<B>, key: BoxKey) {
+    let root = tree.root();
+    tree.settle();
+    assert!(rt; !tree.touched(key));
+    assert!(rt; !tree.touched(root));
+    let view = look_at(rt, tree, looks, root);
+    assert!(rt; view.is_root);
+    assert!(rt; view.first_child == Some(key));
 }
 
 /// The box with this id goes, with all below it.
@@ -147,13 +153,9 @@ fn shows<B: Ledger>(
     first: Option<BoxKey>,
     next: Option<BoxKey>,
 ) {
-    match tree.look(key, looks) {
-        Some(view) => {
-            assert_eq!(rt; view.first_child, first);
-            assert_eq!(rt; view.next_sibling, next);
-        }
-        None => panic!(rt; "the box is gone"),
-    }
+    let view = look_at(rt, tree, looks, key);
+    assert!(rt; view.first_child == first);
+    assert!(rt; view.next_sibling == next);
 }
 
 /// The key is not live, and no box has the id.
@@ -163,56 +165,38 @@ fn gone<B: Ledger>(rt: &impl Abort, tree: &Tree<B>, looks: &mut Steps<B>, key: B
     assert!(rt; tree.look(key, looks).is_none());
 }
 
-fn remove_two<B: Ledger>(
-    rt: &impl Abort,
-    alloc: Global,
-    tree: &mut Tree<B>,
-    looks: &mut Steps<B>,
-) -> Result<(), Fail> {
-    let a = Id::new(alloc, "A")?;
-    let b = Id::new(alloc, "B")?;
-    let c = Id::new(alloc, "C")?;
-    let upper = put(rt, tree, &a, &b)?;
-    let lower = put(rt, tree, &b, &c)?;
+fn remove_two<B: Ledger>(rt: &impl Abort, tree: &mut Tree<B>, looks: &mut Steps<B>, names: &Names) {
+    let upper = put_plain(rt, tree, &names.a, &names.b);
+    let lower = put_plain(rt, tree, &names.b, &names.c);
     tree.settle();
     assert_eq!(rt; tree.boxes(), 4);
-    take(rt, tree, &b);
+    take(rt, tree, &names.b);
     assert_eq!(rt; tree.boxes(), 2);
-    gone(rt, tree, looks, upper, &b);
-    gone(rt, tree, looks, lower, &c);
-    let again = put(rt, tree, &a, &b)?;
+    gone(rt, tree, looks, upper, &names.b);
+    gone(rt, tree, looks, lower, &names.c);
+    let again = put_plain(rt, tree, &names.a, &names.b);
     assert!(rt; !again.is(upper));
     assert!(rt; !again.is(lower));
-    take(rt, tree, &b);
-    Ok(())
+    take(rt, tree, &names.b);
 }
 
-fn move_two<B: Ledger>(
-    rt: &impl Abort,
-    alloc: Global,
-    tree: &mut Tree<B>,
-    looks: &mut Steps<B>,
-) -> Result<(), Fail> {
-    let top = Id::new(alloc, "root")?;
-    let a = Id::new(alloc, "A")?;
-    let b = Id::new(alloc, "B")?;
-    let root = box_of(rt, tree, &top);
-    let first = box_of(rt, tree, &a);
-    let second = put(rt, tree, &top, &b)?;
+fn move_two<B: Ledger>(rt: &impl Abort, tree: &mut Tree<B>, looks: &mut Steps<B>, names: &Names) {
+    let root = box_of(rt, tree, &names.top);
+    let first = box_of(rt, tree, &names.a);
+    let second = put_plain(rt, tree, &names.top, &names.b);
     shows(rt, tree, looks, root, Some(first), None);
     shows(rt, tree, looks, first, None, Some(second));
     tree.settle();
-    move_before(rt, tree, &b, &top, &a);
+    move_before(rt, tree, &names.b, &names.top, &names.a);
     shows(rt, tree, looks, root, Some(second), None);
     shows(rt, tree, looks, second, None, Some(first));
     shows(rt, tree, looks, first, None, None);
     assert!(rt; tree.touched(second));
     assert!(rt; !tree.touched(first));
-    move_last(rt, tree, &a, &b);
+    move_last(rt, tree, &names.a, &names.b);
     shows(rt, tree, looks, root, Some(second), None);
     shows(rt, tree, looks, second, Some(first), None);
     shows(rt, tree, looks, first, None, None);
-    Ok(())
 }
 
 /// A look at the box tells so many children, this hull, and whether a box below it was touched.
@@ -225,14 +209,10 @@ fn is_near<B: Ledger>(
     hull: [i32; 4],
     touched_below: bool,
 ) {
-    match tree.look(key, looks) {
-        Some(view) => {
-            assert_eq!(rt; view.children, children);
-            assert!(rt; view.hull == rect_of(rt, hull));
-            assert_eq!(rt; view.touched_below, touched_below);
-        }
-        None => panic!(rt; "the box is gone"),
-    }
+    let view = look_at(rt, tree, looks, key);
+    assert_eq!(rt; view.children, children);
+    assert!(rt; view.hull == rect_of(rt, hull));
+    assert_eq!(rt; view.touched_below, touched_below);
 }
 
 /// The box with this id gets another rectangle.
@@ -244,47 +224,44 @@ fn lay<B: Ledger>(rt: &impl Abort, tree: &mut Tree<B>, id: &Id, rect: [i32; 4]) 
 }
 
 /// From the root over B to A: what looks tell once A is moved, laid elsewhere and removed.
-fn near_three<B: Ledger>(
-    rt: &impl Abort,
-    alloc: Global,
-    tree: &mut Tree<B>,
-    looks: &mut Steps<B>,
-) -> Result<(), Fail> {
-    let top = Id::new(alloc, "root")?;
-    let a = Id::new(alloc, "A")?;
-    let b = Id::new(alloc, "B")?;
-    let root = box_of(rt, tree, &top);
-    let upper = box_of(rt, tree, &b);
-    let lower = box_of(rt, tree, &a);
+fn near_three<B: Ledger>(rt: &impl Abort, tree: &mut Tree<B>, looks: &mut Steps<B>, names: &Names) {
+    let root = box_of(rt, tree, &names.top);
+    let upper = box_of(rt, tree, &names.b);
+    let lower = box_of(rt, tree, &names.a);
     is_near(rt, tree, looks, root, 1, [0, 0, 10, 10], true);
     is_near(rt, tree, looks, upper, 1, [0, 0, 10, 10], true);
     is_near(rt, tree, looks, lower, 0, [0, 0, 10, 10], false);
     tree.settle();
     is_near(rt, tree, looks, root, 1, [0, 0, 10, 10], false);
-    lay(rt, tree, &a, [20, 5, 10, 10]);
+    lay(rt, tree, &names.a, [20, 5, 10, 10]);
     is_near(rt, tree, looks, root, 1, [0, 0, 30, 15], true);
     is_near(rt, tree, looks, upper, 1, [0, 0, 30, 15], true);
     is_near(rt, tree, looks, lower, 0, [20, 5, 10, 10], false);
-    lay(rt, tree, &a, [12, 5, 2, 2]);
+    lay(rt, tree, &names.a, [12, 5, 2, 2]);
     is_near(rt, tree, looks, root, 1, [0, 0, 14, 10], true);
-    move_last(rt, tree, &a, &top);
+    move_last(rt, tree, &names.a, &names.top);
     is_near(rt, tree, looks, root, 2, [0, 0, 14, 10], true);
     is_near(rt, tree, looks, upper, 0, [0, 0, 10, 10], false);
-    take(rt, tree, &a);
+    take(rt, tree, &names.a);
     is_near(rt, tree, looks, root, 1, [0, 0, 10, 10], false);
-    Ok(())
 }
 
-fn all<B: Ledger>(rt: &impl Abort, alloc: Global, blank: Blank) -> Result<(), Fail>
+fn all<B: Ledger>(rt: &impl Abort, alloc: Global, blank: Blank)
     requires name { blank.name ≡ B.name }
     requires parts { blank.parts ≡ B.parts }
     requires some { 0 < blank.parts }
 {
     let mut looks = Steps::<B>::new(blank);
-    build(rt, alloc, &mut looks)
+    let names = ids(rt, alloc);
+    let mut tree = planted(rt, alloc);
+    let key = insert_one(rt, &mut tree, &names);
+    settle_two(rt, &mut tree, &mut looks, key);
+    remove_two(rt, &mut tree, &mut looks, &names);
+    move_two(rt, &mut tree, &mut looks, &names);
+    near_three(rt, &mut tree, &mut looks, &names);
 }
 
 #[test]
-fn a_small_tree(rt: HostRuntime) -> Result<(), Fail> {
-    all::<Brand>(&rt, rt.alloc(), Blank::new(1))
+fn a_small_tree(rt: HostRuntime) {
+    all::<Brand>(&rt, rt.alloc(), Blank::new(1));
 }

@@ -1,5 +1,5 @@
 //! Merges of drawn levels beside a matrix of what reaches what.
-ghost use Rattle.std.specs.Prelude.{◌≡◌, IfOk, IfSome};
+ghost use Rattle.std.specs.Prelude.{◌≡◌};
 ghost use Rattle.rd_tests.specs.DrawnLevels.{IsHeld};
 
 use super::INK;
@@ -10,24 +10,18 @@ use rd_geom::{Rect, Steps, meets};
 use rd_item::Item;
 use rd_keys::{BoxKey, Part};
 use rd_list::{Entry, Kept};
-use std::alloc::{AllocError, Global};
+use std::alloc::Global;
+use std::process::Abort;
 use std::sync::ledger::Ledger;
 
 /// How many merges are drawn.
-pub(super) const MERGES: u64 = 300;
+const MERGES: u64 = 300;
 
 /// What reaches what, and which merge made the leaf of each box.
 #[derive(Drop)]
 struct Model {
     matrix: Matrix,
     made: Vec<u64>,
-}
-
-/// How many merges agreed, and after how many of these two leaves stood of which neither reaches the other.
-#[derive(Drop)]
-pub(super) struct Tally {
-    pub(super) agreed: u64,
-    pub(super) free: u64,
 }
 
 /// The number of a box.
@@ -42,35 +36,45 @@ fn number_of(every: &[(BoxKey, Rect)], owner: BoxKey) -> u8 {
     BOXES
 }
 
+fn push_number(rt: &impl Abort, list: &mut Vec<u8>, number: u8) {
+    list.push(number).expect(rt, "room for a number");
+}
+
+fn push_key(rt: &impl Abort, list: &mut Vec<BoxKey>, key: BoxKey) {
+    list.push(key).expect(rt, "room for a key");
+}
+
 /// The numbers of the boxes of spots, as far as they are of an area.
 fn numbers_in(
+    rt: &impl Abort,
     alloc: Global,
     every: &[(BoxKey, Rect)],
     spots: &[(BoxKey, Rect)],
     area: &[BoxKey],
-) -> Result<Vec<u8>, AllocError> {
+) -> Vec<u8> {
     let mut all = Vec::new(alloc);
     for spot in spots {
         if is_among(area, spot.0) {
-            all.push(number_of(every, spot.0))?;
+            push_number(rt, &mut all, number_of(every, spot.0));
         }
     }
-    Ok(all)
+    all
 }
 
 /// Some of the boxes, each with a chance of one in three.
 fn some_boxes(
+    rt: &impl Abort,
     alloc: Global,
     every: &[(BoxKey, Rect)],
     draws: &mut Draws,
-) -> Result<Vec<BoxKey>, AllocError> {
+) -> Vec<BoxKey> {
     let mut all = Vec::new(alloc);
     for spot in every {
         if draws.below(3) == 0 {
-            all.push(spot.0)?;
+            push_key(rt, &mut all, spot.0);
         }
     }
-    Ok(all)
+    all
 }
 
 /// Does a rectangle meet that of one of these boxes?
@@ -85,18 +89,19 @@ fn is_near(every: &[(BoxKey, Rect)], keys: &[BoxKey], rect: Rect) -> bool {
 
 /// Those boxes that meet touched ones, and some others.
 fn area_round(
+    rt: &impl Abort,
     alloc: Global,
     every: &[(BoxKey, Rect)],
     touched: &[BoxKey],
     draws: &mut Draws,
-) -> Result<Vec<BoxKey>, AllocError> {
-    let mut all = some_boxes(alloc, every, draws)?;
+) -> Vec<BoxKey> {
+    let mut all = some_boxes(rt, alloc, every, draws);
     for spot in every {
         if is_near(every, touched, spot.1) {
-            all.push(spot.0)?;
+            push_key(rt, &mut all, spot.0);
         }
     }
-    Ok(all)
+    all
 }
 
 /// Was a leaf made by the merge that is noted for its box?
@@ -119,20 +124,21 @@ fn leaf_number<A: Ledger>(every: &[(BoxKey, Rect)], item: &Item<A>, made: &[u64]
 
 /// The numbers of the boxes of a level. A group has none.
 fn numbers<A: Ledger>(
+    rt: &impl Abort,
     alloc: Global,
     every: &[(BoxKey, Rect)],
     entries: &[Entry<A>],
     made: &[u64],
-) -> Result<Vec<u8>, AllocError> {
+) -> Vec<u8> {
     let mut all = Vec::new(alloc);
     for entry in entries {
         let number = match entry {
             Entry::Leaf(item) => leaf_number(every, item, made),
             Entry::Group(_) => BOXES,
         };
-        all.push(number)?;
+        push_number(rt, &mut all, number);
     }
-    Ok(all)
+    all
 }
 
 /// How often a number stands in a list.
@@ -215,17 +221,19 @@ fn change(model: &mut Model, every: &[(BoxKey, Rect)], touched: &[BoxKey], chain
 
 /// Has a level the leaves of the model, in an order that goes along with it?
 fn agrees<A: Ledger>(
+    rt: &impl Abort,
     alloc: Global,
     every: &[(BoxKey, Rect)],
     kept: &Kept<A>,
     model: &Model,
-) -> Result<bool, AllocError> {
-    let list = numbers(alloc, every, &kept.entries, &model.made)?;
-    Ok(has_all(&list, &model.matrix) && is_forward(&list, &model.matrix))
+) -> bool {
+    let list = numbers(rt, alloc, every, &kept.entries, &model.made);
+    has_all(&list, &model.matrix) && is_forward(&list, &model.matrix)
 }
 
-/// One drawn merge of a level. None where it cannot be made, or does not agree.
+/// One drawn merge of a level, which can be made and agrees.
 fn next<A: Ledger>(
+    rt: &impl Abort,
     alloc: Global,
     every: &[(BoxKey, Rect)],
     draws: &mut Draws,
@@ -234,52 +242,50 @@ fn next<A: Ledger>(
     model: &mut Model,
     at: u64,
     made: &mut Steps<A>,
-) -> Result<Option<(Kept<A>, Vec<(BoxKey, Rect)>)>, AllocError>
+) -> (Kept<A>, Vec<(BoxKey, Rect)>)
     requires { IsHeld INK kept spots.now }
-    ensures { IfOk result (λ o. IfSome o (λ p. IsHeld INK p.0 p.1.items)) }
+    ensures { IsHeld INK result.0 result.1.items }
 {
     let touched = TouchedBoxes {
-        keys: some_boxes(alloc, every, draws)?,
+        keys: some_boxes(rt, alloc, every, draws),
     };
-    let next = edited(alloc, spots, every, &touched.keys, draws)?;
-    let area = area_round(alloc, every, &touched.keys, draws)?;
-    let chain = numbers_in(alloc, every, &next, &area)?;
-    match tested(alloc, kept, spots, &next, &touched, &area, at, made)? {
-        Some(kept) => {
-            change(model, every, &touched.keys, &chain, at);
-            if agrees(alloc, every, &kept, model)? {
-                return Ok(Some((kept, next)));
-            }
-            Ok(None)
-        }
-        None => Ok(None),
+    let next = edited(alloc, spots, every, &touched.keys, draws).expect(rt, "spots");
+    let area = area_round(rt, alloc, every, &touched.keys, draws);
+    let chain = numbers_in(rt, alloc, every, &next, &area);
+    let merged = tested(alloc, kept, spots, &next, &touched, &area, at, made).expect(rt, "memory");
+    let kept = merged.expect(rt, "a merge that can be made");
+    change(model, every, &touched.keys, &chain, at);
+    assert!(rt; agrees(rt, alloc, every, &kept, model), "merge {at}");
+    (kept, next)
+}
+
+/// A matrix of no boxes, and no notes.
+fn empty_model(rt: &impl Abort, alloc: Global) -> Model {
+    Model {
+        matrix: Matrix::new(alloc).expect(rt, "a matrix"),
+        made: vec![in alloc; 0; 10].expect(rt, "notes"),
     }
 }
 
-/// Drawn merges, one after another, as long as they agree.
+/// Drawn merges, one after another. After how many of them do two leaves stand of which neither reaches the other?
 pub(super) fn compare<A: Ledger>(
+    rt: &impl Abort,
     alloc: Global,
     every: &[(BoxKey, Rect)],
     made: &mut Steps<A>,
-) -> Result<Tally, AllocError> {
-    let mut tally = Tally { agreed: 0, free: 0 };
+) -> u64 {
+    let mut free: u64 = 0;
     let mut draws = Draws::new(1);
-    let mut model = Model {
-        matrix: Matrix::new(alloc)?,
-        made: vec![in alloc; 0; 10]?,
-    };
+    let mut model = empty_model(rt, alloc);
     let mut kept = Kept::empty(alloc);
     let mut spots = Vec::new(alloc);
     for at in 0..MERGES {
-        match next(alloc, every, &mut draws, kept, &spots, &mut model, at, made)? {
-            Some((joined, now)) => {
-                kept = joined;
-                spots = now;
-                tally.agreed = tally.agreed.wrapping_add(1);
-                tally.free = tally.free.wrapping_add(u64::from(is_free(&model.matrix)));
-            }
-            None => return Ok(tally),
-        }
+        let (joined, now) = next(
+            rt, alloc, every, &mut draws, kept, &spots, &mut model, at, made,
+        );
+        kept = joined;
+        spots = now;
+        free = free.wrapping_add(u64::from(is_free(&model.matrix)));
     }
-    Ok(tally)
+    free
 }

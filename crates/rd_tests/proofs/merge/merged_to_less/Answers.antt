@@ -2,4 +2,4 @@ use Rattle.rd_tests.proofs.SampleLists.{less_can}
 use Rattle.rd_tests.proofs.merge.merged_to_less.Goals as goal
 
 pub merge-requires : goal.merge-requires
-merge-requires g c = less_can c.args.one c.args.other c.args.outside c.args.inside _ c.requires.apart c.in_ok-kept.kept c.empty.result c.in_ok-kept.ensures c.empty.ensures
+merge-requires g c = less_can c.args.one c.args.other c.args.outside c.args.inside _ c.requires.apart c.begun-kept.result c.empty.result c.begun-kept.ensures c.empty.ensures

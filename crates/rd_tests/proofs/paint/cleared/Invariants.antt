@@ -1,5 +1,5 @@
 use Rattle.std.proofs.Common.{◌≡◌}
-use Rattle.rd_tests.proofs.paint.painted.Given as goal
+use Rattle.rd_tests.proofs.paint.cleared.Given as goal
 
 abbrev pub invariant-loop-row : goal.invariant-loop-row
 invariant-loop-row g l = record {

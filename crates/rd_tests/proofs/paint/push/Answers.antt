@@ -4,7 +4,7 @@ use Rattle.rd_list.specs.KeptView.{kept_entries}
 use Rattle.rd_list.specs.Views.{levels, larger, deeper}
 use Rattle.rd_list.specs.declared.kept.Entry.{Entry}
 use Rattle.rd_list.specs.declared.kept.Entry.TheVariants.{Leaf, Group}
-use Rattle.rd_tests.proofs.paint.put.Goals as goal
+use Rattle.rd_tests.proofs.paint.push.Goals as goal
 
 not_more : (a b n : ℕ) → a ≤ n → b ≤ n → larger a b ≤ n
 not_more a b n p q = elim (cases_lt a b) [ inl l ↦ rw (lt-ltb a b l) q | inr l ↦ rw (le-ltb a b l) p ]
