@@ -14,6 +14,3 @@ mod values;
 pub use applying::apply;
 pub use edit::Edit;
 pub use fault::EditFault;
-
-#[cfg(test)]
-mod tests;
