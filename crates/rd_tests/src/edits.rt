@@ -42,6 +42,7 @@ fn before_of(rt: &impl Abort, alloc: Global, before: Option<&str>) -> Option<Id>
     }
 }
 
+/// A new box of a plain style.
 fn insertion(
     rt: &impl Abort,
     alloc: Global,
@@ -59,12 +60,14 @@ fn insertion(
     }
 }
 
+/// A box goes.
 fn removal(rt: &impl Abort, alloc: Global, id: &str) -> Edit {
     Edit::Remove {
         id: id_of(rt, alloc, id),
     }
 }
 
+/// A box goes below another one.
 fn movement(rt: &impl Abort, alloc: Global, id: &str, parent: &str, before: Option<&str>) -> Edit {
     Edit::Move {
         id: id_of(rt, alloc, id),
@@ -73,6 +76,7 @@ fn movement(rt: &impl Abort, alloc: Global, id: &str, parent: &str, before: Opti
     }
 }
 
+/// A box gets another rectangle.
 fn placement(rt: &impl Abort, alloc: Global, id: &str, rect: Rect) -> Edit {
     Edit::SetRect {
         id: id_of(rt, alloc, id),
@@ -100,6 +104,7 @@ fn outlined(width: u16) -> StyleChange {
     }
 }
 
+/// A box gets another width of its outline.
 fn restyling(rt: &impl Abort, alloc: Global, id: &str, width: u16) -> Edit {
     Edit::SetStyle {
         id: id_of(rt, alloc, id),
@@ -107,6 +112,7 @@ fn restyling(rt: &impl Abort, alloc: Global, id: &str, width: u16) -> Edit {
     }
 }
 
+/// A box is shifted to the right.
 fn shifting(rt: &impl Abort, alloc: Global, id: &str, dx: i32) -> Edit {
     Edit::Shift {
         id: id_of(rt, alloc, id),
@@ -137,6 +143,7 @@ fn inserts<B: Ledger>(
     gives(rt, tree, edit, *want, id);
 }
 
+/// Insertions, one after another, give these numbers.
 fn insert_each<B: Ledger>(rt: &impl Abort, alloc: Global, tree: &mut Tree<B>, places: &[Place]) {
     let rect = near(rt);
     for place in places {
@@ -144,17 +151,20 @@ fn insert_each<B: Ledger>(rt: &impl Abort, alloc: Global, tree: &mut Tree<B>, pl
     }
 }
 
+/// A removal gives this number.
 fn removes<B: Ledger>(rt: &impl Abort, alloc: Global, tree: &mut Tree<B>, id: &str, want: u8) {
     let edit = removal(rt, alloc, id);
     gives(rt, tree, edit, want, id);
 }
 
+/// A move gives this number.
 fn moves<B: Ledger>(rt: &impl Abort, alloc: Global, tree: &mut Tree<B>, place: &Place) {
     let (id, parent, before, want) = place;
     let edit = movement(rt, alloc, id, parent, *before);
     gives(rt, tree, edit, *want, id);
 }
 
+/// Moves, one after another, give these numbers.
 fn move_each<B: Ledger>(rt: &impl Abort, alloc: Global, tree: &mut Tree<B>, places: &[Place]) {
     for place in places {
         moves(rt, alloc, tree, place);

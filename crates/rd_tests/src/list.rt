@@ -38,6 +38,7 @@ fn leaf<A: Ledger>(owner: BoxKey, part: Part, rect: Rect, made: &mut Steps<A>) -
     NewEntry::Leaf(Item::make(owner, part, rect, shape, INK, true, 1, made))
 }
 
+/// The entry comes last.
 fn put<A: Ledger>(rt: &impl Abort, entries: &mut Vec<NewEntry<A>>, entry: NewEntry<A>)
     ensures { entries.new.items ≡ entries.old.items ++ entry ∷ [] }
 {
@@ -75,6 +76,7 @@ fn has_names(rt: &impl Abort, alloc: Global, graph: &OrderGraph, names: usize) {
     assert_eq!(rt; order.len(), names);
 }
 
+// Two entries in a chain, of which the second is a group of two in a chain.
 fn is_nested<A: Ledger>(rt: &impl Abort, alloc: Global, kept: &Kept<A>) {
     has_names(rt, alloc, &kept.graph, 2);
     assert_eq!(rt; kept.entries.len(), 2);

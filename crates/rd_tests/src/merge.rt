@@ -62,6 +62,7 @@ fn leaf<A: Ledger>(
     NewEntry::Leaf(Item::make(owner, part, rect, shape, INK, true, at, made))
 }
 
+/// The entry comes last.
 fn put<A: Ledger>(rt: &impl Abort, entries: &mut Vec<NewEntry<A>>, entry: NewEntry<A>)
     ensures { entries.new.items ≡ entries.old.items ++ entry ∷ [] }
 {
@@ -351,6 +352,7 @@ fn at(rt: &impl Abort, x: i32) -> Rect
     rect
 }
 
+// The three second merges.
 fn merges<A: Ledger>(rt: &impl Abort, alloc: Global, one: BoxKey, other: BoxKey, blank: Blank)
     requires name { blank.name ≡ A.name }
     requires parts { blank.parts ≡ A.parts }

@@ -93,6 +93,7 @@ fn half<A: Ledger>(rt: &impl Abort, alloc: Global, entry: Entry<A>) -> Group<A>
     }
 }
 
+// The entry comes last, or there is no memory for it.
 fn push<A: Ledger>(list: &mut Vec<Entry<A>>, entry: Entry<A>) -> Result<(), NoMemory>
     requires list { levels (kept_entries list.old.items) ≤ 3 }
     requires entry { levels (kept_entries (entry ∷ [])) ≤ 3 }
@@ -102,6 +103,7 @@ fn push<A: Ledger>(list: &mut Vec<Entry<A>>, entry: Entry<A>) -> Result<(), NoMe
     Ok(())
 }
 
+// The entry comes last.
 fn put<A: Ledger>(rt: &impl Abort, list: &mut Vec<Entry<A>>, entry: Entry<A>)
     requires list { levels (kept_entries list.old.items) ≤ 3 }
     requires entry { levels (kept_entries (entry ∷ [])) ≤ 3 }

@@ -49,6 +49,7 @@ fn inline() -> Style {
     }
 }
 
+/// A float.
 fn float() -> Style {
     Style {
         float: Floating::Left,
@@ -109,10 +110,12 @@ fn planted<B: Ledger>(rt: &impl Abort, alloc: Global) -> Tree<B> {
     tree
 }
 
+/// The text comes at the end of another.
 fn say(rt: &impl Abort, out: &mut String, text: &str) {
     out.push_str(text).expect(rt, "a longer text");
 }
 
+/// The letter of a part, after an id.
 fn letter(part: Part) -> &'static str {
     match part {
         Part::Back => "- ",
@@ -228,6 +231,7 @@ fn kept<A: Ledger>(rt: &impl Abort, alloc: Global, list: NewList<A>) -> Kept<A> 
     Kept { entries, graph }
 }
 
+/// The area that is to be painted anew.
 fn area_of<A: Ledger, B: Ledger>(
     rt: &impl Abort,
     alloc: Global,
@@ -282,6 +286,7 @@ fn moved<A: Ledger, B: Ledger>(
 /// The whole list in words.
 const WHOLE: &str = "root- n- d- k- kb f- i- ic kc a- g- z- ( p- ) ko ";
 
+/// A new list has these words.
 fn has_words<A: Ledger, B: Ledger>(
     rt: &impl Abort,
     alloc: Global,
@@ -337,6 +342,7 @@ fn in_one_pixel<A: Ledger, B: Ledger>(
     has_words(rt, alloc, tree, &part.entries, "root- k- kb ko ");
 }
 
+/// The lists of the document, and its area where the block moves.
 fn lists<A: Ledger, B: Ledger>(
     rt: &impl Abort,
     alloc: Global,

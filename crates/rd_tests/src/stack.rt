@@ -99,6 +99,7 @@ fn is_box<B: Ledger>(tree: &Tree<B>, found: Option<BoxKey>, id: &str) -> bool {
     }
 }
 
+/// The list has the pixels of the document.
 fn have_pixels(rt: &impl Abort, list: &PlainList, case: &Case) {
     for (x, y, want) in case.pixels {
         let px = plain_pixel(list, *x, *y);
@@ -106,6 +107,7 @@ fn have_pixels(rt: &impl Abort, list: &PlainList, case: &Case) {
     }
 }
 
+/// The list has the hits of the document.
 fn have_hits<B: Ledger>(rt: &impl Abort, tree: &Tree<B>, list: &PlainList, case: &Case) {
     for (x, y, want) in case.hits {
         let hit = plain_hit(list, *x, *y);
@@ -113,6 +115,7 @@ fn have_hits<B: Ledger>(rt: &impl Abort, tree: &Tree<B>, list: &PlainList, case:
     }
 }
 
+/// The list of the document has its entries, its pixels and its hits.
 fn check<B: Ledger>(rt: &impl Abort, alloc: Global, case: &Case, looks: &mut Steps<B>) {
     let tree: Tree<B> = planted(rt, alloc, case.side, case.rows);
     let list = fresh_list(alloc, &tree, looks).expect(rt, "a list");

@@ -54,6 +54,7 @@ struct Names {
     c: Id,
 }
 
+/// The ids of a root and three boxes.
 fn ids(rt: &impl Abort, alloc: Global) -> Names {
     Names {
         top: id_of(rt, alloc, "root"),
@@ -165,6 +166,7 @@ fn gone<B: Ledger>(rt: &impl Abort, tree: &Tree<B>, looks: &mut Steps<B>, key: B
     assert!(rt; tree.look(key, looks).is_none());
 }
 
+/// Two boxes come below A and go again: their keys are dead then, and stay dead where an id comes back.
 fn remove_two<B: Ledger>(rt: &impl Abort, tree: &mut Tree<B>, looks: &mut Steps<B>, names: &Names) {
     let upper = put_plain(rt, tree, &names.a, &names.b);
     let lower = put_plain(rt, tree, &names.b, &names.c);
@@ -180,6 +182,7 @@ fn remove_two<B: Ledger>(rt: &impl Abort, tree: &mut Tree<B>, looks: &mut Steps<
     take(rt, tree, &names.b);
 }
 
+/// B comes after A, then before A, and then A below B.
 fn move_two<B: Ledger>(rt: &impl Abort, tree: &mut Tree<B>, looks: &mut Steps<B>, names: &Names) {
     let root = box_of(rt, tree, &names.top);
     let first = box_of(rt, tree, &names.a);
@@ -246,6 +249,7 @@ fn near_three<B: Ledger>(rt: &impl Abort, tree: &mut Tree<B>, looks: &mut Steps<
     is_near(rt, tree, looks, root, 1, [0, 0, 10, 10], false);
 }
 
+/// One tree, from its planting on.
 fn all<B: Ledger>(rt: &impl Abort, alloc: Global, blank: Blank)
     requires name { blank.name ≡ B.name }
     requires parts { blank.parts ≡ B.parts }

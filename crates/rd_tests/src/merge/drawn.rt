@@ -36,10 +36,12 @@ fn number_of(every: &[(BoxKey, Rect)], owner: BoxKey) -> u8 {
     BOXES
 }
 
+/// The number comes last.
 fn push_number(rt: &impl Abort, list: &mut Vec<u8>, number: u8) {
     list.push(number).expect(rt, "room for a number");
 }
 
+/// The key comes last.
 fn push_key(rt: &impl Abort, list: &mut Vec<BoxKey>, key: BoxKey) {
     list.push(key).expect(rt, "room for a key");
 }
