@@ -15,6 +15,3 @@ pub use digests::digest;
 pub use dump::push_dump;
 pub use picture::p6;
 pub use summary::{Totals, push_summary};
-
-#[cfg(test)]
-mod tests;

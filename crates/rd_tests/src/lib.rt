@@ -16,6 +16,8 @@ mod partial;
 #[cfg(test)]
 mod planting;
 #[cfg(test)]
+mod report;
+#[cfg(test)]
 mod run;
 #[cfg(test)]
 mod scene;
