@@ -13,6 +13,3 @@ mod values;
 
 pub use draw::Draw;
 pub use generated::{MAX_EDITS, script};
-
-#[cfg(test)]
-mod tests;

@@ -6,6 +6,8 @@
 #[cfg(test)]
 mod edits;
 #[cfg(test)]
+mod generated;
+#[cfg(test)]
 mod list;
 #[cfg(test)]
 mod merge;
