@@ -3,10 +3,11 @@
 
 use rd_geom::{Color, Sides};
 use rd_scene::{Command, Edit, Place, SceneFault, Script, Why, plant, read, write_scene};
-use rd_style::{Display, Floating, Overflow, Pointer, Position, Visibility};
-use std::alloc::{AllocError, Global};
+use rd_style::{Display, Floating, Overflow, Pointer, Position, Style, Visibility};
+use rd_tree::Tree;
+use std::alloc::Global;
 use std::marker::Brand;
-use std::test::Fail;
+use std::process::Abort;
 
 /// What a text gives.
 #[derive(Clone, Copy, PartialEq, Eq, Debug)]
@@ -17,6 +18,7 @@ enum Outcome {
     NoMemory,
 }
 
+/// What the text gives.
 fn given(alloc: Global, text: &[u8]) -> Outcome {
     match read(alloc, text) {
         Ok(_) => Outcome::Script,
@@ -26,57 +28,73 @@ fn given(alloc: Global, text: &[u8]) -> Outcome {
     }
 }
 
+/// The text gives this.
+fn is_given(rt: &impl Abort, alloc: Global, text: &str, want: Outcome) {
+    assert_eq!(rt; given(alloc, text.as_bytes()), want, "{text}");
+}
+
+/// These parts, one after another.
+fn joined(rt: &impl Abort, alloc: Global, parts: &[&str]) -> String {
+    let mut text = String::new(alloc);
+    for part in parts {
+        text.push_str(part).expect(rt, "a longer text");
+    }
+    text
+}
+
 /// A script with these boxes and these commands.
-fn script(alloc: Global, boxes: &str, commands: &str) -> Result<String, AllocError> {
-    let mut text = String::from_str(alloc, r#"{"version":1,"canvas":{"w":10,"h":10},"boxes":["#)?;
-    text.push_str(boxes)?;
-    text.push_str(r#"],"script":["#)?;
-    text.push_str(commands)?;
-    text.push_str("]}")?;
-    Ok(text)
+fn script(rt: &impl Abort, alloc: Global, boxes: &str, commands: &str) -> String {
+    let head = r#"{"version":1,"canvas":{"w":10,"h":10},"boxes":["#;
+    joined(rt, alloc, &[head, boxes, r#"],"script":["#, commands, "]}"])
 }
 
 const ROOT: &str = r#"{"id":"root","parent":null,"rect":[0,0,10,10]}"#;
 
 /// The root and another box.
-fn two_boxes(alloc: Global, second: &str) -> Result<String, AllocError> {
-    let mut boxes = String::from_str(alloc, ROOT)?;
-    boxes.push_str(",")?;
-    boxes.push_str(second)?;
-    script(alloc, boxes.as_str(), "")
+fn two_boxes(rt: &impl Abort, alloc: Global, second: &str) -> String {
+    let boxes = joined(rt, alloc, &[ROOT, ",", second]);
+    script(rt, alloc, boxes.as_str(), "")
 }
 
 /// The root and a box with this style.
-fn styled(alloc: Global, style: &str) -> Result<String, AllocError> {
-    let mut second = String::from_str(
-        alloc,
-        r#"{"id":"a","parent":"root","rect":[0,0,1,1],"style":"#,
-    )?;
-    second.push_str(style)?;
-    second.push_str("}")?;
-    two_boxes(alloc, second.as_str())
+fn styled(rt: &impl Abort, alloc: Global, style: &str) -> String {
+    let head = r#"{"id":"a","parent":"root","rect":[0,0,1,1],"style":"#;
+    let second = joined(rt, alloc, &[head, style, "}"]);
+    two_boxes(rt, alloc, second.as_str())
+}
+
+/// The text is a script.
+fn read_of(rt: &impl Abort, alloc: Global, text: &str) -> Script {
+    read(alloc, text.as_bytes()).expect(rt, "a script")
+}
+
+/// The box of this number comes last below that of another.
+fn push_box(rt: &impl Abort, text: &mut String, number: u32, above: u32) {
+    write!(
+        text,
+        r#",{{"id":"d{number}","parent":"d{above}","rect":[0,0,1,1]}}"#
+    )
+    .expect(rt, "a longer text");
 }
 
 /// A scene of so many boxes: each below the one before it, or all below the root.
-fn scene(alloc: Global, boxes: u32, deep: bool) -> Result<String, AllocError> {
-    let mut text = String::from_str(alloc, r#"{"id":"d1","parent":null,"rect":[0,0,1,1]}"#)?;
+fn scene(rt: &impl Abort, alloc: Global, boxes: u32, deep: bool) -> String {
+    let mut text = joined(
+        rt,
+        alloc,
+        &[r#"{"id":"d1","parent":null,"rect":[0,0,1,1]}"#],
+    );
     for i in 1..boxes {
-        let number = i + 1;
-        let above = if deep { i } else { 1 };
-        text.push_str(r#",{"id":"d"#)?;
-        text.push_str(number.to_string(alloc)?.as_str())?;
-        text.push_str(r#"","parent":"d"#)?;
-        text.push_str(above.to_string(alloc)?.as_str())?;
-        text.push_str(r#"","rect":[0,0,1,1]}"#)?;
+        push_box(rt, &mut text, i + 1, if deep { i } else { 1 });
     }
-    script(alloc, text.as_str(), "")
+    script(rt, alloc, text.as_str(), "")
 }
 
 #[test]
-fn tops(rt: HostRuntime) -> Result<(), Fail> {
+fn tops(rt: HostRuntime) {
     let alloc = rt.alloc();
     let bytes: [u8; 1] = [255];
-    assert_eq!(rt; given(alloc, &bytes), Outcome::NotJson);
+    assert!(rt; given(alloc, &bytes) == Outcome::NotJson);
     for (text, want) in [
         ("", Outcome::NotJson),
         ("{} {}", Outcome::NotJson),
@@ -119,13 +137,22 @@ fn tops(rt: HostRuntime) -> Result<(), Fail> {
             Outcome::Form(Place::Box(0), Why::Kind),
         ),
     ] {
-        assert_eq!(rt; given(alloc, text.as_bytes()), want, "{text}");
+        is_given(&rt, alloc, text, want);
     }
-    Ok(())
+}
+
+/// A rule that the second box breaks first, or none.
+fn is_second(rt: &impl Abort, alloc: Global, second: &str, want: Option<Why>) {
+    let text = two_boxes(rt, alloc, second);
+    let want = match want {
+        Some(why) => Outcome::Form(Place::Box(1), why),
+        None => Outcome::Script,
+    };
+    is_given(rt, alloc, text.as_str(), want);
 }
 
 #[test]
-fn second_boxes(rt: HostRuntime) -> Result<(), Fail> {
+fn second_boxes(rt: HostRuntime) {
     let alloc = rt.alloc();
     for (second, want) in [
         (
@@ -168,18 +195,18 @@ fn second_boxes(rt: HostRuntime) -> Result<(), Fail> {
             Some(Why::Kind),
         ),
     ] {
-        let text = two_boxes(alloc, second)?;
-        let want = match want {
-            Some(why) => Outcome::Form(Place::Box(1), why),
-            None => Outcome::Script,
-        };
-        assert_eq!(rt; given(alloc, text.as_bytes()), want, "{text}");
+        is_second(&rt, alloc, second, want);
     }
-    Ok(())
+}
+
+/// A rule that a style breaks first.
+fn is_style(rt: &impl Abort, alloc: Global, style: &str, why: Why) {
+    let text = styled(rt, alloc, style);
+    is_given(rt, alloc, text.as_str(), Outcome::Form(Place::Box(1), why));
 }
 
 #[test]
-fn styles_off_form(rt: HostRuntime) -> Result<(), Fail> {
+fn styles_off_form(rt: HostRuntime) {
     let alloc = rt.alloc();
     for (style, why) in [
         (r#"{"position":"sticky","color":7}"#, Why::Unknown),
@@ -202,76 +229,66 @@ fn styles_off_form(rt: HostRuntime) -> Result<(), Fail> {
         (r#"{"visibility":"hide"}"#, Why::Kind),
         (r#"{"pointer-events":"all"}"#, Why::Kind),
     ] {
-        let text = styled(alloc, style)?;
-        assert_eq!(rt;
-            given(alloc, text.as_bytes()),
-            Outcome::Form(Place::Box(1), why),
-            "{text}"
-        );
+        is_style(&rt, alloc, style, why);
     }
-    Ok(())
 }
 
-#[test]
-fn every_member_of_a_style(rt: HostRuntime) -> Result<(), Fail> {
-    let alloc = rt.alloc();
-    let text = styled(
-        alloc,
-        r##"{"position":"fixed","z-index":-7,"opacity":9,"overflow":"scroll","display":"inline-block","float":"right","background":"#0102Ff04","border-width":[1,2,3,1000],"border-color":"#0a0B0c","content":"transparent","outline-width":5,"outline-color":"#ffffff00","visibility":"collapse","pointer-events":"none"}"##,
-    )?;
-    let script = read(alloc, text.as_bytes())?;
+/// A style that names every member.
+const WHOLE_STYLE: &str =
+    r##"{"position":"fixed","z-index":-7,"opacity":9,"overflow":"scroll","display":"inline-block","float":"right","background":"#0102Ff04","border-width":[1,2,3,1000],"border-color":"#0a0B0c","content":"transparent","outline-width":5,"outline-color":"#ffffff00","visibility":"collapse","pointer-events":"none"}"##;
+
+/// The style that a style of the format is read as.
+fn style_read(rt: &impl Abort, alloc: Global, style: &str) -> Style {
+    let text = styled(rt, alloc, style);
+    let script = read_of(rt, alloc, text.as_str());
     assert_eq!(rt; script.boxes.len(), 2);
-    let s = script.boxes[1].style;
+    script.boxes[1].style
+}
+
+/// A colour of these channels.
+const fn color(r: u8, g: u8, b: u8, a: u8) -> Color {
+    Color { r, g, b, a }
+}
+
+const WIDTHS: Sides = Sides {
+    top: 1,
+    right: 2,
+    bottom: 3,
+    left: 1000,
+};
+
+#[test]
+fn every_member_of_a_style(rt: HostRuntime) {
+    let s = style_read(&rt, rt.alloc(), WHOLE_STYLE);
     assert!(rt; s.position == Position::Fixed && s.z == Some(-7) && s.opacity == 9);
     assert!(rt;
         s.overflow == Overflow::Scroll
             && s.display == Display::InlineBlock
             && s.float == Floating::Right
     );
-    assert_eq!(rt;
-        s.background,
-        Color {
-            r: 1,
-            g: 2,
-            b: 255,
-            a: 4
-        }
-    );
-    assert_eq!(rt;
-        s.border_width,
-        Sides {
-            top: 1,
-            right: 2,
-            bottom: 3,
-            left: 1000
-        }
-    );
-    assert_eq!(rt;
-        s.border_color,
-        Color {
-            r: 10,
-            g: 11,
-            b: 12,
-            a: 255
-        }
-    );
-    assert_eq!(rt; s.content, Some(Color::TRANSPARENT));
-    assert_eq!(rt; s.outline_width, 5);
-    assert_eq!(rt;
-        s.outline_color,
-        Color {
-            r: 255,
-            g: 255,
-            b: 255,
-            a: 0
-        }
-    );
+    assert!(rt; s.background == color(1, 2, 255, 4));
+    assert!(rt; s.border_width == WIDTHS);
+    assert!(rt; s.border_color == color(10, 11, 12, 255));
+    assert!(rt; s.content == Some(Color::TRANSPARENT));
+    assert!(rt; s.outline_width == 5);
+    assert!(rt; s.outline_color == color(255, 255, 255, 0));
     assert!(rt; s.visibility == Visibility::Collapse && s.pointer == Pointer::Off);
-    Ok(())
+}
+
+/// A rule that a second command breaks first.
+fn is_command(rt: &impl Abort, alloc: Global, command: &str, why: Why) {
+    let both = joined(rt, alloc, &[r#"{"do":"paint"},"#, command]);
+    let text = script(rt, alloc, ROOT, both.as_str());
+    is_given(
+        rt,
+        alloc,
+        text.as_str(),
+        Outcome::Form(Place::Command(1), why),
+    );
 }
 
 #[test]
-fn commands_off_form(rt: HostRuntime) -> Result<(), Fail> {
+fn commands_off_form(rt: HostRuntime) {
     let alloc = rt.alloc();
     for (command, why) in [
         ("7", Why::Kind),
@@ -324,16 +341,8 @@ fn commands_off_form(rt: HostRuntime) -> Result<(), Fail> {
             Why::Kind,
         ),
     ] {
-        let mut both = String::from_str(alloc, r#"{"do":"paint"},"#)?;
-        both.push_str(command)?;
-        let text = script(alloc, ROOT, both.as_str())?;
-        assert_eq!(rt;
-            given(alloc, text.as_bytes()),
-            Outcome::Form(Place::Command(1), why),
-            "{text}"
-        );
+        is_command(&rt, alloc, command, why);
     }
-    Ok(())
 }
 
 /// The name of a command.
@@ -357,8 +366,16 @@ fn name(command: &Command) -> &'static str {
     }
 }
 
+/// A script of this command alone has a command of this name.
+fn is_named(rt: &impl Abort, alloc: Global, command: &str, want: &str) {
+    let text = script(rt, alloc, ROOT, command);
+    let script = read_of(rt, alloc, text.as_str());
+    assert_eq!(rt; script.commands.len(), 1);
+    assert_eq!(rt; name(&script.commands[0]), want);
+}
+
 #[test]
-fn every_command(rt: HostRuntime) -> Result<(), Fail> {
+fn every_command(rt: HostRuntime) {
     let alloc = rt.alloc();
     for (command, want) in [
         (
@@ -390,32 +407,40 @@ fn every_command(rt: HostRuntime) -> Result<(), Fail> {
         (r#"{"do":"dump"}"#, "dump"),
         (r#"{"do":"shot"}"#, "shot"),
     ] {
-        let text = script(alloc, ROOT, command)?;
-        let script = read(alloc, text.as_bytes())?;
-        let [only] = script.commands.as_slice() else {
-            panic!(&rt; "not one command")
-        };
-        assert_eq!(rt; name(only), want);
+        is_named(&rt, alloc, command, want);
     }
-    Ok(())
+}
+
+/// A scene of so many boxes gives this.
+fn is_scene(rt: &impl Abort, alloc: Global, boxes: u32, deep: bool, want: Outcome) {
+    let text = scene(rt, alloc, boxes, deep);
+    let found = given(alloc, text.as_bytes());
+    assert_eq!(rt; found, want, "{boxes}");
 }
 
 #[test]
-fn large_scenes(rt: HostRuntime) -> Result<(), Fail> {
-    let alloc = rt.alloc();
+fn large_scenes(rt: HostRuntime) {
     for (boxes, deep, want) in [
         (256, true, Outcome::Script),
         (257, true, Outcome::Form(Place::Box(256), Why::Depth)),
         (20_001, false, Outcome::Form(Place::Top, Why::Count)),
     ] {
-        let text = scene(alloc, boxes, deep)?;
-        assert_eq!(rt; given(alloc, text.as_bytes()), want, "{boxes}");
+        is_scene(&rt, rt.alloc(), boxes, deep, want);
     }
-    let text = scene(alloc, 20_000, false)?;
-    let script = read(alloc, text.as_bytes())?;
-    let tree = plant::<Brand>(alloc, &script)?;
+}
+
+/// A tree with the boxes of a script.
+fn planted(rt: &impl Abort, alloc: Global, script: &Script) -> Tree<Brand> {
+    plant::<Brand>(alloc, script).expect(rt, "a tree")
+}
+
+#[test]
+fn the_largest_scene_is_planted(rt: HostRuntime) {
+    let text = scene(&rt, rt.alloc(), 20_000, false);
+    let script = read_of(&rt, rt.alloc(), text.as_str());
+    let tree = planted(&rt, rt.alloc(), &script);
+    assert_eq!(rt; script.boxes.len(), 20_000);
     assert!(rt; tree.find(&script.boxes[0].id).is_some());
-    Ok(())
 }
 
 const LOOSE: &str = r##"{"version":1,"canvas":{"w":10,"h":9},
@@ -429,13 +454,16 @@ const LOOSE: &str = r##"{"version":1,"canvas":{"w":10,"h":9},
 const CANONICAL: &str =
     r##"{"boxes":[{"id":"root","parent":null,"rect":[0,0,10,10],"style":{}},{"id":"a","parent":"root","rect":[0,-1,2,3],"style":{"background":"#0102ff04","border-width":[1,2,3,4],"content":"#ffffff","opacity":9,"pointer-events":"none","z-index":-7}}],"canvas":{"h":9,"w":10},"script":[{"before":null,"do":"insert","id":"b","parent":"Z","rect":[0,0,1,1],"style":{}},{"before":"c","do":"move","id":"b","parent":"a"},{"do":"style","id":"b","style":{"content":null,"position":"static","z-index":"auto"}},{"do":"rect","id":"b","rect":[1,2,3,4]},{"do":"shift","dx":3,"dy":-2,"id":"b"},{"do":"remove","id":"b"},{"do":"paint"},{"do":"hit","x":1,"y":-1},{"do":"pixel","x":1,"y":-1},{"do":"dump"},{"do":"shot"}],"version":1}"##;
 
+/// The text is a script, which is written in its canonical text.
+fn is_canonical(rt: &impl Abort, alloc: Global, text: &str) {
+    let script = read_of(rt, alloc, text);
+    let written = write_scene(alloc, &script).expect(rt, "a text");
+    assert!(rt; written.as_slice() == CANONICAL.as_bytes());
+}
+
 #[test]
-fn canonical_texts(rt: HostRuntime) -> Result<(), Fail> {
-    let alloc = rt.alloc();
+fn canonical_texts(rt: HostRuntime) {
     for text in [LOOSE, CANONICAL] {
-        let script = read(alloc, text.as_bytes())?;
-        let written = write_scene(alloc, &script)?;
-        assert!(rt; written.as_slice() == CANONICAL.as_bytes());
+        is_canonical(&rt, rt.alloc(), text);
     }
-    Ok(())
 }
