@@ -9,7 +9,6 @@ use std::alloc::Global;
 use std::marker::Brand;
 use std::process::Abort;
 use std::sync::ledger::{Blank, Ledger};
-use std::test::Fail;
 
 /// A canvas of 10 by 10 with a white root.
 const TEN: &str = r##"{"version":1,"canvas":{"w":10,"h":10},"boxes":[
@@ -48,6 +47,7 @@ struct Ended {
     err: Vec<u8>,
 }
 
+/// The status of a run whose items and looks are counted.
 fn counted<A: Ledger, B: Ledger>(
     alloc: Global,
     words: &[String],
@@ -69,75 +69,115 @@ fn counted<A: Ledger, B: Ledger>(
     run(alloc, words, source, out, err, &mut made, &mut looks)
 }
 
-/// A run over these words and this input, where the calls of these numbers fail at the source and at standard output.
-fn run_over(
-    alloc: Global,
-    words: &[&str],
-    input: Vec<u8>,
-    reads: &[u64],
-    writes: &[u64],
-) -> Result<Ended, Fail> {
+/// The word as a text.
+fn text_of(rt: &impl Abort, alloc: Global, word: &str) -> String {
+    String::from_str(alloc, word).expect(rt, "a text")
+}
+
+/// The words as texts.
+fn texts_of(rt: &impl Abort, alloc: Global, words: &[&str]) -> Vec<String> {
     let mut texts = Vec::new(alloc);
     for word in words {
-        texts.push(String::from_str(alloc, word)?)?;
+        texts
+            .push(text_of(rt, alloc, word))
+            .expect(rt, "room for a text");
     }
-    let mut source = MemorySource::new(input, Vec::from_slice(alloc, reads)?);
+    texts
+}
+
+/// The same bytes.
+fn bytes_of(rt: &impl Abort, alloc: Global, bytes: &[u8]) -> Vec<u8> {
+    Vec::from_slice(alloc, bytes).expect(rt, "bytes")
+}
+
+/// The same numbers.
+fn numbers_of(rt: &impl Abort, alloc: Global, numbers: &[u64]) -> Vec<u64> {
+    Vec::from_slice(alloc, numbers).expect(rt, "numbers")
+}
+
+/// A run over these words and this source, where the calls of these numbers fail at standard output.
+fn run_from(
+    rt: &impl Abort,
+    alloc: Global,
+    words: &[String],
+    source: &mut MemorySource,
+    writes: &[u64],
+) -> Ended {
     let mut out_room = [0u8; 4096];
     let mut err_room = [0u8; 256];
-    let mut out = MemorySink::new(&mut out_room, Vec::from_slice(alloc, writes)?);
+    let mut out = MemorySink::new(&mut out_room, numbers_of(rt, alloc, writes));
     let mut err = MemorySink::new(&mut err_room, Vec::new(alloc));
     let status = counted::<Brand, Brand>(
         alloc,
-        &texts,
-        &mut source,
+        words,
+        source,
         &mut out,
         &mut err,
         Blank::new(1),
         Blank::new(1),
     );
-    Ok(Ended {
+    Ended {
         status,
-        out: Vec::from_slice(alloc, out.bytes())?,
-        err: Vec::from_slice(alloc, err.bytes())?,
-    })
+        out: bytes_of(rt, alloc, out.bytes()),
+        err: bytes_of(rt, alloc, err.bytes()),
+    }
+}
+
+/// A run over these words and this input, where the calls of these numbers fail at the source and at standard output.
+fn run_over(
+    rt: &impl Abort,
+    alloc: Global,
+    words: &[&str],
+    input: Vec<u8>,
+    reads: &[u64],
+    writes: &[u64],
+) -> Ended {
+    let texts = texts_of(rt, alloc, words);
+    let mut source = MemorySource::new(input, numbers_of(rt, alloc, reads));
+    run_from(rt, alloc, &texts, &mut source, writes)
 }
 
 /// A script: a canvas with its root, more boxes, and commands.
-fn script(alloc: Global, head: &str, boxes: &str, commands: &str) -> Result<String, Fail> {
-    let mut text = String::from_str(alloc, head)?;
-    text.push_str(boxes)?;
-    text.push_str(r#"],"script":["#)?;
-    text.push_str(commands)?;
-    text.push_str("]}")?;
-    Ok(text)
+fn script(rt: &impl Abort, alloc: Global, head: &str, boxes: &str, commands: &str) -> String {
+    let mut text = String::new(alloc);
+    for part in [head, boxes, r#"],"script":["#, commands, "]}"] {
+        text.push_str(part).expect(rt, "a longer text");
+    }
+    text
 }
 
-fn over_text(alloc: Global, word: &str, text: &str) -> Result<Ended, Fail> {
-    run_over(
-        alloc,
-        &[word],
-        Vec::from_slice(alloc, text.as_bytes())?,
-        &[],
-        &[],
-    )
+/// A run of `replay` or `render` over this input.
+fn over_bytes(rt: &impl Abort, alloc: Global, word: &str, input: &[u8]) -> Ended {
+    run_over(rt, alloc, &[word], bytes_of(rt, alloc, input), &[], &[])
+}
+
+/// The run ended with this status, and wrote these bytes and this line.
+fn is_end(rt: &impl Abort, ended: &Ended, i: usize, status: u8, out: &[u8], err: &str) {
+    assert_eq!(rt; ended.status, status, "in case {i}");
+    assert!(rt; ended.out.as_slice() == out, "in case {i}");
+    assert!(rt; ended.err.as_slice() == err.as_bytes(), "in case {i}");
 }
 
 /// A head, boxes, commands, and their answers.
 type Case = (&'static str, &'static str, &'static str, &'static str);
 
-fn each_is_answered(rt: &impl Abort, alloc: Global, cases: &[Case]) -> Result<(), Fail> {
-    for (i, (head, boxes, commands, want)) in cases.iter().enumerate() {
-        let text = script(alloc, head, boxes, commands)?;
-        let ended = over_text(alloc, "replay", text.as_str())?;
-        assert_eq!(rt; ended.status, 0, "in case {i}");
-        assert!(rt; ended.out.as_slice() == want.as_bytes(), "in case {i}");
-        assert!(rt; ended.err.is_empty(), "in case {i}");
+/// The script of a case has its answers.
+fn is_answered(rt: &impl Abort, alloc: Global, i: usize, case: &Case) {
+    let (head, boxes, commands, want) = case;
+    let text = script(rt, alloc, head, boxes, commands);
+    let ended = over_bytes(rt, alloc, "replay", text.as_bytes());
+    is_end(rt, &ended, i, 0, want.as_bytes(), "");
+}
+
+/// The script of each case has its answers.
+fn each_is_answered(rt: &impl Abort, alloc: Global, cases: &[Case]) {
+    for (i, case) in cases.iter().enumerate() {
+        is_answered(rt, alloc, i, case);
     }
-    Ok(())
 }
 
 #[test]
-fn a_paint_makes_anew_what_meets_the_area(rt: HostRuntime) -> Result<(), Fail> {
+fn a_paint_makes_anew_what_meets_the_area(rt: HostRuntime) {
     let cases: [Case; 7] = [
         (
             TEN,
@@ -189,11 +229,11 @@ fn a_paint_makes_anew_what_meets_the_area(rt: HostRuntime) -> Result<(), Fail> {
             "paint 1 built 3 kept 0 area 100\npixel 0000ff\nok\npaint 2 built 3 kept 0 area 48\npixel ffffff\n",
         ),
     ];
-    each_is_answered(&rt, rt.alloc(), &cases)
+    each_is_answered(&rt, rt.alloc(), &cases);
 }
 
 #[test]
-fn edits_are_refused_by_the_first_test_that_holds(rt: HostRuntime) -> Result<(), Fail> {
+fn edits_are_refused_by_the_first_test_that_holds(rt: HostRuntime) {
     let cases: [Case; 2] = [
         (
             TEN,
@@ -217,11 +257,11 @@ refused 3\nrefused 5\nrefused 5\nrefused 6\n",
 paint 3 built 5 kept 0 area 100\n",
         ),
     ];
-    each_is_answered(&rt, rt.alloc(), &cases)
+    each_is_answered(&rt, rt.alloc(), &cases);
 }
 
 #[test]
-fn questions_are_answered_by_the_painting_order(rt: HostRuntime) -> Result<(), Fail> {
+fn questions_are_answered_by_the_painting_order(rt: HostRuntime) {
     let cases: [Case; 7] = [
         (
             TEN,
@@ -280,11 +320,11 @@ fn questions_are_answered_by_the_painting_order(rt: HostRuntime) -> Result<(), F
             "paint 1 built 1 kept 0 area 1\nshot 3aaa77f17582428b99e7f04836135214e7ae36328fb233b7b284da36da2dafb3\n",
         ),
     ];
-    each_is_answered(&rt, rt.alloc(), &cases)
+    each_is_answered(&rt, rt.alloc(), &cases);
 }
 
 #[test]
-fn a_dump_has_a_line_for_each_item_and_group(rt: HostRuntime) -> Result<(), Fail> {
+fn a_dump_has_a_line_for_each_item_and_group(rt: HostRuntime) {
     let cases: [Case; 2] = [
         (
             TEN,
@@ -311,28 +351,41 @@ item 0 p back 0 0 2 2 0 0 2 2 0 0 0 0 ff0000ff auto 1\n",
 item 1 root back 0 0 1 1 0 0 1 1 0 0 0 0 000000ff auto 1\n",
         ),
     ];
-    each_is_answered(&rt, rt.alloc(), &cases)
+    each_is_answered(&rt, rt.alloc(), &cases);
 }
 
-#[test]
-fn a_picture_or_a_summary_is_written(rt: HostRuntime) -> Result<(), Fail> {
-    let alloc = rt.alloc();
-    let text = script(alloc, ONE, "", "")?;
-    let picture = over_text(alloc, "render", text.as_str())?;
-    assert_eq!(rt; picture.status, 0);
-    assert!(rt; picture.out.as_slice() == b"P6\n1 1\n255\n\xff\xff\xff".as_slice());
-    let words = ["storm", "--seed", "0", "--boxes", "1", "--edits", "0"];
-    let storm = run_over(alloc, &words, Vec::new(alloc), &[], &[])?;
-    let lines = "storm seed 0 boxes 1 edits 0\naccepted 0 refused 0\npaints 2 built 1 area 65536\n\
+/// The one pixel of a white root, in the format P6.
+const WHITE_PIXEL: &[u8] = b"P6\n1 1\n255\n\xff\xff\xff";
+
+/// A storm of one box and no edits.
+const STORM: &str =
+    "storm seed 0 boxes 1 edits 0\naccepted 0 refused 0\npaints 2 built 1 area 65536\n\
 final ab3d1bbe688ba26f575013fc60b5cbe90f63889b34b4118d7f2bf7a23c1aa961\n";
-    assert_eq!(rt; storm.status, 0);
-    assert!(rt; storm.out.as_slice() == lines.as_bytes());
-    Ok(())
+
+#[test]
+fn a_picture_is_written(rt: HostRuntime) {
+    let alloc = rt.alloc();
+    let text = script(&rt, alloc, ONE, "", "");
+    let picture = over_bytes(&rt, alloc, "render", text.as_bytes());
+    is_end(&rt, &picture, 0, 0, WHITE_PIXEL, "");
 }
 
 #[test]
-fn words_of_no_form_end_a_run_before_it_reads(rt: HostRuntime) -> Result<(), Fail> {
+fn a_summary_is_written(rt: HostRuntime) {
     let alloc = rt.alloc();
+    let words = ["storm", "--seed", "0", "--boxes", "1", "--edits", "0"];
+    let storm = run_over(&rt, alloc, &words, Vec::new(alloc), &[], &[]);
+    is_end(&rt, &storm, 0, 0, STORM.as_bytes(), "");
+}
+
+/// A run with these words ends with the usage before it reads.
+fn is_no_form(rt: &impl Abort, alloc: Global, i: usize, words: &[&str]) {
+    let ended = run_over(rt, alloc, words, Vec::new(alloc), &[0], &[]);
+    is_end(rt, &ended, i, 1, &[], USAGE);
+}
+
+#[test]
+fn words_of_no_form_end_a_run_before_it_reads(rt: HostRuntime) {
     let cases: [&[&str]; 8] = [
         &[],
         &["paint"],
@@ -352,18 +405,23 @@ fn words_of_no_form_end_a_run_before_it_reads(rt: HostRuntime) -> Result<(), Fai
         ],
     ];
     for (i, words) in cases.into_iter().enumerate() {
-        let ended = run_over(alloc, words, Vec::new(alloc), &[0], &[])?;
-        assert_eq!(rt; ended.status, 1, "in case {i}");
-        assert!(rt; ended.out.is_empty(), "in case {i}");
-        assert!(rt; ended.err.as_slice() == USAGE.as_bytes(), "in case {i}");
+        is_no_form(&rt, rt.alloc(), i, words);
     }
-    Ok(())
+}
+
+/// An input, the status and the line.
+type BadInput = (&'static [u8], u8, &'static str);
+
+/// The input is refused with its status and its line.
+fn is_refused(rt: &impl Abort, alloc: Global, i: usize, case: &BadInput) {
+    let (input, status, line) = case;
+    let bad = over_bytes(rt, alloc, "replay", input);
+    is_end(rt, &bad, i, *status, &[], line);
 }
 
 #[test]
-fn each_bad_input_has_its_status_and_its_line(rt: HostRuntime) -> Result<(), Fail> {
-    let alloc = rt.alloc();
-    let cases: [(&[u8], u8, &str); 10] = [
+fn each_bad_input_has_its_status_and_its_line(rt: HostRuntime) {
+    let cases: [BadInput; 10] = [
         (b"", 2, "not json\n"),
         (b"\xff", 2, "not json\n"),
         (b"{} {}", 2, "not json\n"),
@@ -379,20 +437,27 @@ fn each_bad_input_has_its_status_and_its_line(rt: HostRuntime) -> Result<(), Fai
             "form: canvas: Range\n",
         ),
     ];
-    for (i, (input, status, line)) in cases.into_iter().enumerate() {
-        let bad = run_over(alloc, &["replay"], Vec::from_slice(alloc, input)?, &[], &[])?;
-        assert_eq!(rt; bad.status, status, "in case {i}");
-        assert!(rt; bad.out.is_empty(), "in case {i}");
-        assert!(rt; bad.err.as_slice() == line.as_bytes(), "in case {i}");
+    for (i, case) in cases.iter().enumerate() {
+        is_refused(&rt, rt.alloc(), i, case);
     }
-    Ok(())
+}
+
+/// What of the script is written otherwise, how, the status and the line.
+type Change = (&'static str, &'static str, u8, &'static str);
+
+/// The script with the change has its status and its line.
+fn is_placed(rt: &impl Abort, alloc: Global, i: usize, whole: &str, case: &Change) {
+    let (from, to, status, line) = case;
+    let text = whole.replace(alloc, from, to).expect(rt, "a text");
+    let bad = over_bytes(rt, alloc, "replay", text.as_bytes());
+    assert_eq!(rt; bad.status, *status, "in case {i}");
+    assert!(rt; bad.err.as_slice() == line.as_bytes(), "in case {i}");
 }
 
 #[test]
-fn each_broken_rule_has_its_place(rt: HostRuntime) -> Result<(), Fail> {
-    let alloc = rt.alloc();
-    let whole = script(alloc, TEN, THREE, r#"{"do":"paint"}"#)?;
-    let cases: [(&str, &str, u8, &str); 7] = [
+fn each_broken_rule_has_its_place(rt: HostRuntime) {
+    let whole = script(&rt, rt.alloc(), TEN, THREE, r#"{"do":"paint"}"#);
+    let cases: [Change; 7] = [
         ("[0,0,10,10]", "[0,0,1000001,10]", 3, "form: box 0: Range\n"),
         ("[0,0,4,4]", "[0,0,1000000,4]", 0, ""),
         ("\"#0000ff\"", "\"#12345\"", 3, "form: box 3: Color\n"),
@@ -416,47 +481,46 @@ fn each_broken_rule_has_its_place(rt: HostRuntime) -> Result<(), Fail> {
         ),
         ("\"paint\"", "\"draw\"", 3, "form: command 0: Command\n"),
     ];
-    for (i, (from, to, status, line)) in cases.into_iter().enumerate() {
-        let text = whole.replace(alloc, from, to)?;
-        let bad = over_text(alloc, "replay", text.as_str())?;
-        assert_eq!(rt; bad.status, status, "in case {i}");
-        assert!(rt; bad.err.as_slice() == line.as_bytes(), "in case {i}");
+    for (i, case) in cases.iter().enumerate() {
+        is_placed(&rt, rt.alloc(), i, whole.as_str(), case);
     }
-    Ok(())
+}
+
+/// Which reads fail, which writes, the status and the line.
+type Failing = (&'static [u64], &'static [u64], u8, &'static str);
+
+/// The run with the failing stream has its status and its line.
+fn is_ended(rt: &impl Abort, alloc: Global, i: usize, whole: &str, case: &Failing) {
+    let (reads, writes, status, line) = case;
+    let input = bytes_of(rt, alloc, whole.as_bytes());
+    let bad = run_over(rt, alloc, &["replay"], input, reads, writes);
+    is_end(rt, &bad, i, *status, &[], line);
 }
 
 #[test]
-fn a_failing_stream_ends_a_run(rt: HostRuntime) -> Result<(), Fail> {
-    let alloc = rt.alloc();
-    let whole = script(alloc, TEN, THREE, r#"{"do":"paint"}"#)?;
-    let cases: [(&[u64], &[u64], u8, &str); 2] = [
+fn a_failing_stream_ends_a_run(rt: HostRuntime) {
+    let whole = script(&rt, rt.alloc(), TEN, THREE, r#"{"do":"paint"}"#);
+    let cases: [Failing; 2] = [
         (&[0], &[], 4, "read fault\n"),
         (&[], &[0], 5, "write fault\n"),
     ];
-    for (i, (reads, writes, status, line)) in cases.into_iter().enumerate() {
-        let input = Vec::from_slice(alloc, whole.as_bytes())?;
-        let bad = run_over(alloc, &["replay"], input, reads, writes)?;
-        assert_eq!(rt; bad.status, status, "in case {i}");
-        assert!(rt; bad.out.is_empty(), "in case {i}");
-        assert!(rt; bad.err.as_slice() == line.as_bytes(), "in case {i}");
+    for (i, case) in cases.iter().enumerate() {
+        is_ended(&rt, rt.alloc(), i, whole.as_str(), case);
     }
-    Ok(())
+}
+
+/// A run over so many spaces.
+fn over_spaces(rt: &impl Abort, alloc: Global, count: usize) -> Ended {
+    let spaces = vec![in alloc; b' '; count].expect(rt, "spaces");
+    run_over(rt, alloc, &["replay"], spaces, &[], &[])
 }
 
 #[test]
-fn the_input_ends_at_its_limit(rt: HostRuntime) -> Result<(), Fail> {
-    let alloc = rt.alloc();
+fn the_input_ends_at_its_limit(rt: HostRuntime) {
     let most = 67_108_864;
-    let full = run_over(alloc, &["replay"], vec![in alloc; b' '; most]?, &[], &[])?;
+    let full = over_spaces(&rt, rt.alloc(), most);
     assert_eq!(rt; full.status, 2);
-    let over = run_over(
-        alloc,
-        &["replay"],
-        vec![in alloc; b' '; most + 1]?,
-        &[],
-        &[],
-    )?;
+    let over = over_spaces(&rt, rt.alloc(), most + 1);
     assert_eq!(rt; over.status, 7);
     assert!(rt; over.err.as_slice() == "input too large\n".as_bytes());
-    Ok(())
 }
