@@ -62,7 +62,7 @@ impl<A: Ledger> Model for Pieces<A> {
     ghost size_decreases = { λ a h. Prim.omega (arith, most_le-nested_size a.below.items a.top.items) };
 }
 
-/// Ends the run on top, where it has entries; the next one begins with none.
+/// Ends the run on top, where it has entries, and gives back the room that it does not use; the next one begins with none.
 fn end_run<A: Ledger>(
     below: &mut Vec<Pieces<A>>,
     top: &mut Vec<NewEntry<A>>,
@@ -75,10 +75,11 @@ fn end_run<A: Ledger>(
     ensures filled { IsFilled (piled below.old.items top.old.items) → IsFilled (piled below.new.items top.new.items) }
 {
     let alloc = *top.allocator();
-    let run = replace(top, next);
+    let mut run = replace(top, next);
     if run.is_empty() {
         return Ok(());
     }
+    run.shrink_to_fit();
     below.push(Pieces {
         below: Vec::new(alloc),
         top: run,
@@ -195,6 +196,13 @@ impl<A: Ledger> Pieces<A> {
         Ok(())
     }
 
+    /// Gives back the room that the run on top does not use.
+    fn trim(&mut self)
+        ensures { self.new ≡ self.old }
+    {
+        self.top.shrink_to_fit();
+    }
+
     /// Puts a whole list on top. A list that is not short is moved as one, and no entry is copied.
     pub fn join(&mut self, from: Pieces<A>) -> Result<(), AllocError>
         ensures { OnOk result (laid_out self.new ≡ laid_out self.old ▷ laid_out from) }
@@ -212,6 +220,8 @@ impl<A: Ledger> Pieces<A> {
         }
         let next = Vec::new(*self.top.allocator());
         end_run(&mut self.below, &mut self.top, next)?;
+        let mut from = from;
+        from.trim();
         self.below.push(from)?;
         Ok(())
     }

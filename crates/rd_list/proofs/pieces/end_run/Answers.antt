@@ -8,10 +8,10 @@ returns-in_err-push-clause-filled g c h = rw (c.in_err-push.ensures.items) (fill
 pub returns-clause-same : goal.returns-clause-same
 returns-clause-same g c =
     laid-ended c.args.below.now.items c.push.new.self.items _ c.args.top.now.items c.replace-run.new.dest.items c.in_ok-push.ensures.items
-    (rw (c.new.ensures.items, c.replace-run.ensures.value) refl) (rw c.replace-run.ensures.after c.requires.none)
+    (rw (c.new.ensures.items, c.shrink_to_fit.ensures.items, c.replace-run.ensures.value) refl) (rw c.replace-run.ensures.after c.requires.none)
 
 pub returns-clause-filled : goal.returns-clause-filled
 returns-clause-filled g c h =
     filled-below c.args.below.now.items c.push.new.self.items _ c.replace-run.new.dest.items c.in_ok-push.ensures.items
-    (rw c.new.ensures.items (some_new c.replace-run.result.items _ (sym c.replace-run.result.ok.0) (sym c.is_empty.ensures ∙ c.if-is_empty.false)))
+    (rw (c.new.ensures.items, c.shrink_to_fit.ensures.items) (some_new c.replace-run.result.items _ (sym c.replace-run.result.ok.0) (sym c.is_empty.ensures ∙ c.if-is_empty.false)))
     (filled-on c.args.below.now.items c.args.top.now.items c.replace-run.new.dest.items h)

@@ -17,11 +17,11 @@ returns-then-len-le-SHORT g c =
 
 pub invariant_of-self-2 : goal.invariant_of-self-2
 invariant_of-self-2 g c =
-    filled-below c.end_run.new.below.items c.push.new.self.items c.args.from c.end_run.new.top.items c.in_ok-push.ensures.items
-    (sym c.is_empty.ensures ∙ c.if-is_empty.false) (c.end_run.ensures.filled c.self.invariant)
+    filled-below c.end_run.new.below.items c.push.new.self.items c.trim.new.self c.end_run.new.top.items c.in_ok-push.ensures.items
+    (rw c.trim.ensures (sym c.is_empty.ensures ∙ c.if-is_empty.false)) (c.end_run.ensures.filled c.self.invariant)
 
 pub returns : goal.returns
 returns g c =
-    laid-below c.end_run.new.below.items c.push.new.self.items c.args.from c.end_run.new.top.items c.in_ok-push.ensures.items
+    laid-below c.end_run.new.below.items c.push.new.self.items c.trim.new.self c.end_run.new.top.items c.in_ok-push.ensures.items
     (rw c.in_ok-end_run.ensures.next c.new-next.ensures.items)
-    ∙ rw (c.in_ok-end_run.ensures.same, c.self.view_is) refl
+    ∙ rw (c.in_ok-end_run.ensures.same, c.self.view_is, c.trim.ensures) refl
