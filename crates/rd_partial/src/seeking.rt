@@ -13,6 +13,7 @@ use rd_tree::Tree;
 use std::sync::ledger::Ledger;
 
 /// The first of some siblings, from one on, that is touched or has a touched box below it.
+#[inline(never)]
 pub(crate) fn next_marked<'a, B: Ledger>(
     tree: &'a Tree<B>,
     first: Option<BoxKey>,

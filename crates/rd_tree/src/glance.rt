@@ -1,6 +1,6 @@
 //! What a walk reads of a box, without opening its node.
-ghost use Rattle.std.specs.Prelude.{◌≡◌, ◌<◌, ◌⊎◌, length, slice_set, vec_len, vec_capacity};
-ghost use Rattle.rd_tree.specs.Internal.Glances.{at_generation, glance_of, unseen, with_glance};
+ghost use Rattle.std.specs.Prelude.{◌≡◌};
+ghost use Rattle.rd_tree.specs.Internal.Glances.{at_generation, glance_of, unseen};
 
 use crate::node::Node;
 use rd_keys::BoxKey;
@@ -48,25 +48,4 @@ pub(crate) fn renamed(glance: Glance, generation: u32) -> Glance
     let mut glance = glance;
     glance.generation = generation;
     glance
-}
-
-/// Writes what is read of a slot.
-pub(crate) fn write(glances: &mut Vec<Glance>, slot: u32, glance: Glance)
-    requires { slot < length glances.old.items }
-    ensures { glances.new.items ≡ slice_set glances.old.items slot glance }
-{
-    glances[slot as usize] = glance;
-}
-
-/// Writes what is read of a slot, or of the next one.
-pub(crate) fn put(glances: &mut Vec<Glance>, slot: u32, glance: Glance)
-    requires { (slot < length glances.old.items) ⊎ ((slot ≡ length glances.old.items)
-        × (vec_len glances.old < vec_capacity glances.old)) }
-    ensures { glances.new.items ≡ with_glance glances.old.items slot glance }
-{
-    if (slot as usize) < glances.len() {
-        write(glances, slot, glance);
-    } else {
-        glances.push_reserved(glance);
-    }
 }

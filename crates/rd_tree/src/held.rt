@@ -11,7 +11,8 @@ ghost use Rattle.rd_tree.specs.Internal.Links.{child_and_sibling, edit, edit_if,
 ghost use Rattle.rd_tree.specs.Internal.Reaching as reaching;
 ghost use Rattle.rd_tree.specs.Internal.Works.{AllowsAt, done, item_under};
 
-use crate::glance::{Glance, glance_at, none, put, renamed, write};
+use crate::glance::{Glance, glance_at, none, renamed};
+use crate::glances::Glances;
 use crate::links::walk::{Work, do_work};
 use crate::node::Node;
 use crate::reach::{Reach, rect_reach, style_reach};
@@ -25,7 +26,7 @@ use std::marker::Model;
 #[derive(Drop)]
 pub(crate) struct Nodes {
     held: Arena<Node, BoxMark>,
-    glances: Vec<Glance>,
+    glances: Glances,
 }
 
 impl Model for Nodes {
@@ -41,7 +42,7 @@ impl Model for Nodes {
 
     ghost view = { λ n. n.held };
 
-    ghost invariant = { λ n. AreGlances n.held n.glances.items };
+    ghost invariant = { λ n. AreGlances n.held n.glances.rows };
 }
 
 impl Nodes {
@@ -52,7 +53,7 @@ impl Nodes {
     {
         Nodes {
             held: Arena::new(alloc, limit),
-            glances: Vec::new(alloc),
+            glances: Glances::new(alloc),
         }
     }
 
@@ -84,15 +85,13 @@ impl Nodes {
     pub(crate) fn glance(&self, key: BoxKey) -> Option<Glance>
         ensures { result ≡ option_map (glance_of key.generation) (value self.now key.slot key.generation) }
     {
-        let at = key.slot() as usize;
-        if at < self.glances.len()
-            && self.glances[at].live
-            && self.glances[at].generation == key.generation()
-        {
-            Some(self.glances[at])
-        } else {
-            None
+        if (key.slot() as usize) < self.glances.len() {
+            let glance = self.glances.at(key.slot());
+            if glance.live && glance.generation == key.generation() {
+                return Some(glance);
+            }
         }
+        None
     }
 
     /// What a walk reads of the box under a live key.
@@ -101,7 +100,7 @@ impl Nodes {
         requires live { is_some (value self.now key.slot key.generation) ≡ true }
         ensures { Some result ≡ option_map (glance_of key.generation) (value self.now key.slot key.generation) }
     {
-        self.glances[key.slot() as usize]
+        self.glances.at(key.slot())
     }
 
     /// Is a key live, if there is one?
@@ -120,10 +119,7 @@ impl Nodes {
     pub(crate) fn touched(&self, key: BoxKey) -> bool
         ensures { result ≡ option_map_or (λ n. n.item.touched) (value self.now key.slot key.generation) true }
     {
-        let at = key.slot() as usize;
-        at >= self.glances.len()
-            || self.glances[at].touched
-            || self.glances[at].generation != key.generation()
+        self.glances.tells_touched(key)
     }
 
     /// Stores a node under a key that was never given. After a refusal nothing has changed.
@@ -132,18 +128,15 @@ impl Nodes {
         ensures stored { IfOk result (λ k. Enters self.old self.new k.slot k.generation node) }
         ensures kept { OnErr result (self.new ≡ self.old) }
     {
-        self.glances.reserve(1)?;
+        self.glances.reserve()?;
         let glance = glance_at(0, &node);
         let key = match self.held.insert(node) {
             Ok(key) => key,
             Err(Refused::Full(_)) => unreachable!(),
             Err(Refused::NoMemory(_)) => return Err(NoMemory),
         };
-        put(
-            &mut self.glances,
-            key.slot(),
-            renamed(glance, key.generation()),
-        );
+        self.glances
+            .put(key.slot(), renamed(glance, key.generation()));
         Ok(key)
     }
 
@@ -155,7 +148,7 @@ impl Nodes {
     {
         match self.held.remove(key) {
             Some(node) => {
-                write(&mut self.glances, key.slot(), none());
+                self.glances.write(key.slot(), none());
                 Some(node)
             }
             None => None,
@@ -172,7 +165,7 @@ impl Nodes {
         {
             node.links.next = next;
             let glance = glance_at(key.generation(), node);
-            write(&mut self.glances, key.slot(), glance);
+            self.glances.write(key.slot(), glance);
         }
     }
 
@@ -186,7 +179,7 @@ impl Nodes {
         {
             node.links.prev = prev;
             let glance = glance_at(key.generation(), node);
-            write(&mut self.glances, key.slot(), glance);
+            self.glances.write(key.slot(), glance);
         }
     }
 
@@ -199,7 +192,7 @@ impl Nodes {
             node.links.first = first;
             node.links.last = last;
             let glance = glance_at(at.generation(), node);
-            write(&mut self.glances, at.slot(), glance);
+            self.glances.write(at.slot(), glance);
         }
     }
 
@@ -219,7 +212,7 @@ impl Nodes {
             node.links.prev = prev;
             node.links.next = next;
             let glance = glance_at(key.generation(), node);
-            write(&mut self.glances, key.slot(), glance);
+            self.glances.write(key.slot(), glance);
         }
     }
 
@@ -234,7 +227,7 @@ impl Nodes {
             Some(node) => {
                 do_work(&mut node.item, work);
                 let glance = glance_at(key.generation(), node);
-                write(&mut self.glances, key.slot(), glance);
+                self.glances.write(key.slot(), glance);
                 (glance.first, glance.next)
             }
             None => (None, None),
@@ -253,7 +246,7 @@ impl Nodes {
                 let reach = style_reach(&node.item.style, is_root, c);
                 node.item.style = changed(&node.item.style, c);
                 let glance = glance_at(key.generation(), node);
-                write(&mut self.glances, key.slot(), glance);
+                self.glances.write(key.slot(), glance);
                 reach
             }
             None => Reach::Nothing,
@@ -271,7 +264,7 @@ impl Nodes {
             Some(node) => {
                 node.item.rect = rect;
                 let glance = glance_at(key.generation(), node);
-                write(&mut self.glances, key.slot(), glance);
+                self.glances.write(key.slot(), glance);
                 rect_reach(&node.item.style, is_root)
             }
             None => Reach::Nothing,

@@ -398,6 +398,27 @@ module _ (a0 a : Arena inner.Node) (old new : List Summary) (first : Option BoxK
           };
         }
 
+-- The loop passes a box without marks: nothing is done below it, and its row stands as it is.
+pub settle_passed : (a0 a : Arena inner.Node) (old new : List Summary) (first : Option BoxKey) (k : BoxKey) (w : Settling a0 a old new first (Some k))
+    (a1 : Arena inner.Node) (r1 : Relinks a a1 (edit same_key k (with_item settled) (linked a))) (o : Option BoxKey × Option BoxKey) (e : o ≡ child_and_sibling
+    (linked a k)) → (summary_at new k).touched ≡ 0 → Settling a0 a1 old new first o.1 × (size (seen_from a1 o.1) < size (seen_from a (Some k)))
+    × (touched_in (seen_from a (Some k)) ≡ touched_under (linked a k) + touched_in (seen_from a1 o.1))
+settle_passed a0 a old new first k w a1 r1 o e z =
+    let none : None ≡ cond ((summary_at new k).touched == 0) None o.0 = rw z refl in
+    let n = settle_next a0 a old new first k w a1 r1 o e None none a1 new new (record {
+      links = λ j. sym (ap (λ f. cond (has same_key j f) (option_map (with_item settled) (linked a1 j)) (linked a1 j)) (nothing_seen a1));
+      same_slots = refl;
+      same_live = refl;
+      limit = refl;
+      first = refl;
+    }) (λ j l. sym (ap (λ f. cond (has same_key j f) (unmarked (summary_at new j)) (summary_at new j)) (nothing_seen a1))) refl
+    (λ j. elim (cases (j.slot == k.slot)) [ inl s ↦ rw s (same j s) | inr s ↦ rw s refl ]) refl in
+    (n.next, n.less, omega (arith, n.marks, z)) where
+      same : (j : BoxKey) → (j.slot == k.slot) ≡ true → summary_at new j ≡ unmarked (summary_at new k)
+      same j s =
+          let i : j.slot ≡ k.slot = grind arith in
+          ap (λ n. summary_at new (record k { slot = n })) i ∙ sym (ap (λ m. record (summary_at new k) { touched = m }) (sym z))
+
 -- The root is there,
 pub root_there : (a : Arena inner.Node) (root : BoxKey) → IsTree a root → has same_key root (seen a root) ≡ true
 root_there a root t =

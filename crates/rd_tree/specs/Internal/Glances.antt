@@ -1,5 +1,5 @@
 -- What a walk reads of a box, without opening its node.
-use Rattle.std.specs.Prelude.{◌≡◌, ℕ, true, false, if◌then◌else◌, List, [], ◌∷◌, ◌++◌, length, nat_lt, slice_index_or, slice_set, Option, Some, None}
+use Rattle.std.specs.Prelude.{◌≡◌, ℕ, ◌<◌, true, false, if◌then◌else◌, List, [], ◌∷◌, ◌++◌, length, nat_lt, slice_index_or, slice_set, Option, Some, None}
 use Rattle.rd_keys.specs.Arena.{Arena, slot_at}
 use Rattle.rd_tree.specs.declared.node.Node as inner
 use Rattle.rd_tree.specs.declared.glance.Glance.{Glance}
@@ -34,6 +34,21 @@ seen_at gs s = slice_index_or gs s unseen
 -- with another one in place of it, or after the last
 abbrev pub with_glance : List Glance → ℕ → Glance → List Glance
 with_glance gs s y = if nat_lt s (length gs) then slice_set gs s y else gs ++ y ∷ []
+
+-- the rows of slots, and for how many rows and words there is room
+pub record Rows : Type 0 where
+  pub rows : List Glance
+  pub room : ℕ
+  pub word_room : ℕ
+
+-- there is room for a row more
+pub record HasRoom (r : Rows) : Type 0 where
+  pub row : length r.rows < r.room
+  pub word : length r.rows < r.word_room
+
+-- the word of a row: the generation where its box is untouched, and otherwise a number that no generation is
+abbrev pub quiet_word : Glance → ℕ
+quiet_word y = if y.touched then 4294967296 else y.generation
 
 -- Of each slot that is read which it holds.
 pub record AreGlances (a : Arena inner.Node) (gs : List Glance) : Type 0 where

@@ -93,6 +93,10 @@ pub(crate) fn settle_from(
     while let Some(key) = at {
         let here = settle_on(nodes, key);
         let marks_below = row_at(table, key).touched;
+        if here.own == 0 && marks_below == 0 {
+            at = here.next;
+            continue;
+        }
         let below = where_left(marks_below, here.first);
         settle_below(nodes, table, below, marks_below);
         unmark(table, key);

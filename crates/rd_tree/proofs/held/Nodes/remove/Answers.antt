@@ -7,8 +7,8 @@ use Rattle.rd_tree.proofs.held.Nodes.remove.Goals as goal
 pub invariant_of-self : goal.invariant_of-self
 invariant_of-self c =
     subst (λ l. AreGlances c.remove.new.self l)
-    (sym (c.write.ensures ∙ ap (λ s. slice_set c.self.inside.glances.items s c.none.result) c.slot.ensures))
-    (glances_without c.self.inside.held c.remove.new.self c.self.inside.glances.items c.args.key.slot c.args.key.generation
+    (sym (c.write.ensures ∙ ap (λ s. slice_set c.self.inside.glances.rows s c.none.result) c.slot.ensures))
+    (glances_without c.self.inside.held c.remove.new.self c.self.inside.glances.rows c.args.key.slot c.args.key.generation
     c.in-Some.node c.none.result c.self.invariant c.in-Some.ensures.value c.in-Some.ensures.removed c.none.ensures)
 
 pub write-requires : goal.write-requires

@@ -1,9 +1,9 @@
-use Rattle.std.proofs.Common.{◌+◌, ◌-◌, arith, ap, ◌∙◌, subst, cond}
+use Rattle.std.proofs.Common.{◌+◌, ◌-◌, arith, ap, ◌∙◌, sym, subst, cond}
 use Rattle.std.specs.Prelude.{◌==◌, None}
 use Rattle.rd_tree.specs.Internal.Summaries.{summary_at}
 use Rattle.rd_tree.proofs.Nodes.Works.{ended}
 use Rattle.rd_tree.specs.declared.links.walk.Work.TheVariants.{Settle}
-use Rattle.rd_tree.proofs.Tables.Settling.{Settling, settling_begun, settling_ended, settling_on, walked, live_key, here_row, below_settle, marks_below, settle_next}
+use Rattle.rd_tree.proofs.Tables.Settling.{Settling, settling_begun, settling_ended, settling_on, walked, live_key, here_row, below_settle, marks_below, settle_next, settle_passed}
 use Rattle.rd_tree.proofs.table.settle.+settling.Goals as goal
 
 pub settle_from-loop-at-init : goal.settle_from-loop-at-init
@@ -24,6 +24,30 @@ settle_from-row_at-marks_below-requires t c =
     let w = walked c.args.nodes.now c.loop-at.nodes c.args.table.now.items c.loop-at.table.items c.args.first c.loop-at.at c.in-Some.key c.loop-at.left
     c.in-Some.is c.loop-at.invariant in
     rw c.deref.ensures.value (here_row c.args.nodes.now c.loop-at.nodes c.args.table.now.items c.loop-at.table.items c.args.first c.in-Some.key w.0)
+
+pub settle_from-loop-at-smaller-then-marks_below-eq0 : goal.settle_from-loop-at-smaller-then-marks_below-eq0
+settle_from-loop-at-smaller-then-marks_below-eq0 t c =
+    let w = walked c.args.nodes.now c.loop-at.nodes c.args.table.now.items c.loop-at.table.items c.args.first c.loop-at.at c.in-Some.key c.loop-at.left
+    c.in-Some.is c.loop-at.invariant in
+    let row = c.row_at-marks_below.ensures ∙ ap (λ l. summary_at l c.in-Some.key) c.deref.ensures.value in
+    let none = sym (ap (λ r. r.touched) row) ∙ c.if-marks_below-eq0.true in
+    let n = settle_passed c.args.nodes.now c.loop-at.nodes c.args.table.now.items c.loop-at.table.items c.args.first c.in-Some.key w.0
+    c.settle_on-here.new.nodes c.settle_on-here.ensures.worked (c.settle_on-here.result.first, c.settle_on-here.result.next)
+    c.settle_on-here.ensures.onward none in
+    rw c.in-Some.is (omega (arith, n.1))
+
+pub settle_from-loop-at-preserved-then-marks_below-eq0 : goal.settle_from-loop-at-preserved-then-marks_below-eq0
+settle_from-loop-at-preserved-then-marks_below-eq0 t c =
+    let w = walked c.args.nodes.now c.loop-at.nodes c.args.table.now.items c.loop-at.table.items c.args.first c.loop-at.at c.in-Some.key c.loop-at.left
+    c.in-Some.is c.loop-at.invariant in
+    let row = c.row_at-marks_below.ensures ∙ ap (λ l. summary_at l c.in-Some.key) c.deref.ensures.value in
+    let none = sym (ap (λ r. r.touched) row) ∙ c.if-marks_below-eq0.true in
+    let n = settle_passed c.args.nodes.now c.loop-at.nodes c.args.table.now.items c.loop-at.table.items c.args.first c.in-Some.key w.0
+    c.settle_on-here.new.nodes c.settle_on-here.ensures.worked (c.settle_on-here.result.first, c.settle_on-here.result.next)
+    c.settle_on-here.ensures.onward none in
+    let own = c.settle_on-here.ensures.own in
+    let quiet = c.if-here-eq0.true in
+    (n.0, omega (arith, w.1, n.2, own, quiet))
 
 pub settle_from-settle_below-requires : goal.settle_from-settle_below-requires
 settle_from-settle_below-requires t c =
