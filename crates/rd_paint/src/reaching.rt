@@ -39,7 +39,7 @@ fn together(a: Span, b: Span) -> Span
 }
 
 /// How many groups inside one another are looked into: so an entry is looked at for that many groups round it at most.
-const INTO: u32 = 2;
+const INTO: u32 = 1;
 
 /// Outside which of so many places, the first in column `x0` of row `y`, nothing of a group shows that picks name.
 pub(crate) fn places<A: Ledger>(
