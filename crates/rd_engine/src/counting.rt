@@ -1,7 +1,7 @@
 //! How many leaves and entries a new list has.
 ghost use Rattle.std.specs.Prelude.{◌≡◌, ◌<◌, ◌-◌, ◌^◌, ◌∷◌, [], length, min};
 ghost use Rattle.rd_list.specs.Entries.{flat, list_size};
-ghost use Rattle.rd_list.specs.NewView.{new_entries};
+ghost use Rattle.rd_list.specs.NewView.{new_entries, in_runs};
 
 use rd_list::{NewEntry, NewList};
 use std::sync::ledger::Ledger;
@@ -12,7 +12,19 @@ pub(crate) fn leaves_of<A: Ledger>(list: &NewList<A>) -> u64
     requires { length (flat list.now) < 4294967296 }
     ensures { result ≡ length (flat list.now) }
 {
-    leaves_among(&list.entries)
+    leaves_in(&list.runs)
+}
+
+#[cycle(counting)]
+fn leaves_in<A: Ledger>(runs: &[Vec<NewEntry<A>>]) -> u64
+    requires { length (flat (in_runs runs.now)) < 4294967296 }
+    ensures { result ≡ length (flat (in_runs runs.now)) }
+{
+    let mut count = 0;
+    for run in runs {
+        count += leaves_among(run);
+    }
+    count
 }
 
 #[cycle(counting)]
@@ -43,7 +55,18 @@ fn leaves_at<A: Ledger>(entry: &NewEntry<A>) -> u64
 pub(crate) fn entries_of<A: Ledger>(list: &NewList<A>) -> usize
     ensures { result ≡ min (list_size list.now) (2 ^ 64 - 1) }
 {
-    entries_among(&list.entries)
+    entries_in(&list.runs)
+}
+
+#[cycle(sizing)]
+fn entries_in<A: Ledger>(runs: &[Vec<NewEntry<A>>]) -> usize
+    ensures { result ≡ min (list_size (in_runs runs.now)) (2 ^ 64 - 1) }
+{
+    let mut count: usize = 0;
+    for run in runs {
+        count = count.saturating_add(entries_among(run));
+    }
+    count
 }
 
 #[cycle(sizing)]

@@ -1,14 +1,12 @@
 -- What entries of kept lists show, entry by entry.
-use Rattle.std.proofs.Common.{◌≡◌, refl, ap, ◌∙◌, sym, ℕ, zero, suc, ◌+◌, ◌<◌, ◌≤◌, List, [], ◌∷◌, ◌++◌, length, take, drop, get_or, arith}
-use Rattle.std.proofs.lemmas.List.{take_more, drop_more}
-use Rattle.rd_item.specs.declared.leaf.Leaf as item
+use Rattle.std.proofs.Common.{◌≡◌, refl, ap, ◌∙◌, sym, ℕ, ◌+◌, ◌<◌, List, [], ◌∷◌, ◌++◌, length, drop, get_or}
+use Rattle.std.proofs.lemmas.List.{drop_more}
 use Rattle.rd_item.specs.Items.{Made}
 use Rattle.rd_keys.specs.declared.entry.EntryKey.{EntryKey}
 use Rattle.rd_list.specs.Wrappers.{Wrapper}
-use Rattle.rd_list.specs.Entries.{Entries, nil, leaf, group, ◌▷◌, list_size}
+use Rattle.rd_list.specs.Entries.{Entries, nil, leaf, group, ◌▷◌}
 use Rattle.rd_list.specs.EntryNames.{kept_leaves}
 use Rattle.rd_list.specs.Kept.{Ordered}
-use Rattle.rd_list.specs.KeptView.{kept_entries}
 use Rattle.rd_list.specs.Displayed.{shown}
 use Rattle.rd_list.specs.declared.kept.Entry.{Entry}
 use Rattle.rd_list.specs.declared.kept.Entry.TheVariants as kept

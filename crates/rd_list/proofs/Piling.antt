@@ -8,7 +8,7 @@ use Rattle.rd_list.specs.declared.fresh.NewEntry.{NewEntry}
 use Rattle.rd_list.specs.declared.fresh.NewEntry.TheVariants.{Leaf, Group}
 use Rattle.rd_list.specs.NewView.{new_entries}
 use Rattle.rd_list.specs.Wrappers.{Wrapper}
-use Rattle.rd_list.specs.Nested.{Nested, on_top, list_then, laid_out}
+use Rattle.rd_list.specs.Nested.{Nested, laid_out}
 use Rattle.rd_list.specs.Internal.Piled.{piled, nested_size, IsFilled}
 
 module _ {G L : Type 0} where

@@ -1,12 +1,12 @@
 -- The list without entries is ready where each leaf goes.
-use Rattle.std.proofs.Common.{◌≡◌, refl, ap, ◌∙◌, sym, subst, Bool, true, false, List, [], ◌∷◌, ◌++◌, arith, inl, inr}
-use Rattle.std.specs.Prelude.{Contains, AllPairs, IsTrue}
+use Rattle.std.proofs.Common.{◌≡◌, refl, ap, ◌∙◌, sym, subst, Bool, false, List, [], arith, inl, inr}
+use Rattle.std.specs.Prelude.{Contains}
 use Rattle.rd_graph.specs.Graphs.{nodes}
-use Rattle.rd_graph.specs.Orders.{Before, Once}
+use Rattle.rd_graph.specs.Orders.{Once}
 use Rattle.rd_graph.proofs.Listing.{Has, has_from, contains_from, has_left, has_right}
-use Rattle.rd_list.specs.Entries.{Entries, nil, leaf, group, flat, only, routes, grouped_if_any}
+use Rattle.rd_list.specs.Entries.{Entries, nil, leaf, group, flat, only}
 use Rattle.rd_list.specs.Levels.{Names, keys, level_at, held, StandsFor}
-use Rattle.rd_list.specs.Kept.{KeptList, kept_at, bare, reach_of, KeptReady}
+use Rattle.rd_list.specs.Kept.{KeptList, bare, KeptReady}
 use Rattle.rd_list.specs.EntryNames.{entry_names}
 use Rattle.rd_list.specs.Lists.{leaves_meet}
 use Rattle.rd_list.specs.Display.{DisplayStarting}

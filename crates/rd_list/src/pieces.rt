@@ -238,11 +238,11 @@ impl<A: Ledger> Pieces<A> {
         self.join(replace(from, none))
     }
 
-    /// Lays the entries out on top of a list, each moved once.
+    /// Puts the entries on top of a list, run by run. None of them is moved.
     pub fn lay_out(self, out: &mut NewList<A>) -> Result<(), AllocError>
         ensures { OnOk result (out.new ≡ out.old ▷ laid_out self) }
     {
-        out.entries.reserve(self.entries())?;
+        out.runs.reserve(self.runs())?;
         self.lay(out)
     }
 
@@ -250,20 +250,19 @@ impl<A: Ledger> Pieces<A> {
     fn lay(self, out: &mut NewList<A>) -> Result<(), AllocError>
         ensures { OnOk result (out.new ≡ out.old ▷ laid_out self) }
     {
-        let Pieces { below, mut top } = self;
+        let Pieces { below, top } = self;
         for list in below {
             list.lay(out)?;
         }
-        out.entries.append(&mut top)?;
-        Ok(())
+        out.push_run(top)
     }
 
-    /// How many entries there are.
+    /// How many runs there are at most.
     #[cycle(count)]
-    fn entries(&self) -> usize {
-        let mut count = self.top.len();
+    fn runs(&self) -> usize {
+        let mut count: usize = 1;
         for list in &self.below {
-            count = count.saturating_add(list.entries());
+            count = count.saturating_add(list.runs());
         }
         count
     }

@@ -1,7 +1,8 @@
 -- What the functions that plan a level ask and give, one after another.
-use Rattle.std.proofs.Common.{◌≡◌, refl, ap, ◌∙◌, sym, subst, ℕ, zero, suc, ◌+◌, ◌<◌, ◌≤◌, Bool, true, false, not, ◌&&◌, List, [], ◌∷◌, ◌++◌, length, take, get_or, arith, inl, inr}
+use Rattle.std.proofs.Common.{◌≡◌, refl, ap, ◌∙◌, sym, subst, ℕ, zero, suc, ◌+◌, ◌<◌, ◌≤◌, Bool, true, false, not, ◌&&◌, List, [], ◌∷◌, ◌++◌, length, take, drop, get_or, arith, inl, inr}
 use Rattle.std.specs.Prelude.{Option, Some, None, map, is_some, unwrap_or}
-use Rattle.std.proofs.lemmas.List.{take_more}
+use Rattle.std.proofs.lemmas.List.{take_more, take-append-drop}
+use Rattle.std.specs.declared.vec.Vec.{Vec}
 use Rattle.rd_graph.specs.Graphs.{Graph}
 use Rattle.rd_graph.specs.Names.{is_in, same_entry}
 use Rattle.rd_graph.specs.Patches.{PatchOf, CanBePatched, IsPatched}
@@ -17,14 +18,15 @@ use Rattle.rd_list.specs.Entries.{nil, leaf, group, ◌▷◌, list_size}
 use Rattle.rd_list.specs.EntryNames.{entry_names, made_leaf, kept_leaves, new_names}
 use Rattle.rd_list.specs.Kept.{Ordered, KeptList, within}
 use Rattle.rd_list.specs.KeptView.{kept_entries}
-use Rattle.rd_list.specs.NewView.{new_entries}
+use Rattle.rd_list.specs.Internal.NewFalls.{size-join}
+use Rattle.rd_list.specs.NewView.{new_entries, in_runs}
 use Rattle.rd_list.specs.Views.{group_at}
 use Rattle.rd_list.specs.declared.fresh.NewEntry.{NewEntry}
 use Rattle.rd_list.specs.declared.fresh.NewEntry.TheVariants as new
 use Rattle.rd_list.specs.declared.kept.Entry.{Entry}
 use Rattle.rd_list.specs.declared.kept.Entry.TheVariants as kept
 use Rattle.rd_list.specs.declared.kept.Group.{Group}
-use Rattle.rd_list.proofs.News.{new-append}
+use Rattle.rd_list.proofs.News.{new-append, names-join, runs-append, runs_next, runs_from}
 use Rattle.rd_list.proofs.Viewing.{size_at, group_here}
 use Rattle.rd_merge.specs.Going.{is_untouched}
 use Rattle.rd_merge.specs.Fitting.{FitsFor}
@@ -126,6 +128,79 @@ module _ (touched : BoxKey → Bool) (xs : Olds) where
 
   pub found_long : {A : Type 0} (es : List (NewEntry A)) (i : ℕ) (found : List (Option ℕ)) → i < length es → found ≡ places (new_names (new_entries es)) → i < length found
   found_long es i found h e = let l = ap length e in let n = names_long es in omega (arith, h, l, n)
+
+  -- ---- run after run
+
+  fit_first : (fs bs : News) → EntriesFit touched xs (fs ▷ bs) → EntriesFit touched xs fs
+  fit_first nil bs h = tt
+  fit_first (leaf m fs) bs h = fit_first fs bs h
+  fit_first (group w inner fs) bs h = (h.0, fit_first fs bs h.1)
+
+  fit_rest : (fs bs : News) → EntriesFit touched xs (fs ▷ bs) → EntriesFit touched xs bs
+  fit_rest nil bs h = h
+  fit_rest (leaf m fs) bs h = fit_rest fs bs h
+  fit_rest (group w inner fs) bs h = fit_rest fs bs h.1
+
+  take_places : (ks ls : List EntryKey) (n : ℕ) → n ≡ length ks → take n (places (ks ++ ls)) ≡ places ks
+  take_places [] ls n e = rw e refl
+  take_places (k ∷ ks) ls zero e = absurd (omega (arith, e))
+  take_places (k ∷ ks) ls (suc n) e = ap (λ us. place_in touched xs k ∷ us) (take_places ks ls n (omega (arith, e)))
+
+  drop_places : (ks ls : List EntryKey) (n : ℕ) → n ≡ length ks → drop n (places (ks ++ ls)) ≡ places ls
+  drop_places [] ls n e = rw e refl
+  drop_places (k ∷ ks) ls zero e = absurd (omega (arith, e))
+  drop_places (k ∷ ks) ls (suc n) e = drop_places ks ls n (omega (arith, e))
+
+  long_places : (ks ls : List EntryKey) (n : ℕ) → n ≡ length ks → n ≤ length (places (ks ++ ls))
+  long_places [] ls n e = omega (arith, e)
+  long_places (k ∷ ks) ls zero e = omega arith
+  long_places (k ∷ ks) ls (suc n) e = let r = long_places ks ls n (omega (arith, e)) in omega (arith, r)
+
+  named_all : {A : Type 0} (es : List (NewEntry A)) → length (new_names (new_entries es)) ≡ length es
+  named_all [] = refl
+  named_all (new.Leaf m ∷ es) = ap suc (named_all es)
+  named_all (new.Group k o inner ∷ es) = ap suc (named_all es)
+
+  module _ {A B : Type 0} (rs : List (Vec (NewEntry A) B)) (i : ℕ) (r : Vec (NewEntry A) B) (there : i < length rs) (is : r ≡ get_or rs i r) where
+    pub run_fits : (es : List (NewEntry A)) → es ≡ r.items → EntriesFit touched xs (in_runs rs) → EntriesFit touched xs (new_entries es)
+    run_fits es e f =
+        let parts : in_runs (take i rs) ▷ in_runs (drop i rs) ≡ in_runs rs = sym (runs-append (take i rs) (drop i rs)) ∙ ap in_runs (take-append-drop i rs) in
+        let rest = fit_rest (in_runs (take i rs)) (in_runs (drop i rs)) (subst (λ (z : News). EntriesFit touched xs z) (sym parts) f) in
+        subst (λ (ys : List (NewEntry A)). EntriesFit touched xs (new_entries ys)) (sym e) (fit_first (new_entries r.items) (in_runs (drop (suc i) rs)) (subst (λ (z : News). EntriesFit touched xs z) (runs_from rs i r there is) rest))
+
+    module _ (n : ℕ) (long : n ≡ length r.items) (found : List (Option ℕ)) (was : found ≡ places (new_names (in_runs (drop i rs)))) where
+      apart : found ≡ places (new_names (new_entries r.items) ++ new_names (in_runs (drop (suc i) rs)))
+      apart = was ∙ ap (λ z. places (new_names z)) (runs_from rs i r there is) ∙ ap places (names-join (new_entries r.items) (in_runs (drop (suc i) rs)))
+
+      named : n ≡ length (new_names (new_entries r.items))
+      named = long ∙ sym (named_all r.items)
+
+      pub run_within : n ≤ length found
+      run_within = rw apart (long_places (new_names (new_entries r.items)) (new_names (in_runs (drop (suc i) rs))) n named)
+
+      pub run_found : (es : List (NewEntry A)) → es ≡ r.items → take n found ≡ places (new_names (new_entries es))
+      run_found es e = ap (λ us. take n us) apart ∙ take_places (new_names (new_entries r.items)) (new_names (in_runs (drop (suc i) rs))) n named ∙ ap (λ ys. places (new_names (new_entries ys))) (sym e)
+
+      pub run_after : drop n found ≡ places (new_names (in_runs (drop (i + 1) rs)))
+      run_after =
+          let one : suc i ≡ i + 1 = omega arith in
+          ap (λ us. drop n us) apart ∙ drop_places (new_names (new_entries r.items)) (new_names (in_runs (drop (suc i) rs))) n named ∙ ap (λ k. places (new_names (in_runs (drop k rs)))) one
+
+    pub run_steps : (es : List (NewEntry A)) (now more then : List (Step A)) → es ≡ r.items → NewSteps touched xs (in_runs (take i rs)) (steps_seen now) → NewSteps touched xs (new_entries es) (steps_seen more) → then ≡ now ++ more
+        → NewSteps touched xs (in_runs (take (i + 1) rs)) (steps_seen then)
+    run_steps es now more then e was this next =
+        subst (λ (z : News). NewSteps touched xs z (steps_seen then)) (ap (λ ys. in_runs (take i rs) ▷ new_entries ys) e ∙ runs_next rs i r there is)
+        (subst (λ (z : Steps). NewSteps touched xs (in_runs (take i rs) ▷ new_entries es) z) (sym (ap steps_seen next ∙ steps_append now more))
+        (new_join (in_runs (take i rs)) (new_entries es) (steps_seen now) (steps_seen more) was this))
+
+    pub run_size_at : (es : List (NewEntry A)) → es ≡ r.items → list_size (new_entries es) ≤ list_size (in_runs rs)
+    run_size_at es e =
+        let parts = ap list_size (sym (runs-append (take i rs) (drop i rs)) ∙ ap in_runs (take-append-drop i rs)) in
+        let all = size-join (in_runs (take i rs)) (in_runs (drop i rs)) in
+        let rest = ap list_size (runs_from rs i r there is) in
+        let first = size-join (new_entries r.items) (in_runs (drop (suc i) rs)) in
+        let same = ap (λ ys. list_size (new_entries ys)) e in
+        omega (arith, parts, all, rest, first, same)
 
   pub groups_at : (is : List ℕ) (i : ℕ) → i < length is → GroupsFit touched xs is → GroupFits touched xs (Some (get_or is i 0)) nil
   groups_at [] i h f = absurd (omega (arith, h))

@@ -7,3 +7,4 @@ pub mod PlanFalls
 pub mod Planning
 pub mod PlanRoom
 pub mod Sought
+pub mod Untaken

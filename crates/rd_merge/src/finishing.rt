@@ -1,20 +1,19 @@
 //! The second half of a merge: entries are put at their places in the kept list, and nothing takes memory.
 ghost use Rattle.std.specs.Prelude.{◌≡◌, ◌≤◌, ◌+◌, ◌∷◌, [], vec_len, vec_capacity};
-ghost use Rattle.std.specs.Vec.Iter.{into_iter_items};
 ghost use Rattle.rd_list.specs.Entries.{◌▷◌};
 ghost use Rattle.rd_list.specs.KeptView.{kept_entries};
-ghost use Rattle.rd_list.specs.NewView.{new_entries};
 ghost use Rattle.rd_merge.specs.Plans.{IsGroupPlace, IsNamed, PlacesFit, StepsFit, filled, grouped_as, left_for, list_for, made_count, old_list, stepped, wrapper_for};
 ghost use Rattle.rd_merge.specs.PlanView.{steps_seen};
 ghost use Rattle.rd_merge.specs.Internal.Moving.{IsSameBut, left_after};
+ghost use Rattle.rd_merge.specs.Internal.Untaken.{untaken};
 
 use crate::moving::{in_line, put};
 use crate::opening::{next_leaf, open};
 use crate::plan::{Plan, Step};
-use rd_list::{Entry, Group, Kept, NewEntry, NewList};
+use crate::taking::NewEntries;
+use rd_list::{Entry, Group, Kept, NewList};
 use std::alloc::Global;
 use std::sync::ledger::Ledger;
-use std::vec::IntoIter;
 
 /// The plan, filled from the two lists: new entries are put at their places, and the rest stays where it is unless the plan has a line.
 /// It takes no memory.
@@ -31,7 +30,7 @@ pub fn finish<A: Ledger>(kept: Kept<A>, new: NewList<A>, plan: Plan<A>) -> Kept<
         room,
     } = plan;
     let mut entries = kept.entries;
-    let mut fresh = new.entries.into_iter();
+    let mut fresh = NewEntries::new(alloc, new);
     for step in steps {
         finish_step(alloc, &mut entries, &mut made, &mut fresh, step);
     }
@@ -48,17 +47,17 @@ fn finish_step<A: Ledger>(
     alloc: Global,
     entries: &mut Vec<Entry<A>>,
     made: &mut Vec<Entry<A>>,
-    fresh: &mut IntoIter<NewEntry<A>, Global>,
+    fresh: &mut NewEntries<A>,
     step: Step<A>,
 )
     requires fits { StepsFit (vec_len entries.old) (steps_seen (step ∷ []))
-        (kept_entries entries.old.items ▷ kept_entries made.old.items) (new_entries (into_iter_items fresh.old)) }
+        (kept_entries entries.old.items ▷ kept_entries made.old.items) (untaken fresh.old) }
     requires room { vec_len made.old + made_count (steps_seen (step ∷ [])) ≤ vec_capacity made.old }
     ensures stepped { kept_entries entries.new.items ▷ kept_entries made.new.items
         ≡ stepped (steps_seen (step ∷ []))
-        (kept_entries entries.old.items ▷ kept_entries made.old.items) (new_entries (into_iter_items fresh.old)) }
-    ensures left { new_entries (into_iter_items fresh.new)
-        ≡ left_after (steps_seen (step ∷ [])) (new_entries (into_iter_items fresh.old)) }
+        (kept_entries entries.old.items ▷ kept_entries made.old.items) (untaken fresh.old) }
+    ensures left { untaken fresh.new
+        ≡ left_after (steps_seen (step ∷ [])) (untaken fresh.old) }
     ensures entries { vec_len entries.new ≡ vec_len entries.old }
     ensures made { vec_len made.new ≡ vec_len made.old + made_count (steps_seen (step ∷ [])) }
     ensures room { vec_capacity made.old ≤ vec_capacity made.new }
@@ -80,20 +79,20 @@ fn finish_step<A: Ledger>(
 fn finish_group<A: Ledger>(
     alloc: Global,
     entries: &mut Vec<Entry<A>>,
-    fresh: &mut IntoIter<NewEntry<A>, Global>,
+    fresh: &mut NewEntries<A>,
     old: Option<usize>,
     is_new: bool,
     plan: Plan<A>,
 ) -> Entry<A>
     requires group { IsGroupPlace old (kept_entries entries.old.items) }
-    requires named { IsNamed is_new old (new_entries (into_iter_items fresh.old)) }
+    requires named { IsNamed is_new old (untaken fresh.old) }
     requires fits { PlacesFit plan (old_list old (kept_entries entries.old.items))
-        (list_for is_new (new_entries (into_iter_items fresh.old))) }
+        (list_for is_new (untaken fresh.old)) }
     ensures made { kept_entries (result ∷ []) ≡ grouped_as
-        (wrapper_for is_new old (kept_entries entries.old.items) (new_entries (into_iter_items fresh.old)))
-        (filled plan (old_list old (kept_entries entries.old.items)) (list_for is_new (new_entries (into_iter_items fresh.old)))) }
-    ensures left { new_entries (into_iter_items fresh.new)
-        ≡ left_for is_new (new_entries (into_iter_items fresh.old)) }
+        (wrapper_for is_new old (kept_entries entries.old.items) (untaken fresh.old))
+        (filled plan (old_list old (kept_entries entries.old.items)) (list_for is_new (untaken fresh.old))) }
+    ensures left { untaken fresh.new
+        ≡ left_for is_new (untaken fresh.old) }
     ensures others { IsSameBut old (kept_entries entries.old.items) (kept_entries entries.new.items) }
     ensures len { vec_len entries.new ≡ vec_len entries.old }
 {

@@ -1,19 +1,19 @@
 //! New entries are taken one after another, and groups out of their places.
 ghost use Rattle.std.specs.Prelude.{◌≡◌, ◌∷◌, [], true, Some, is_some, vec_len};
-ghost use Rattle.std.specs.Vec.Iter.{into_iter_items};
 ghost use Rattle.rd_list.specs.KeptView.{kept_entries};
 ghost use Rattle.rd_list.specs.NewView.{new_entries};
 ghost use Rattle.rd_list.specs.Views.{group_at};
 ghost use Rattle.rd_list.specs.Wrappers.{wrapper};
 ghost use Rattle.rd_merge.specs.Plans.{IsGroupPlace, IsNamed, IsPlace, first_leaf, first_list, first_wrapper, later, left_for, list_for, old_list, size_of, wrapper_at, wrapper_for};
 ghost use Rattle.rd_merge.specs.Internal.Moving.{IsSameBut};
+ghost use Rattle.rd_merge.specs.Internal.Untaken.{untaken};
 
 use crate::moving::take_at;
+use crate::taking::NewEntries;
 use rd_keys::BoxKey;
 use rd_list::{Entry, Group, Kept, NewEntry, NewList};
 use std::alloc::Global;
 use std::sync::ledger::Ledger;
-use std::vec::IntoIter;
 
 /// What a new list says of a group, and the group's new list.
 #[derive(Drop)]
@@ -44,26 +44,28 @@ fn as_kept<A: Ledger>(entry: NewEntry<A>) -> Entry<A>
 }
 
 /// The next new entry, which is a leaf.
-pub(crate) fn next_leaf<A: Ledger>(fresh: &mut IntoIter<NewEntry<A>, Global>) -> Entry<A>
-    requires { size_of (first_leaf (new_entries (into_iter_items fresh.old))) ≡ 1 }
-    ensures leaf { kept_entries (result ∷ []) ≡ first_leaf (new_entries (into_iter_items fresh.old)) }
-    ensures left { new_entries (into_iter_items fresh.new) ≡ later (new_entries (into_iter_items fresh.old)) }
+pub(crate) fn next_leaf<A: Ledger>(fresh: &mut NewEntries<A>) -> Entry<A>
+    requires { size_of (first_leaf (untaken fresh.old)) ≡ 1 }
+    ensures leaf { kept_entries (result ∷ []) ≡ first_leaf (untaken fresh.old) }
+    ensures left { untaken fresh.new ≡ later (untaken fresh.old) }
 {
-    match fresh.next() {
+    fresh.turn();
+    match fresh.run.next() {
         Some(entry) => as_kept(entry),
         None => unreachable!(),
     }
 }
 
 /// The next new entry, which is a group.
-fn next_group<A: Ledger>(fresh: &mut IntoIter<NewEntry<A>, Global>) -> NewGroup<A>
-    requires { is_some (first_wrapper (new_entries (into_iter_items fresh.old))) ≡ true }
-    ensures named { first_wrapper (new_entries (into_iter_items fresh.old))
+fn next_group<A: Ledger>(fresh: &mut NewEntries<A>) -> NewGroup<A>
+    requires { is_some (first_wrapper (untaken fresh.old)) ≡ true }
+    ensures named { first_wrapper (untaken fresh.old)
         ≡ Some (wrapper result.key result.opacity) }
-    ensures inner { result.inner ≡ first_list (new_entries (into_iter_items fresh.old)) }
-    ensures left { new_entries (into_iter_items fresh.new) ≡ later (new_entries (into_iter_items fresh.old)) }
+    ensures inner { result.inner ≡ first_list (untaken fresh.old) }
+    ensures left { untaken fresh.new ≡ later (untaken fresh.old) }
 {
-    match fresh.next() {
+    fresh.turn();
+    match fresh.run.next() {
         Some(NewEntry::Leaf(_)) => unreachable!(),
         Some(
             NewEntry::Group {
@@ -98,18 +100,18 @@ fn take_group<A: Ledger>(alloc: Global, entries: &mut Vec<Entry<A>>, place: usiz
 pub(crate) fn open<A: Ledger>(
     alloc: Global,
     entries: &mut Vec<Entry<A>>,
-    fresh: &mut IntoIter<NewEntry<A>, Global>,
+    fresh: &mut NewEntries<A>,
     old: Option<usize>,
     is_new: bool,
 ) -> Opened<A>
     requires group { IsGroupPlace old (kept_entries entries.old.items) }
-    requires named { IsNamed is_new old (new_entries (into_iter_items fresh.old)) }
-    ensures named { wrapper_for is_new old (kept_entries entries.old.items) (new_entries (into_iter_items fresh.old))
+    requires named { IsNamed is_new old (untaken fresh.old) }
+    ensures named { wrapper_for is_new old (kept_entries entries.old.items) (untaken fresh.old)
         ≡ Some (wrapper result.key result.opacity) }
     ensures kept { result.kept ≡ old_list old (kept_entries entries.old.items) }
-    ensures new { result.new ≡ list_for is_new (new_entries (into_iter_items fresh.old)) }
-    ensures left { new_entries (into_iter_items fresh.new)
-        ≡ left_for is_new (new_entries (into_iter_items fresh.old)) }
+    ensures new { result.new ≡ list_for is_new (untaken fresh.old) }
+    ensures left { untaken fresh.new
+        ≡ left_for is_new (untaken fresh.old) }
     ensures others { IsSameBut old (kept_entries entries.old.items) (kept_entries entries.new.items) }
     ensures len { vec_len entries.new ≡ vec_len entries.old }
 {

@@ -3,7 +3,7 @@ ghost use Rattle.std.specs.Prelude.{◌≡◌, ◌∷◌, [], Some, IfOk, map};
 ghost use Rattle.rd_graph.specs.Patches.{line_of};
 ghost use Rattle.rd_list.specs.Entries as list;
 ghost use Rattle.rd_list.specs.EntryNames.{new_names};
-ghost use Rattle.rd_list.specs.NewView.{new_entries};
+ghost use Rattle.rd_list.specs.NewView.{new_entries, in_runs};
 ghost use Rattle.rd_merge.specs.Going.{is_untouched};
 ghost use Rattle.rd_merge.specs.Fitting.{FitsFor};
 ghost use Rattle.rd_merge.specs.Merging.{CanBeMerged, IsPlan, MergedInto, StandsAfter};
@@ -59,12 +59,12 @@ fn plan_level<A: Ledger, T: Touches>(
     requires { FitsFor (is_untouched (T.is_touched tree.now)) kept.now new.now }
     ensures { IfOk result (IsPlan (T.is_touched tree.now) kept.now new.now) }
 {
-    let names = new_keys(alloc, &new.entries)?;
+    let names = new_keys(alloc, new)?;
     let looked = look(alloc, &kept.entries, &names, tree)?;
     let patch = kept
         .graph
         .patch(alloc, &looked.gone, &names, &looked.found)?;
-    let mut steps = plan_entries(alloc, kept, &new.entries, &looked.found, tree)?;
+    let mut steps = plan_entries(alloc, kept, &new.runs, &looked.found, tree)?;
     let mut inner = plan_groups(alloc, kept, &looked.inner, tree)?;
     steps.append(&mut inner)?;
     let made = Vec::with_capacity(alloc, names.len())?;
@@ -78,10 +78,36 @@ fn plan_level<A: Ledger, T: Touches>(
     })
 }
 
-/// The steps of the entries of a new level, which have these places in the kept one. Groups that the new level does not name
-/// and in which nothing is touched have no step: they stand as they were.
+/// The steps of the entries of these runs of a new level, which have these places in the kept one. Groups that the new
+/// level does not name and in which nothing is touched have no step: they stand as they were.
 #[cycle(planning)]
 fn plan_entries<A: Ledger, T: Touches>(
+    alloc: Global,
+    kept: &Kept<A>,
+    runs: &[Vec<NewEntry<A>>],
+    found: &[Option<usize>],
+    tree: &T,
+) -> Result<Vec<Step<A>>, AllocError>
+    requires fit { EntriesFit (T.is_touched tree.now) kept.now.entries (in_runs runs.now) }
+    requires found { found.now
+        ≡ map (λ k. place_in (T.is_touched tree.now) kept.now.entries k) (new_names (in_runs runs.now)) }
+    ensures { IfOk result (λ v.
+        NewSteps (T.is_touched tree.now) kept.now.entries (in_runs runs.now) (steps_seen v.items)) }
+{
+    let mut steps = Vec::with_capacity(alloc, found.len())?;
+    let mut rest = found;
+    for run in runs {
+        let (here, after) = rest.split_at(run.len());
+        let mut more = plan_run(alloc, kept, run, here, tree)?;
+        steps.append(&mut more)?;
+        rest = after;
+    }
+    Ok(steps)
+}
+
+/// The steps of the entries of a run, which have these places in the kept level.
+#[cycle(planning)]
+fn plan_run<A: Ledger, T: Touches>(
     alloc: Global,
     kept: &Kept<A>,
     new: &[NewEntry<A>],

@@ -3,6 +3,7 @@ ghost use Rattle.std.specs.Prelude.{◌≡◌, ◌<◌, ◌++◌, ◌∷◌, [],
 ghost use Rattle.rd_geom.specs.Plane.{has_none};
 ghost use Rattle.rd_list.specs.Apart.{LevelsApart};
 ghost use Rattle.rd_list.specs.Entries as list;
+ghost use Rattle.rd_list.specs.Entries.{◌▷◌};
 ghost use Rattle.rd_list.specs.EntryNames.{entry_names, new_leaves};
 ghost use Rattle.rd_list.specs.NewView.{new_entries};
 
@@ -45,6 +46,21 @@ fn put<A: Ledger>(rt: &impl Abort, entries: &mut Vec<NewEntry<A>>, entry: NewEnt
     entries.push(entry).expect(rt, "room for an entry");
 }
 
+/// A list of a run and another on top of it.
+pub(super) fn in_two<A: Ledger>(
+    rt: &impl Abort,
+    alloc: Global,
+    low: Vec<NewEntry<A>>,
+    high: Vec<NewEntry<A>>,
+) -> NewList<A>
+    ensures { result ≡ new_entries low.items ▷ new_entries high.items }
+{
+    let mut list = NewList::empty(alloc);
+    list.push_run(low).expect(rt, "room for a run");
+    list.push_run(high).expect(rt, "room for a run");
+    list
+}
+
 // The back of a box, and a group with its border and its content.
 fn nested<A: Ledger>(
     rt: &impl Abort,
@@ -64,10 +80,11 @@ fn nested<A: Ledger>(
     let group = NewEntry::Group {
         key: owner,
         opacity: 128,
-        inner: NewList { entries: inside },
+        inner: in_two(rt, alloc, inside, Vec::new(alloc)),
     };
-    put(rt, &mut entries, group);
-    NewList { entries }
+    let mut top = Vec::new(alloc);
+    put(rt, &mut top, group);
+    in_two(rt, alloc, entries, top)
 }
 
 // A graph has so many names.

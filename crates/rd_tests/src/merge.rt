@@ -11,6 +11,7 @@ mod drawing;
 mod drawn;
 mod matrix;
 
+use super::list::in_two;
 use super::planting::rect_of;
 use drawn::compare;
 use rd_geom::{Color, Rect, Steps};
@@ -84,7 +85,8 @@ fn whole<A: Ledger>(
 {
     let mut inner = Vec::new(alloc);
     put(rt, &mut inner, leaf(one, Part::Border, inside, 1, made));
-    put(rt, &mut inner, leaf(other, Part::Back, inside, 1, made));
+    let mut upper = Vec::new(alloc);
+    put(rt, &mut upper, leaf(other, Part::Back, inside, 1, made));
     let mut entries = Vec::new(alloc);
     put(rt, &mut entries, leaf(one, Part::Back, outside, 1, made));
     put(
@@ -93,11 +95,12 @@ fn whole<A: Ledger>(
         NewEntry::Group {
             key: one,
             opacity: 128,
-            inner: NewList { entries: inner },
+            inner: in_two(rt, alloc, inner, upper),
         },
     );
-    put(rt, &mut entries, leaf(one, Part::Content, outside, 1, made));
-    NewList { entries }
+    let mut top = Vec::new(alloc);
+    put(rt, &mut top, leaf(one, Part::Content, outside, 1, made));
+    in_two(rt, alloc, entries, top)
 }
 
 fn part<A: Ledger>(
@@ -121,10 +124,10 @@ fn part<A: Ledger>(
         NewEntry::Group {
             key: one,
             opacity: 128,
-            inner: NewList { entries: inner },
+            inner: in_two(rt, alloc, inner, Vec::new(alloc)),
         },
     );
-    NewList { entries }
+    in_two(rt, alloc, entries, Vec::new(alloc))
 }
 
 fn is_leaf<A: Ledger>(entry: &Entry<A>, owner: BoxKey, part: Part, at: u64) -> bool {
@@ -176,16 +179,13 @@ fn late<A: Ledger>(
         NewEntry::Group {
             key: one,
             opacity: 128,
-            inner: NewList { entries: inner },
+            inner: in_two(rt, alloc, inner, Vec::new(alloc)),
         },
     );
-    put(
-        rt,
-        &mut entries,
-        leaf(other, Part::Content, inside, 2, made),
-    );
-    put(rt, &mut entries, leaf(one, Part::Content, outside, 2, made));
-    NewList { entries }
+    let mut top = Vec::new(alloc);
+    put(rt, &mut top, leaf(other, Part::Content, inside, 2, made));
+    put(rt, &mut top, leaf(one, Part::Content, outside, 2, made));
+    in_two(rt, alloc, entries, top)
 }
 
 // Two entries of one box and a group of one leaf between them.

@@ -142,12 +142,14 @@ fn put<B: Ledger>(rt: &impl Abort, tree: &Tree<B>, owner: BoxKey, part: Part, ou
 fn new_leaves<A: Ledger, B: Ledger>(
     rt: &impl Abort,
     tree: &Tree<B>,
-    entries: &[NewEntry<A>],
+    list: &NewList<A>,
     out: &mut String,
 ) {
-    for entry in entries {
-        if let NewEntry::Leaf(item) = entry {
-            put(rt, tree, item.owner(), item.part(), out);
+    for run in &list.runs {
+        for entry in run {
+            if let NewEntry::Leaf(item) = entry {
+                put(rt, tree, item.owner(), item.part(), out);
+            }
         }
     }
 }
@@ -156,16 +158,18 @@ fn new_leaves<A: Ledger, B: Ledger>(
 fn new_words<A: Ledger, B: Ledger>(
     rt: &impl Abort,
     tree: &Tree<B>,
-    entries: &[NewEntry<A>],
+    list: &NewList<A>,
     out: &mut String,
 ) {
-    for entry in entries {
-        match entry {
-            NewEntry::Leaf(item) => put(rt, tree, item.owner(), item.part(), out),
-            NewEntry::Group { opacity, inner, .. } => {
-                say(rt, out, mark(*opacity));
-                new_leaves(rt, tree, &inner.entries, out);
-                say(rt, out, ") ");
+    for run in &list.runs {
+        for entry in run {
+            match entry {
+                NewEntry::Leaf(item) => put(rt, tree, item.owner(), item.part(), out),
+                NewEntry::Group { opacity, inner, .. } => {
+                    say(rt, out, mark(*opacity));
+                    new_leaves(rt, tree, inner, out);
+                    say(rt, out, ") ");
+                }
             }
         }
     }
@@ -222,10 +226,12 @@ fn kept_entry<A: Ledger>(alloc: Global, entry: NewEntry<A>) -> Entry<A> {
 /// A list as a kept one, without what is in its groups.
 fn kept<A: Ledger>(rt: &impl Abort, alloc: Global, list: NewList<A>) -> Kept<A> {
     let mut entries = Vec::new(alloc);
-    for entry in list.entries {
-        entries
-            .push(kept_entry(alloc, entry))
-            .expect(rt, "room for an entry");
+    for run in list.runs {
+        for entry in run {
+            entries
+                .push(kept_entry(alloc, entry))
+                .expect(rt, "room for an entry");
+        }
     }
     let graph = OrderGraph::empty(alloc);
     Kept { entries, graph }
@@ -291,11 +297,11 @@ fn has_words<A: Ledger, B: Ledger>(
     rt: &impl Abort,
     alloc: Global,
     tree: &Tree<B>,
-    entries: &[NewEntry<A>],
+    list: &NewList<A>,
     want: &str,
 ) {
     let mut words = String::new(alloc);
-    new_words(rt, tree, entries, &mut words);
+    new_words(rt, tree, list, &mut words);
     assert_eq!(rt; words.as_str(), want);
 }
 
@@ -308,7 +314,7 @@ fn whole<A: Ledger, B: Ledger>(
     looks: &mut Steps<B>,
 ) -> NewList<A> {
     let all = build_all(alloc, tree, 7, made, looks).expect(rt, "a list");
-    has_words(rt, alloc, tree, &all.entries, WHOLE);
+    has_words(rt, alloc, tree, &all, WHOLE);
     all
 }
 
@@ -339,7 +345,7 @@ fn in_one_pixel<A: Ledger, B: Ledger>(
     assert!(rt; tree.canvas() == CANVAS);
     let area = one_pixel(rt, alloc);
     let part = build(alloc, tree, &area, 8, made, looks).expect(rt, "a list");
-    has_words(rt, alloc, tree, &part.entries, "root- k- kb ko ");
+    has_words(rt, alloc, tree, &part, "root- k- kb ko ");
 }
 
 /// The lists of the document, and its area where the block moves.

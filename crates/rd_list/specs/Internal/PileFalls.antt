@@ -1,7 +1,6 @@
 -- No list below is as large as the whole.
 use Rattle.std.specs.Prelude.{◌≤◌, ◌+◌, List, [], ◌∷◌}
 use Rattle.std.proofs.Common.{arith}
-use Rattle.std.specs.declared.sync.ledger.Ledger.{Ghosts}
 use denote.Param.Weighed.{most}
 use Rattle.rd_item.specs.Items.{Made}
 use Rattle.rd_list.specs.Wrappers.{Wrapper}

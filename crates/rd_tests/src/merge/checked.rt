@@ -245,7 +245,9 @@ fn new_list<A: Ledger>(
         let is_wanted = is_among(area, spot.0);
         push_leaf(&mut entries, is_wanted, spot, at, made)?;
     }
-    Ok(Some(NewList { entries }))
+    let mut list = NewList::empty(alloc);
+    list.push_run(entries)?;
+    Ok(Some(list))
 }
 
 /// The merge of a kept level of these spots with those of the next ones that are of the boxes of an area.

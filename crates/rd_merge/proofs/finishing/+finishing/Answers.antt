@@ -1,11 +1,10 @@
 use Rattle.std.proofs.Common.{arith, ap, ◌∙◌, ◌≡◌, ◌+◌, ◌∷◌, []}
 use Rattle.std.specs.Prelude.{option_map, vec_len}
-use Rattle.std.specs.Vec.Iter.{into_iter_items}
 use Rattle.rd_graph.specs.Patches.{line_of}
 use Rattle.rd_graph.proofs.PutInPlace.{fits}
 use Rattle.rd_list.specs.Entries.{◌▷◌, list_size}
 use Rattle.rd_list.specs.KeptView.{kept_entries}
-use Rattle.rd_list.specs.NewView.{new_entries}
+use Rattle.rd_merge.specs.Internal.Untaken.{untaken}
 use Rattle.rd_merge.specs.Plans.{size_of, made_count}
 use Rattle.rd_merge.specs.PlanView.{steps_seen}
 use Rattle.rd_merge.proofs.InPlace.{kept-size}
@@ -19,7 +18,7 @@ finish-loop-step-init g t c =
     let made_ok = c.plan.inside.made.ok in
     let empty = c.plan.invariant.0 in
     let level = start_level c.kept.inside.entries.items c.plan.inside.made.items (omega (arith, made_ok.0, empty)) ∙ ap (λ k. k.entries) c.kept.view_is in
-    let news = ap new_entries c.into_iter-fresh.ensures.rest ∙ c.new.view_is in
+    let news = c.new-fresh.ensures in
     let ok = c.kept.inside.entries.ok in
     let size = kept-size c.kept.inside.entries.items in
     let kept_size = ap (λ k. size_of k.entries) c.kept.view_is in
@@ -29,8 +28,8 @@ finish-loop-step-init g t c =
     let listed = ap list_size steps in (
       tt,
       tt,
-      start_fits (size_of c.args.kept.entries) (steps_seen c.into_iter-step-iterator.result.rest.items) c.args.plan.steps (kept_entries c.kept.inside.entries.items ▷ kept_entries c.plan.inside.made.items) c.args.kept.entries (new_entries (into_iter_items c.into_iter-fresh.result)) c.args.new steps level news c.requires.steps,
-      start_stepped (size_of c.args.kept.entries) (steps_seen c.into_iter-step-iterator.result.rest.items) c.args.plan.steps (kept_entries c.kept.inside.entries.items ▷ kept_entries c.plan.inside.made.items) c.args.kept.entries (new_entries (into_iter_items c.into_iter-fresh.result)) c.args.new steps level news,
+      start_fits (size_of c.args.kept.entries) (steps_seen c.into_iter-step-iterator.result.rest.items) c.args.plan.steps (kept_entries c.kept.inside.entries.items ▷ kept_entries c.plan.inside.made.items) c.args.kept.entries (untaken c.new-fresh.result) c.args.new steps level news c.requires.steps,
+      start_stepped (size_of c.args.kept.entries) (steps_seen c.into_iter-step-iterator.result.rest.items) c.args.plan.steps (kept_entries c.kept.inside.entries.items ▷ kept_entries c.plan.inside.made.items) c.args.kept.entries (untaken c.new-fresh.result) c.args.new steps level news,
       omega (arith, ok.0, size, kept_size),
       omega (arith, empty, count),
       omega (arith, room, counted),
@@ -55,7 +54,7 @@ finish-finish_step-requires g t c κs within =
       (
         within,
         (
-          now_fits (size_of c.args.kept.entries) s more (kept_entries c.loop-step.entries.items ▷ kept_entries c.loop-step.made.items) (new_entries (into_iter_items c.loop-step.fresh)) c.loop-step.step-iterator.rest.items next (vec_len c.loop-step.entries) inv.4 inv.2,
+          now_fits (size_of c.args.kept.entries) s more (kept_entries c.loop-step.entries.items ▷ kept_entries c.loop-step.made.items) (untaken c.loop-step.fresh) c.loop-step.step-iterator.rest.items next (vec_len c.loop-step.entries) inv.4 inv.2,
           omega (arith, count, counted, room),
         ),
       ),
@@ -69,9 +68,9 @@ finish-loop-step-preserved g t c =
     let next = c.in-Some.ensures.steps.0 in
     let inv = c.loop-step.invariant in
     let k = kept_entries c.loop-step.entries.items ▷ kept_entries c.loop-step.made.items in
-    let n = new_entries (into_iter_items c.loop-step.fresh) in
+    let n = untaken c.loop-step.fresh in
     let k2 = kept_entries c.finish_step.new.entries.items ▷ kept_entries c.finish_step.new.made.items in
-    let n2 = new_entries (into_iter_items c.finish_step.new.fresh) in
+    let n2 = untaken c.finish_step.new.fresh in
     let size = ap (λ zs. list_size (steps_seen zs)) next ∙ first_size s more in
     let count = ap (λ zs. made_count (steps_seen zs)) next ∙ first_made s more in
     let listed = inv.7 in
@@ -120,7 +119,7 @@ finish_step-finish_group-entry-requires g t c κs within =
     let ok = c.args.entries.now.ok in
     let k = kept_entries c.args.entries.now.items in
     let m = kept_entries c.args.made.now.items in
-    let n = new_entries (into_iter_items c.args.fresh.now) in
+    let n = untaken c.args.fresh.now in
     let size = kept-size c.args.entries.now.items in
     let long : size_of k ≡ vec_len c.args.entries.now = omega (arith, size, ok.0) in
     let smaller = group_size c.args.step i.old i.is_new i.plan i.is c.into_inner.result c.into_inner.ensures in (
@@ -144,7 +143,7 @@ finish_step-returns-in-Group-clause-stepped g t c =
     let later = c.finish_group-entry.new.entries.ok in
     let k = kept_entries c.args.entries.now.items in
     let m = kept_entries c.args.made.now.items in
-    let n = new_entries (into_iter_items c.args.fresh.now) in
+    let n = untaken c.args.fresh.now in
     let size = kept-size c.args.entries.now.items in
     let size_later = kept-size c.finish_group-entry.new.entries.items in
     let len = c.finish_group-entry.ensures.len in

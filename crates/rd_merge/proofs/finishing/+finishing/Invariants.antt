@@ -1,9 +1,8 @@
 use Rattle.std.proofs.Common.{◌≡◌, ◌≤◌, ◌+◌, ◌*◌, ◌∷◌, []}
 use Rattle.std.specs.Prelude.{vec_len, vec_capacity}
-use Rattle.std.specs.Vec.Iter.{into_iter_items}
 use Rattle.rd_list.specs.Entries.{list_size, ◌▷◌}
 use Rattle.rd_list.specs.KeptView.{kept_entries}
-use Rattle.rd_list.specs.NewView.{new_entries}
+use Rattle.rd_merge.specs.Internal.Untaken.{untaken}
 use Rattle.rd_merge.specs.Plans.{StepsFit, made_count, size_of, stepped}
 use Rattle.rd_merge.specs.PlanView.{steps_seen}
 use Rattle.rd_merge.proofs.finishing.+finishing.Given as goal
@@ -21,8 +20,8 @@ abbrev pub invariant-finish-loop-step : goal.invariant-finish-loop-step
 invariant-finish-loop-step g l =
     (goal.iterator-finish-loop-step g).can_next l.step-iterator ×
     (goal.iterator-finish-loop-step g).is_finite l.step-iterator ×
-    StepsFit (size_of l.fn.kept.entries) (steps_seen l.step-iterator.rest.items) (kept_entries l.entries.items ▷ kept_entries l.made.items) (new_entries (into_iter_items l.fresh)) ×
-    (stepped (steps_seen l.step-iterator.rest.items) (kept_entries l.entries.items ▷ kept_entries l.made.items) (new_entries (into_iter_items l.fresh)) ≡ stepped l.fn.plan.steps l.fn.kept.entries l.fn.new) ×
+    StepsFit (size_of l.fn.kept.entries) (steps_seen l.step-iterator.rest.items) (kept_entries l.entries.items ▷ kept_entries l.made.items) (untaken l.fresh) ×
+    (stepped (steps_seen l.step-iterator.rest.items) (kept_entries l.entries.items ▷ kept_entries l.made.items) (untaken l.fresh) ≡ stepped l.fn.plan.steps l.fn.kept.entries l.fn.new) ×
     (vec_len l.entries ≡ size_of l.fn.kept.entries) ×
     (vec_len l.made + made_count (steps_seen l.step-iterator.rest.items) ≡ made_count l.fn.plan.steps) ×
     (made_count l.fn.plan.steps ≤ vec_capacity l.made) ×

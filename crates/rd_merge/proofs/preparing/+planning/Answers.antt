@@ -5,7 +5,7 @@ use Rattle.rd_graph.specs.Patches.{FitsPatch}
 use Rattle.rd_list.specs.Entries.{list_size, nil}
 use Rattle.rd_list.specs.EntryNames.{new_names}
 use Rattle.rd_list.specs.KeptView.{kept_entries}
-use Rattle.rd_list.specs.NewView.{new_entries}
+use Rattle.rd_list.specs.NewView.{new_entries, in_runs}
 use Rattle.rd_merge.specs.Going.{is_untouched}
 use Rattle.rd_merge.specs.Fitting.{FitsFor}
 use Rattle.rd_merge.specs.Looking.{kept_names}
@@ -13,20 +13,63 @@ use Rattle.rd_merge.specs.Merging.{IsPlan}
 use Rattle.rd_merge.specs.Plans.{IsGroupPlace, old_list, made_count}
 use Rattle.rd_merge.specs.PlanView.{steps_seen}
 use Rattle.rd_merge.specs.Internal.Planning.{EntriesFit, GroupsFit, NewSteps, InnerSteps, place_in}
-use Rattle.rd_merge.proofs.PlanLoops.{steps_append, whole_take, new_next, inner_next_step, fit_at, place_here, found_long, groups_at, new_size_at, group_within, group_no_leaf, group_list, group_size, list_fits, list_plan, none_fits, entries_fit, groups_fit, looked_as, can_patch_as, is_patched_as}
+use Rattle.rd_merge.proofs.PlanLoops.{steps_append, whole_take, run_within, run_found, run_after, run_fits, run_steps, run_size_at, new_next, inner_next_step, fit_at, place_here, found_long, groups_at, new_size_at, group_within, group_no_leaf, group_list, group_size, list_fits, list_plan, none_fits, entries_fit, groups_fit, looked_as, can_patch_as, is_patched_as}
 use Rattle.rd_merge.proofs.PlannedLevel.{can_patch, planned, few_made}
 use Rattle.rd_merge.proofs.preparing.+planning.Goals as goal
 
 -- ---- plan_entries
 
-pub plan_entries-loop-i-init : goal.plan_entries-loop-i-init
-plan_entries-loop-i-init g t c = record { steps = subst (λ us. NewSteps (g.T.Touches.is_touched c.args.tree.now) c.args.kept.now.entries nil (steps_seen us)) (sym c.in_ok-steps.ensures.items) tt }
+pub plan_entries-loop-run-init : goal.plan_entries-loop-run-init
+plan_entries-loop-run-init g t c = record {
+  steps = subst (λ us. NewSteps (g.T.Touches.is_touched c.args.tree.now) c.args.kept.now.entries nil (steps_seen us)) (sym c.in_ok-steps.ensures.items) tt;
+  rest = c.requires.found;
+}
 
-pub plan_entries-bounds-found-i : goal.plan_entries-bounds-found-i
-plan_entries-bounds-found-i g t c = found_long (g.T.Touches.is_touched c.args.tree.now) c.args.kept.now.entries c.args.new.now c.loop-i.i c.args.found.now c.loop-i-test.true c.requires.found
+pub plan_entries-split_at-requires : goal.plan_entries-split_at-requires
+plan_entries-split_at-requires g t c =
+    run_within (g.T.Touches.is_touched c.args.tree.now) c.args.kept.now.entries c.args.runs.now c.loop-run.run-index c.run-item.result c.loop-run-test.true c.run-item.is c.len.result (c.len.ensures ∙ c.run-item.result.ok.0) c.loop-run.rest.now c.loop-run.invariant.rest
 
-pub plan_entries-plan_entry-requires : goal.plan_entries-plan_entry-requires
-plan_entries-plan_entry-requires g t c κs within =
+pub plan_entries-plan_run-requires : goal.plan_entries-plan_run-requires
+plan_entries-plan_run-requires g t c κs within =
+    let touched = g.T.Touches.is_touched c.args.tree.now in
+    let xs = c.args.kept.now.entries in
+    let size = run_size_at touched xs c.args.runs.now c.loop-run.run-index c.run-item.result c.loop-run-test.true c.run-item.is c.deref.result.now c.deref.ensures.value in (
+      omega (arith, size, c.decreases),
+      (
+        within.0,
+        (
+          within.1,
+          (
+            run_fits touched xs c.args.runs.now c.loop-run.run-index c.run-item.result c.loop-run-test.true c.run-item.is c.deref.result.now c.deref.ensures.value c.requires.fit,
+            c.split_at.ensures.front
+                ∙ run_found touched xs c.args.runs.now c.loop-run.run-index c.run-item.result c.loop-run-test.true c.run-item.is c.len.result (c.len.ensures ∙ c.run-item.result.ok.0) c.loop-run.rest.now c.loop-run.invariant.rest c.deref.result.now c.deref.ensures.value,
+          ),
+        ),
+      ),
+    )
+
+pub plan_entries-loop-run-preserved : goal.plan_entries-loop-run-preserved
+plan_entries-loop-run-preserved g t c = record {
+  steps = run_steps (g.T.Touches.is_touched c.args.tree.now) c.args.kept.now.entries c.args.runs.now c.loop-run.run-index c.run-item.result c.loop-run-test.true c.run-item.is c.deref.result.now c.loop-run.steps.items c.in_ok-more.more.items c.append.new.self.items
+      c.deref.ensures.value c.loop-run.invariant.steps c.in_ok-more.ensures c.in_ok-append.ensures.items;
+  rest = c.split_at.ensures.back
+      ∙ run_after (g.T.Touches.is_touched c.args.tree.now) c.args.kept.now.entries c.args.runs.now c.loop-run.run-index c.run-item.result c.loop-run-test.true c.run-item.is c.len.result (c.len.ensures ∙ c.run-item.result.ok.0) c.loop-run.rest.now c.loop-run.invariant.rest;
+}
+
+pub plan_entries-returns : goal.plan_entries-returns
+plan_entries-returns g t c =
+    subst (λ es. NewSteps (g.T.Touches.is_touched c.args.tree.now) c.args.kept.now.entries (in_runs es) (steps_seen c.loop-run.steps.items)) (whole_take c.args.runs.now c.loop-run.run-index c.loop-run-test.false) c.loop-run.invariant.steps
+
+-- ---- plan_run
+
+pub plan_run-loop-i-init : goal.plan_run-loop-i-init
+plan_run-loop-i-init g t c = record { steps = subst (λ us. NewSteps (g.T.Touches.is_touched c.args.tree.now) c.args.kept.now.entries nil (steps_seen us)) (sym c.in_ok-steps.ensures.items) tt }
+
+pub plan_run-bounds-found-i : goal.plan_run-bounds-found-i
+plan_run-bounds-found-i g t c = found_long (g.T.Touches.is_touched c.args.tree.now) c.args.kept.now.entries c.args.new.now c.loop-i.i c.args.found.now c.loop-i-test.true c.requires.found
+
+pub plan_run-plan_entry-requires : goal.plan_run-plan_entry-requires
+plan_run-plan_entry-requires g t c κs within =
     let touched = g.T.Touches.is_touched c.args.tree.now in
     let xs = c.args.kept.now.entries in
     let size = new_size_at c.args.new.now c.loop-i.i c.index-new-i.result c.loop-i-test.true c.index-new-i.is in (
@@ -43,14 +86,14 @@ plan_entries-plan_entry-requires g t c κs within =
       ),
     )
 
-pub plan_entries-loop-i-preserved : goal.plan_entries-loop-i-preserved
-plan_entries-loop-i-preserved g t c = record {
+pub plan_run-loop-i-preserved : goal.plan_run-loop-i-preserved
+plan_run-loop-i-preserved g t c = record {
   steps = new_next (g.T.Touches.is_touched c.args.tree.now) c.args.kept.now.entries c.args.new.now c.loop-i.i c.index-new-i.result c.loop-i.steps.items c.push.new.self.items c.in_ok-step.step c.loop-i-test.true c.index-new-i.is c.loop-i.invariant.steps c.in_ok-step.ensures
       c.in_ok-push.ensures.items;
 }
 
-pub plan_entries-returns : goal.plan_entries-returns
-plan_entries-returns g t c =
+pub plan_run-returns : goal.plan_run-returns
+plan_run-returns g t c =
     subst (λ es. NewSteps (g.T.Touches.is_touched c.args.tree.now) c.args.kept.now.entries (new_entries es) (steps_seen c.loop-i.steps.items)) (whole_take c.args.new.now c.loop-i.i c.loop-i-test.false) c.loop-i.invariant.steps
 
 -- ---- plan_groups
@@ -161,33 +204,33 @@ plan_new_group-returns g t c =
 
 pub plan_level-look-requires-clause-names : goal.plan_level-look-requires-clause-names
 plan_level-look-requires-clause-names g t c =
-    let names = c.deref-3.ensures.value ∙ c.in_ok-names.ensures ∙ ap (λ es. new_names (new_entries es)) c.deref.ensures.value ∙ ap new_names c.new.view_is in
+    let names = c.deref-2.ensures.value ∙ c.in_ok-names.ensures in
     subst (λ ks. Once ks) (sym names) (c.requires.fits.once_new [])
 
 pub plan_level-look-requires-clause-entries : goal.plan_level-look-requires-clause-entries
 plan_level-look-requires-clause-entries g t c =
-    let entries = ap kept_entries c.deref-2.ensures.value ∙ ap (λ k. k.entries) c.kept.view_is in
+    let entries = ap kept_entries c.deref.ensures.value ∙ ap (λ k. k.entries) c.kept.view_is in
     subst (λ ys. Once (kept_names ys)) (sym entries) (c.requires.fits.once_kept [])
 
 pub plan_level-patch-requires : goal.plan_level-patch-requires
 plan_level-patch-requires g t c =
     let touched = g.T.Touches.is_touched c.args.tree.now in
-    let keys = c.in_ok-names.ensures ∙ ap (λ es. new_names (new_entries es)) c.deref.ensures.value ∙ ap new_names c.new.view_is in
-    let entries = ap kept_entries c.deref-2.ensures.value ∙ ap (λ k. k.entries) c.kept.view_is in
+    let keys = c.in_ok-names.ensures in
+    let entries = ap kept_entries c.deref.ensures.value ∙ ap (λ k. k.entries) c.kept.view_is in
     let l = c.in_ok-looked.looked in
-    let looked = looked_as touched c.args.kept.now.entries _ _ (new_names c.args.new.now) l.gone.items l.found.items l.inner.items entries (c.deref-3.ensures.value ∙ keys) c.in_ok-looked.ensures in
-    can_patch_as l.gone.items _ (new_names c.args.new.now) _ l.found.items _ c.args.kept.now.graph _ c.deref-4.ensures.value (c.deref-5.ensures.value ∙ keys) c.deref-6.ensures.value (ap (λ k. k.graph) c.kept.view_is)
+    let looked = looked_as touched c.args.kept.now.entries _ _ (new_names c.args.new.now) l.gone.items l.found.items l.inner.items entries (c.deref-2.ensures.value ∙ keys) c.in_ok-looked.ensures in
+    can_patch_as l.gone.items _ (new_names c.args.new.now) _ l.found.items _ c.args.kept.now.graph _ c.deref-3.ensures.value (c.deref-4.ensures.value ∙ keys) c.deref-5.ensures.value (ap (λ k. k.graph) c.kept.view_is)
     (can_patch touched c.args.kept.now c.args.new.now c.requires l.gone.items l.found.items l.inner.items looked)
 
 pub plan_level-plan_entries-requires : goal.plan_level-plan_entries-requires
 plan_level-plan_entries-requires g t c κs within =
     let touched = g.T.Touches.is_touched c.args.tree.now in
     let xs = c.args.kept.now.entries in
-    let keys = c.in_ok-names.ensures ∙ ap (λ es. new_names (new_entries es)) c.deref.ensures.value ∙ ap new_names c.new.view_is in
-    let entries = ap kept_entries c.deref-2.ensures.value ∙ ap (λ k. k.entries) c.kept.view_is in
+    let keys = c.in_ok-names.ensures in
+    let entries = ap kept_entries c.deref.ensures.value ∙ ap (λ k. k.entries) c.kept.view_is in
     let l = c.in_ok-looked.looked in
-    let looked = looked_as touched xs _ _ (new_names c.args.new.now) l.gone.items l.found.items l.inner.items entries (c.deref-3.ensures.value ∙ keys) c.in_ok-looked.ensures in
-    let new_is = ap new_entries c.deref-7.ensures.value ∙ c.new.view_is in
+    let looked = looked_as touched xs _ _ (new_names c.args.new.now) l.gone.items l.found.items l.inner.items entries (c.deref-2.ensures.value ∙ keys) c.in_ok-looked.ensures in
+    let new_is = ap in_runs c.deref-6.ensures.value ∙ c.new.view_is in
     let size = ap list_size new_is in (
       omega (arith, size, c.decreases),
       (
@@ -196,7 +239,7 @@ plan_level-plan_entries-requires g t c κs within =
           within.1,
           (
             subst (λ z. EntriesFit touched xs z) (sym new_is) (entries_fit touched c.args.kept.now c.args.new.now c.requires),
-            c.deref-8.ensures.value ∙ looked.found_are ∙ ap (λ z. map (λ k. place_in touched xs k) (new_names z)) (sym new_is),
+            c.deref-7.ensures.value ∙ looked.found_are ∙ ap (λ z. map (λ k. place_in touched xs k) (new_names z)) (sym new_is),
           ),
         ),
       ),
@@ -206,12 +249,12 @@ pub plan_level-plan_groups-requires : goal.plan_level-plan_groups-requires
 plan_level-plan_groups-requires g t c κs within =
     let touched = g.T.Touches.is_touched c.args.tree.now in
     let xs = c.args.kept.now.entries in
-    let keys = c.in_ok-names.ensures ∙ ap (λ es. new_names (new_entries es)) c.deref.ensures.value ∙ ap new_names c.new.view_is in
-    let entries = ap kept_entries c.deref-2.ensures.value ∙ ap (λ k. k.entries) c.kept.view_is in
+    let keys = c.in_ok-names.ensures in
+    let entries = ap kept_entries c.deref.ensures.value ∙ ap (λ k. k.entries) c.kept.view_is in
     let l = c.in_ok-looked.looked in
-    let looked = looked_as touched xs _ _ (new_names c.args.new.now) l.gone.items l.found.items l.inner.items entries (c.deref-3.ensures.value ∙ keys) c.in_ok-looked.ensures in (
+    let looked = looked_as touched xs _ _ (new_names c.args.new.now) l.gone.items l.found.items l.inner.items entries (c.deref-2.ensures.value ∙ keys) c.in_ok-looked.ensures in (
       omega (arith, c.decreases),
-      (within.0, (within.1, subst (λ z. GroupsFit touched xs z) (sym c.deref-9.ensures.value) (groups_fit touched c.args.kept.now c.args.new.now c.requires l.gone.items l.found.items l.inner.items looked))),
+      (within.0, (within.1, subst (λ z. GroupsFit touched xs z) (sym c.deref-8.ensures.value) (groups_fit touched c.args.kept.now c.args.new.now c.requires l.gone.items l.found.items l.inner.items looked))),
     )
 
 pub plan_level-same-patch : goal.plan_level-same-patch
@@ -221,16 +264,16 @@ pub plan_level-invariant_of-result : goal.plan_level-invariant_of-result
 plan_level-invariant_of-result g t c =
     let touched = g.T.Touches.is_touched c.args.tree.now in
     let xs = c.args.kept.now.entries in
-    let keys = c.in_ok-names.ensures ∙ ap (λ es. new_names (new_entries es)) c.deref.ensures.value ∙ ap new_names c.new.view_is in
-    let entries = ap kept_entries c.deref-2.ensures.value ∙ ap (λ k. k.entries) c.kept.view_is in
+    let keys = c.in_ok-names.ensures in
+    let entries = ap kept_entries c.deref.ensures.value ∙ ap (λ k. k.entries) c.kept.view_is in
     let graph = ap (λ k. k.graph) c.kept.view_is in
     let l = c.in_ok-looked.looked in
-    let looked = looked_as touched xs _ _ (new_names c.args.new.now) l.gone.items l.found.items l.inner.items entries (c.deref-3.ensures.value ∙ keys) c.in_ok-looked.ensures in
+    let looked = looked_as touched xs _ _ (new_names c.args.new.now) l.gone.items l.found.items l.inner.items entries (c.deref-2.ensures.value ∙ keys) c.in_ok-looked.ensures in
     let fits = subst (λ z. FitsPatch c.in_ok-patch.patch z) graph c.in_ok-patch.ensures.fits in
-    let patched = is_patched_as l.gone.items _ (new_names c.args.new.now) _ l.found.items _ c.args.kept.now.graph _ c.deref-4.ensures.value (c.deref-5.ensures.value ∙ keys) c.deref-6.ensures.value graph c.in_ok-patch.patch c.in_ok-patch.ensures.patched in
-    let new_is = ap new_entries c.deref-7.ensures.value ∙ c.new.view_is in
+    let patched = is_patched_as l.gone.items _ (new_names c.args.new.now) _ l.found.items _ c.args.kept.now.graph _ c.deref-3.ensures.value (c.deref-4.ensures.value ∙ keys) c.deref-5.ensures.value graph c.in_ok-patch.patch c.in_ok-patch.ensures.patched in
+    let new_is = ap in_runs c.deref-6.ensures.value ∙ c.new.view_is in
     let firsts = subst (λ z. NewSteps touched xs z (steps_seen c.in_ok-steps.steps.items)) new_is c.in_ok-steps.ensures in
-    let lasts = subst (λ z. InnerSteps touched xs z (steps_seen c.in_ok-inner.inner.items)) c.deref-9.ensures.value c.in_ok-inner.ensures in
+    let lasts = subst (λ z. InnerSteps touched xs z (steps_seen c.in_ok-inner.inner.items)) c.deref-8.ensures.value c.in_ok-inner.ensures in
     let few = few_made touched c.args.kept.now c.args.new.now c.requires l.gone.items l.found.items l.inner.items looked c.in_ok-patch.patch fits patched (steps_seen c.in_ok-steps.steps.items) (steps_seen c.in_ok-inner.inner.items) firsts lasts in
     let all = ap made_count (ap steps_seen c.in_ok-append.ensures.items ∙ steps_append c.in_ok-steps.steps.items c.in_ok-inner.inner.items) in
     let many = ap length keys in
@@ -243,15 +286,15 @@ pub plan_level-returns : goal.plan_level-returns
 plan_level-returns g t c =
     let touched = g.T.Touches.is_touched c.args.tree.now in
     let xs = c.args.kept.now.entries in
-    let keys = c.in_ok-names.ensures ∙ ap (λ es. new_names (new_entries es)) c.deref.ensures.value ∙ ap new_names c.new.view_is in
-    let entries = ap kept_entries c.deref-2.ensures.value ∙ ap (λ k. k.entries) c.kept.view_is in
+    let keys = c.in_ok-names.ensures in
+    let entries = ap kept_entries c.deref.ensures.value ∙ ap (λ k. k.entries) c.kept.view_is in
     let graph = ap (λ k. k.graph) c.kept.view_is in
     let l = c.in_ok-looked.looked in
-    let looked = looked_as touched xs _ _ (new_names c.args.new.now) l.gone.items l.found.items l.inner.items entries (c.deref-3.ensures.value ∙ keys) c.in_ok-looked.ensures in
+    let looked = looked_as touched xs _ _ (new_names c.args.new.now) l.gone.items l.found.items l.inner.items entries (c.deref-2.ensures.value ∙ keys) c.in_ok-looked.ensures in
     let fits = subst (λ z. FitsPatch c.in_ok-patch.patch z) graph c.in_ok-patch.ensures.fits in
-    let patched = is_patched_as l.gone.items _ (new_names c.args.new.now) _ l.found.items _ c.args.kept.now.graph _ c.deref-4.ensures.value (c.deref-5.ensures.value ∙ keys) c.deref-6.ensures.value graph c.in_ok-patch.patch c.in_ok-patch.ensures.patched in
-    let new_is = ap new_entries c.deref-7.ensures.value ∙ c.new.view_is in
+    let patched = is_patched_as l.gone.items _ (new_names c.args.new.now) _ l.found.items _ c.args.kept.now.graph _ c.deref-3.ensures.value (c.deref-4.ensures.value ∙ keys) c.deref-5.ensures.value graph c.in_ok-patch.patch c.in_ok-patch.ensures.patched in
+    let new_is = ap in_runs c.deref-6.ensures.value ∙ c.new.view_is in
     let firsts = subst (λ z. NewSteps touched xs z (steps_seen c.in_ok-steps.steps.items)) new_is c.in_ok-steps.ensures in
-    let lasts = subst (λ z. InnerSteps touched xs z (steps_seen c.in_ok-inner.inner.items)) c.deref-9.ensures.value c.in_ok-inner.ensures in
+    let lasts = subst (λ z. InnerSteps touched xs z (steps_seen c.in_ok-inner.inner.items)) c.deref-8.ensures.value c.in_ok-inner.ensures in
     subst (λ z. IsPlan touched c.args.kept.now c.args.new.now (record { patch = c.in_ok-patch.patch; steps = z })) (sym (ap steps_seen c.in_ok-append.ensures.items ∙ steps_append c.in_ok-steps.steps.items c.in_ok-inner.inner.items))
     (planned touched c.args.kept.now c.args.new.now c.requires l.gone.items l.found.items l.inner.items looked c.in_ok-patch.patch fits patched (steps_seen c.in_ok-steps.steps.items) (steps_seen c.in_ok-inner.inner.items) firsts lasts)
