@@ -10,7 +10,9 @@ use Rattle.rd_graph.specs.Gathered.{gathered, arranged, IsLine}
 use Rattle.rd_graph.specs.Patches.{PatchOf, FitsPatch, with_list, with_lists, AreWithin}
 use Rattle.rd_graph.specs.Internal.Patching.{lists_seen, HasRoom}
 use Rattle.rd_graph.specs.Internal.Seen.{seen}
+use Rattle.rd_graph.specs.Runs.{places_of}
 use Rattle.rd_graph.specs.declared.graph.Node.{Node}
+use Rattle.rd_graph.specs.declared.runs.Run.{Run}
 use Rattle.rd_graph.proofs.Listing.{Has, contains_from, has_right, has_map}
 
 -- ---- lists
@@ -93,14 +95,14 @@ none_long : {T : Type 0} (xs : List T) → length xs ≡ 0 → xs ≡ []
 none_long [] e = refl
 none_long (x ∷ xs) e = absurd (omega (arith, e))
 
-pub placed : {A B : Type 0} (line : Option (Vec ℕ A)) (l : Vec ℕ A) (nodes made start after : List Node) (room : Vec Node B) (now : List ℕ) → line ≡ Some l → HasRoom line room
-    → length start ≡ vec_len room → now ≡ l.items → after ≡ start ++ gathered now (nodes ++ made) → seen after ≡ arranged (option_map (λ v. v.items) line) (seen nodes ++ seen made)
+pub placed : {A B : Type 0} (line : Option (Vec Run A)) (l : Vec Run A) (nodes made start after : List Node) (room : Vec Node B) (now : List Run) → line ≡ Some l → HasRoom line room
+    → length start ≡ vec_len room → now ≡ l.items → after ≡ start ++ gathered (places_of now) (nodes ++ made) → seen after ≡ arranged (option_map (λ v. places_of v.items) line) (seen nodes ++ seen made)
 placed line l nodes made start after room now some has size is e =
     let roomy : HasRoom (Some l) room = subst (λ o. HasRoom o room) some has in
     let empty : start ≡ [] = none_long start (omega (arith, size, roomy.0)) in
-    let gave : after ≡ gathered l.items (nodes ++ made) = e ∙ ap (λ s. s ++ gathered now (nodes ++ made)) empty ∙ ap (λ ps. gathered ps (nodes ++ made)) is in
-    ap seen gave ∙ sym (gathered_map (λ (n : Node). (n.key, n.before.items)) l.items (nodes ++ made)) ∙ ap (gathered l.items) (map-append (λ (n : Node). (n.key, n.before.items)) nodes made)
-    ∙ sym (ap (λ o. arranged (option_map (λ v. v.items) o) (seen nodes ++ seen made)) some)
+    let gave : after ≡ gathered (places_of l.items) (nodes ++ made) = e ∙ ap (λ s. s ++ gathered (places_of now) (nodes ++ made)) empty ∙ ap (λ rs. gathered (places_of rs) (nodes ++ made)) is in
+    ap seen gave ∙ sym (gathered_map (λ (n : Node). (n.key, n.before.items)) (places_of l.items) (nodes ++ made)) ∙ ap (gathered (places_of l.items)) (map-append (λ (n : Node). (n.key, n.before.items)) nodes made)
+    ∙ sym (ap (λ o. arranged (option_map (λ v. places_of v.items) o) (seen nodes ++ seen made)) some)
 
 pub fits : (p q : PatchOf EntryKey) (g h : Graph EntryKey) → p ≡ q → g ≡ h → FitsPatch q h → FitsPatch p g
 fits p q g h e f is = subst (λ r. FitsPatch r g) (sym e) (subst (λ k. FitsPatch q k) (sym f) is)

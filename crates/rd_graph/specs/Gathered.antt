@@ -1,5 +1,5 @@
 -- Elements of a list by their places.
-use Rattle.std.specs.Prelude.{ℕ, suc, ◌+◌, ◌-◌, ◌<◌, ◌≤◌, ◌⊎◌, ◌≢◌, List, [], ◌∷◌, ◌++◌, take, drop, length, slice_index_or, Option, Some, None}
+use Rattle.std.specs.Prelude.{ℕ, ◌<◌, ◌≢◌, List, [], ◌∷◌, ◌++◌, take, drop, length, slice_index_or, Option, Some, None}
 
 -- the elements at these places, one after another
 abbrev pub gathered : {T : Type 0} → List ℕ → List T → List T
@@ -20,9 +20,3 @@ pub record ArePlaces (ps : List ℕ) (n : ℕ) : Type 0 where
 abbrev pub IsLine : Option (List ℕ) → ℕ → Type 0
 IsLine None n = Unit {0}
 IsLine (Some line) n = ArePlaces line n
-
--- In a line over n old elements and made ones counted on from them, the places of old ones rise, none before `old`,
--- and those of made ones rise, none before `made`.
-abbrev pub Rises : ℕ → ℕ → ℕ → List ℕ → Type 0
-Rises n old made [] = Unit {0}
-Rises n old made (p ∷ ps) = ((p < n) × (old ≤ p) × Rises n (suc p) made ps) ⊎ ((n + made ≤ p) × Rises n old (suc (p - n)) ps)

@@ -4,10 +4,12 @@ ghost use Rattle.rd_graph.specs.Patches.{AreRising, CanBePatched, IsArranged};
 ghost use Rattle.rd_graph.specs.Graphs.{IsInOrder};
 ghost use Rattle.rd_graph.specs.Internal.Ranks.{IsLineOf};
 ghost use Rattle.rd_graph.specs.Internal.Seen.{seen};
+ghost use Rattle.rd_graph.specs.Runs.{places_of};
 ghost use Rattle.rd_graph.specs.Internal.Walks.{counted, place_or, free_after, IsMet, RisesTo};
 
 use crate::graph::{Node, OrderGraph};
 use crate::ranking::ranked_line;
+use crate::runs::Run;
 use crate::walking::walked_line;
 use rd_keys::EntryKey;
 use std::alloc::{AllocError, Global};
@@ -115,7 +117,7 @@ fn moving_line(
     chain: &[EntryKey],
     found: &[Option<usize>],
     places: &[usize],
-) -> Result<Vec<usize>, AllocError>
+) -> Result<Vec<Run>, AllocError>
     requires sound { IsInOrder (seen nodes.now) }
     requires can { CanBePatched gone.now chain.now found.now (seen nodes.now) }
     requires places { places.now ≡ counted (length nodes.now) found.now }
@@ -127,7 +129,7 @@ fn moving_line(
     ranked_line(alloc, nodes, gone, chain, found, places)
 }
 
-/// The places of the nodes of a merge in an order in which each edge goes forward. None where every node may stay at its
+/// The places of the nodes of a merge in an order in which each edge goes forward, as runs. None where every node may stay at its
 /// place.
 pub(crate) fn arrange(
     alloc: Global,
@@ -135,9 +137,9 @@ pub(crate) fn arrange(
     gone: &[usize],
     chain: &[EntryKey],
     found: &[Option<usize>],
-) -> Result<Option<Vec<usize>>, AllocError>
+) -> Result<Option<Vec<Run>>, AllocError>
     requires { CanBePatched gone.now chain.now found.now graph.now }
-    ensures { IfOk result (λ l. IsArranged gone.now chain.now found.now graph.now (option_map (λ v. v.items) l)) }
+    ensures { IfOk result (λ l. IsArranged gone.now chain.now found.now graph.now (option_map (λ v. places_of v.items) l)) }
 {
     let nodes: &[Node] = &graph.nodes;
     let places = counted_places(alloc, nodes, found)?;

@@ -1,57 +1,45 @@
-//! Lines in which the places of old elements rise, and those of made ones: both are taken in one pass, and nothing takes memory.
-ghost use Rattle.std.specs.Prelude.{◌≡◌, ◌<◌, ◌≤◌, ◌+◌, ◌-◌, ◌++◌, true, take, drop, slice_index_or, vec_len, vec_capacity, length};
+//! Lines in which the runs of old elements rise, and those of made ones: both are taken in one pass, and nothing takes memory.
+ghost use Rattle.std.specs.Prelude.{◌≡◌, ◌<◌, ◌≤◌, ◌+◌, ◌-◌, ◌++◌, true, take, drop, vec_len, vec_capacity, length};
 ghost use Rattle.std.specs.Vec.Iter.{into_iter_items};
-ghost use Rattle.rd_graph.specs.Gathered.{gathered, ArePlaces, Rises};
-ghost use Rattle.rd_graph.specs.Internal.Taking.{IsRun};
+ghost use Rattle.rd_graph.specs.Runs.{RunsRise, places_aside, places_of, woven};
 
+use crate::runs::{Run, count_aside};
 use std::alloc::Global;
 use std::vec::IntoIter;
 
-/// The place in a line after a run of places that follow each other, below an end.
-fn run_end(line: &[usize], from: usize, end: usize) -> usize
-    requires from { from < length line.now }
-    requires below { slice_index_or line.now from 0 < end }
-    ensures after { from < result }
-    ensures within { result ≤ length line.now }
-    ensures below { slice_index_or line.now from 0 + (result - from) ≤ end }
-    ensures run { IsRun end (result - from) (slice_index_or line.now from 0) (drop from line.now) }
-{
-    let mut at = from;
-    let mut next = line[from];
-    while at < line.len() && line[at] == next && next < end {
-        at += 1;
-        next += 1;
-    }
-    at
-}
-
-/// Do the places of old elements rise, and those of made ones, which are counted on from this many old ones?
-pub fn is_rising(line: &[usize], old: usize, made: usize) -> bool
-    requires { ArePlaces line.now (old + made) }
-    ensures { result ≡ true → Rises old 0 0 line.now }
+/// Do the runs of old elements rise, and those of made ones, which are counted on from this many old ones? Each run is of
+/// one kind, and there are so many made ones. A run that is set aside may be of any places.
+pub fn is_rising(runs: &[Run], old: usize, made: usize) -> bool
+    ensures { result ≡ true → RunsRise old made 0 0 runs.now }
 {
     let mut next_old = 0;
     let mut next_made = 0;
-    let mut at = 0;
-    while at < line.len() {
-        let p = line[at];
-        if p < old {
-            if p < next_old {
-                return false;
-            }
-            let to = run_end(line, at, old);
-            next_old = p + (to - at);
-            at = to;
-        } else {
-            let place = p - old;
-            if place < next_made {
-                return false;
-            }
-            next_made = place + 1;
-            at += 1;
+    for run in runs {
+        if run.aside {
+            continue;
         }
+        if run.from < old {
+            if run.from < next_old || old - run.from < run.count {
+                return false;
+            }
+            next_old = run.from + run.count;
+            continue;
+        }
+        let place = run.from - old;
+        if place < next_made || made < place || made - place < run.count {
+            return false;
+        }
+        next_made = place + run.count;
     }
     true
+}
+
+/// Is nothing there as yet, and room for what is set aside?
+pub fn has_room_aside<T>(runs: &[Run], aside: &Vec<T>) -> bool
+    ensures none { result ≡ true → vec_len aside.now ≡ 0 }
+    ensures room { result ≡ true → length (places_aside runs.now) ≤ vec_capacity aside.now }
+{
+    aside.is_empty() && count_aside(runs) <= aside.capacity()
 }
 
 /// Drops the next so many elements.
@@ -79,64 +67,54 @@ fn move_next<T: Drop>(rest: &mut IntoIter<T, Global>, room: &mut Vec<T>)
     }
 }
 
-/// Moves the elements of a run of places, which follow each other below an end, to the end of `room`, which has capacity
-/// for them. Gives the place in the line after the run.
-fn move_run<T: Drop>(
-    rest: &mut IntoIter<T, Global>,
-    line: &[usize],
-    from: usize,
-    end: usize,
-    room: &mut Vec<T>,
-) -> usize
-    requires from { from < length line.now }
-    requires below { slice_index_or line.now from 0 < end }
-    requires rest { length (into_iter_items rest.old) ≡ end - slice_index_or line.now from 0 }
-    requires room { vec_len room.old + (length line.now - from) ≤ vec_capacity room.old }
-    ensures after { from < result }
-    ensures within { result ≤ length line.now }
-    ensures below { slice_index_or line.now from 0 + (result - from) ≤ end }
-    ensures run { IsRun end (result - from) (slice_index_or line.now from 0) (drop from line.now) }
-    ensures left { into_iter_items rest.new ≡ drop (result - from) (into_iter_items rest.old) }
-    ensures moved { room.new.items ≡ room.old.items ++ take (result - from) (into_iter_items rest.old) }
-    ensures len { vec_len room.new ≡ vec_len room.old + (result - from) }
+/// Moves the next so many elements to the end of `room`, which has capacity for them.
+fn move_run<T: Drop>(rest: &mut IntoIter<T, Global>, count: usize, room: &mut Vec<T>)
+    requires rest { count ≤ length (into_iter_items rest.old) }
+    requires room { vec_len room.old + count ≤ vec_capacity room.old }
+    ensures left { into_iter_items rest.new ≡ drop count (into_iter_items rest.old) }
+    ensures moved { room.new.items ≡ room.old.items ++ take count (into_iter_items rest.old) }
+    ensures len { vec_len room.new ≡ vec_len room.old + count }
     ensures room { vec_capacity room.old ≤ vec_capacity room.new }
 {
-    let mut at = from;
-    let mut next = line[from];
-    while at < line.len() && line[at] == next && next < end {
+    for _ in 0..count {
         move_next(rest, room);
-        at += 1;
-        next += 1;
     }
-    at
 }
 
-/// Moves old and made elements, each in rising order, to the end of `room`, which has capacity for them.
-pub fn gather_rising<T: Drop>(old: Vec<T>, made: Vec<T>, line: &[usize], room: &mut Vec<T>)
-    requires rising { Rises (vec_len old) 0 0 line.now }
-    requires places { ArePlaces line.now (vec_len old + vec_len made) }
-    requires room { vec_len room.old + length line.now ≤ vec_capacity room.old }
-    ensures { room.new.items ≡ room.old.items ++ gathered line.now (old.items ++ made.items) }
+/// Moves old and made elements, each in rising order, and those that are set aside in theirs, to the end of `room`, which
+/// has capacity for them.
+pub fn gather_rising<T: Drop>(
+    old: Vec<T>,
+    made: Vec<T>,
+    aside: Vec<T>,
+    runs: &[Run],
+    room: &mut Vec<T>,
+)
+    requires rising { RunsRise (vec_len old) (vec_len made) 0 0 runs.now }
+    requires aside { vec_len aside ≡ length (places_aside runs.now) }
+    requires room { vec_len room.old + length (places_of runs.now) ≤ vec_capacity room.old }
+    ensures { room.new.items ≡ room.old.items ++ woven runs.now (old.items ++ made.items) aside.items }
 {
     let end = old.len();
     let mut old_rest = old.into_iter();
     let mut made_rest = made.into_iter();
+    let mut aside_rest = aside.into_iter();
     let mut next_old = 0;
     let mut next_made = 0;
-    let mut at = 0;
-    while at < line.len() {
-        let p = line[at];
-        if p < end {
-            pass_over(&mut old_rest, p - next_old);
-            let to = move_run(&mut old_rest, line, at, end, room);
-            next_old = p + (to - at);
-            at = to;
-        } else {
-            let place = p - end;
-            pass_over(&mut made_rest, place - next_made);
-            move_next(&mut made_rest, room);
-            next_made = place + 1;
-            at += 1;
+    for run in runs {
+        if run.aside {
+            move_run(&mut aside_rest, run.count, room);
+            continue;
         }
+        if run.from < end {
+            pass_over(&mut old_rest, run.from - next_old);
+            move_run(&mut old_rest, run.count, room);
+            next_old = run.from + run.count;
+            continue;
+        }
+        let place = run.from - end;
+        pass_over(&mut made_rest, place - next_made);
+        move_run(&mut made_rest, run.count, room);
+        next_made = place + run.count;
     }
 }

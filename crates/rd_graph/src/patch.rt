@@ -1,5 +1,6 @@
 //! Patches: what a merge of a level changes in a graph, made before the first change.
 ghost use Rattle.std.specs.Prelude.{◌≡◌, IfOk, option_map};
+ghost use Rattle.rd_graph.specs.Runs.{places_of};
 ghost use Rattle.rd_graph.specs.Patches.{CanBePatched, FitsPatch, IsPatched, patched, line_of};
 
 use crate::applying::{in_line, put_lists};
@@ -7,7 +8,8 @@ use crate::arranging::arrange;
 use crate::before::Before;
 use crate::changing::changed;
 use crate::graph::{Node, OrderGraph};
-use crate::making::{make, room};
+use crate::making::{aside_room, make, room};
+use crate::runs::Run;
 use crate::thinning::{joined, thinned};
 use crate::trimming::trimmed;
 use rd_keys::EntryKey;
@@ -15,13 +17,15 @@ use std::alloc::{AllocError, Global};
 use std::marker::Model;
 
 /// New lists of predecessors by the places of their nodes, the nodes that are made, and the places of the result's nodes in their
-/// order, old and made ones counted through; none where every node stays at its place. There is room for the nodes of the result.
+/// order as runs, old and made ones counted through; none where every node stays at its place. There is room for the nodes of the
+/// result; and there should be for those that are set aside, else they are moved in another way.
 #[derive(Drop)]
 pub struct Patch {
     pub(crate) alloc: Global,
     pub(crate) lists: Vec<(usize, Before)>,
     pub(crate) made: Vec<Node>,
-    pub(crate) line: Option<Vec<usize>>,
+    pub(crate) line: Option<Vec<Run>>,
+    pub(crate) aside: Vec<Node>,
     pub(crate) room: Vec<Node>,
 }
 
@@ -31,18 +35,20 @@ impl Model for Patch {
     ghost use Rattle.rd_graph.specs.Patches.{PatchOf};
     ghost use Rattle.rd_graph.specs.Internal.Seen.{seen};
     ghost use Rattle.rd_graph.specs.Internal.Patching.{lists_seen, HasRoom};
+    ghost use Rattle.rd_graph.specs.Runs.{places_of};
 
     ghost Value = { PatchOf EntryKey };
 
-    ghost view = { λ p. (lists_seen p.lists.items, (seen p.made.items, option_map (λ l. l.items) p.line)) };
+    ghost view = { λ p. (lists_seen p.lists.items, (seen p.made.items, option_map (λ l. places_of l.items) p.line)) };
 
     ghost invariant = { λ p. HasRoom p.line p.room };
 }
 
 impl Patch {
-    /// The places of the result's nodes in their order, old and made ones counted through. None where every node stays at its place.
-    pub fn line(&self) -> Option<&[usize]>
-        ensures { option_map (λ l. l.now) result ≡ line_of self.now }
+    /// The places of the result's nodes in their order, old and made ones counted through, as runs of places that follow each
+    /// other. None where every node stays at its place.
+    pub fn line(&self) -> Option<&[Run]>
+        ensures { option_map (λ l. places_of l.now) result ≡ line_of self.now }
     {
         match &self.line {
             Some(line) => Some(line),
@@ -73,12 +79,14 @@ impl OrderGraph {
         let lists = trimmed(alloc, chain, relisted)?;
         let line = arrange(alloc, self, gone, chain, found)?;
         let made = make(alloc, chain, found)?;
+        let aside = aside_room(alloc, &line)?;
         let room = room(alloc, &line)?;
         Ok(Patch {
             alloc,
             lists,
             made,
             line,
+            aside,
             room,
         })
     }
@@ -111,6 +119,7 @@ impl OrderGraph {
             lists,
             made: patch.made,
             line: patch.line,
+            aside: patch.aside,
             room: patch.room,
         })
     }
@@ -128,7 +137,14 @@ impl OrderGraph {
         let mut nodes = self.nodes;
         put_lists(&mut nodes, patch.lists);
         OrderGraph {
-            nodes: in_line(patch.alloc, nodes, patch.made, patch.line, patch.room),
+            nodes: in_line(
+                patch.alloc,
+                nodes,
+                patch.made,
+                patch.line,
+                patch.aside,
+                patch.room,
+            ),
             patches,
         }
     }

@@ -1,5 +1,5 @@
 //! A line by ranks: nodes are sorted by the first name of the chain that they are or reach.
-ghost use Rattle.std.specs.Prelude.{◌≡◌, ℕ, ◌+◌, ◌<◌, ◌++◌, ◌∷◌, [], IfOk, OnOk, Some, IsPermutation, length, map, slice_index_or, if◌then◌else◌, ◌^◌};
+ghost use Rattle.std.specs.Prelude.{◌≡◌, ℕ, ◌+◌, ◌<◌, ◌++◌, ◌∷◌, [], IfOk, OnOk, Some, IsPermutation, length, map, slice_index_or, if◌then◌else◌, ◌^◌, ◌-◌, ◌≤◌};
 ghost use Rattle.std.specs.List.Sorted.{IsNonDecreasingBy, IsStableByKey};
 ghost use Rattle.std.specs.Ordering.{nat_cmp};
 ghost use Rattle.rd_graph.specs.Graphs.{IsInOrder};
@@ -11,8 +11,9 @@ ghost use Rattle.rd_graph.specs.Internal.Ranks.{fixed, rank_after, loose_one, lo
 
 use crate::chain::label_nodes;
 use crate::graph::Node;
+use crate::runs::{Run, runs_of};
 use crate::tables::label;
-use crate::walking::{marks, push_staying, stays_there};
+use crate::walking::{marks, stays_there};
 use indexmap::IndexMap;
 use rd_keys::EntryKey;
 use std::alloc::{AllocError, Global};
@@ -114,6 +115,32 @@ fn places_alone(alloc: Global, pairs: &[(usize, usize)]) -> Result<Vec<usize>, A
         places.push(*place)?;
     }
     Ok(places)
+}
+
+/// Puts a place at the end, if it stays.
+fn push_if(line: &mut Vec<usize>, stays: bool, place: usize) -> Result<(), AllocError>
+    ensures { OnOk result (line.new.items ≡ line.old.items ++ (if stays then place ∷ [] else [])) }
+{
+    if stays {
+        line.push(place)?;
+    }
+    Ok(())
+}
+
+/// Puts those places at the end that stay, of a stretch of places.
+fn push_staying(
+    line: &mut Vec<usize>,
+    stays: &[bool],
+    from: usize,
+    to: usize,
+) -> Result<(), AllocError>
+    requires { to ≤ length stays.now }
+    ensures { OnOk result (line.new.items ≡ line.old.items ++ staying stays.now from (to - from)) }
+{
+    for place in from..to {
+        push_if(line, stays[place], place)?;
+    }
+    Ok(())
 }
 
 /// The places that stay.
@@ -225,12 +252,13 @@ pub(crate) fn ranked_line(
     chain: &[EntryKey],
     found: &[Option<usize>],
     places: &[usize],
-) -> Result<Vec<usize>, AllocError>
+) -> Result<Vec<Run>, AllocError>
     requires sound { IsInOrder (seen nodes.now) }
     requires can { CanBePatched gone.now chain.now found.now (seen nodes.now) }
     requires places { places.now ≡ counted (length nodes.now) found.now }
     ensures { IfOk result (IsLineOf gone.now chain.now found.now (seen nodes.now)) }
 {
     let stays = marks(alloc, nodes.len(), gone)?;
-    sorted_places(alloc, nodes, &stays, places, chain)
+    let line = sorted_places(alloc, nodes, &stays, places, chain)?;
+    runs_of(alloc, &line, nodes.len())
 }

@@ -1,12 +1,14 @@
 //! A line by one walk along the old places: what stays keeps its order, and what is of the chain comes between.
-ghost use Rattle.std.specs.Prelude.{◌≡◌, ℕ, ◌+◌, ◌-◌, ◌<◌, ◌≤◌, ◌↔◌, ◌⊎◌, false, IfOk, OnOk, IsTrue, MatchOption, Some, IfSome, if◌then◌else◌, [], ◌∷◌, ◌++◌, length, slice_index_or, Contains};
+ghost use Rattle.std.specs.Prelude.{◌≡◌, ℕ, ◌+◌, ◌-◌, ◌<◌, ◌≤◌, ◌↔◌, ◌⊎◌, false, not, IfOk, OnOk, IsTrue, MatchOption, Some, IfSome, if◌then◌else◌, [], ◌∷◌, ◌++◌, length, slice_index_or, Contains};
 ghost use Rattle.rd_graph.specs.Graphs.{IsInOrder};
 ghost use Rattle.rd_graph.specs.Patches.{CanBePatched};
 ghost use Rattle.rd_graph.specs.Internal.Ranks.{IsLineOf};
 ghost use Rattle.rd_graph.specs.Internal.Seen.{seen};
+ghost use Rattle.rd_graph.specs.Runs.{places_of};
 ghost use Rattle.rd_graph.specs.Internal.Walks.{stays_at, staying, counted, from_after, led_to, walk, RisesWhere, IsBehind, IsAhead};
 
 use crate::graph::Node;
+use crate::runs::{Run, push_place, push_run};
 use rd_keys::EntryKey;
 use std::alloc::{AllocError, Global};
 
@@ -30,49 +32,60 @@ pub(crate) fn stays_there(stays: &[bool], place: usize) -> bool
     place < stays.len() && stays[place]
 }
 
-/// Puts a place at the end, if it stays.
-fn push_if(line: &mut Vec<usize>, stays: bool, place: usize) -> Result<(), AllocError>
-    ensures { OnOk result (line.new.items ≡ line.old.items ++ (if stays then place ∷ [] else [])) }
+/// The first place from one up to another of which the mark is this one, or else the other.
+fn next_where(stays: &[bool], mark: bool, from: usize, to: usize) -> usize
+    requires from { from ≤ to }
+    requires to { to ≤ length stays.now }
+    ensures after { from ≤ result }
+    ensures within { result ≤ to }
+    ensures before { (k : ℕ) → from ≤ k → k < result → stays_at stays.now k ≡ not mark }
+    ensures there { result < to → stays_at stays.now result ≡ mark }
 {
-    if stays {
-        line.push(place)?;
+    let mut place = from;
+    while place < to && stays[place] != mark {
+        place += 1;
     }
-    Ok(())
+    place
 }
 
 /// Puts those places at the end that stay, of a stretch of places.
-pub(crate) fn push_staying(
-    line: &mut Vec<usize>,
+pub(crate) fn push_stretch(
+    line: &mut Vec<Run>,
     stays: &[bool],
     from: usize,
     to: usize,
 ) -> Result<(), AllocError>
     requires { to ≤ length stays.now }
-    ensures { OnOk result (line.new.items ≡ line.old.items ++ staying stays.now from (to - from)) }
+    ensures { OnOk result (places_of line.new.items ≡ places_of line.old.items ++ staying stays.now from (to - from)) }
 {
-    for place in from..to {
-        push_if(line, stays[place], place)?;
+    let mut place = from;
+    while place < to {
+        let first = next_where(stays, true, place, to);
+        let end = next_where(stays, false, first, to);
+        push_run(line, first, end - first, false)?;
+        place = end;
     }
     Ok(())
 }
 
-/// Puts a place of the chain at the end, and before it, if it stays, those that stay since the walk stopped.
-/// Gives the place to go on from.
+/// Puts a place of the chain at the end, and before it, if it stays, those that stay since the walk stopped. An old one
+/// that does not stay is set aside, since the walk does not come to its place in its order. Gives the place to go on from.
 fn push_led(
-    line: &mut Vec<usize>,
+    line: &mut Vec<Run>,
     stays: &[bool],
     from: usize,
     place: usize,
 ) -> Result<usize, AllocError>
-    ensures line { OnOk result (line.new.items ≡ line.old.items ++ led_to stays.now from place) }
+    ensures line { OnOk result (places_of line.new.items
+        ≡ places_of line.old.items ++ led_to stays.now from place) }
     ensures from { IfOk result (λ f. f ≡ from_after stays.now from place) }
 {
     if place < stays.len() && stays[place] {
-        push_staying(line, stays, from, place)?;
-        line.push(place)?;
+        push_stretch(line, stays, from, place)?;
+        push_place(line, place, stays.len(), false)?;
         return Ok(place + 1);
     }
-    line.push(place)?;
+    push_place(line, place, stays.len(), place < stays.len())?;
     Ok(from)
 }
 
@@ -81,15 +94,15 @@ pub(crate) fn walked(
     alloc: Global,
     stays: &[bool],
     places: &[usize],
-) -> Result<Vec<usize>, AllocError>
-    ensures { IfOk result (λ v. v.items ≡ walk stays.now 0 places.now) }
+) -> Result<Vec<Run>, AllocError>
+    ensures { IfOk result (λ v. places_of v.items ≡ walk stays.now 0 places.now) }
 {
-    let mut line = Vec::with_capacity(alloc, stays.len() + places.len())?;
+    let mut line = Vec::new(alloc);
     let mut from = 0;
     for place in places {
         from = push_led(&mut line, stays, from, *place)?;
     }
-    push_staying(&mut line, stays, from, stays.len())?;
+    push_stretch(&mut line, stays, from, stays.len())?;
     Ok(line)
 }
 
@@ -128,7 +141,7 @@ pub(crate) fn walked_line(
     chain: &[EntryKey],
     found: &[Option<usize>],
     places: &[usize],
-) -> Result<Option<Vec<usize>>, AllocError>
+) -> Result<Option<Vec<Run>>, AllocError>
     requires sound { IsInOrder (seen nodes.now) }
     requires can { CanBePatched gone.now chain.now found.now (seen nodes.now) }
     requires places { places.now ≡ counted (length nodes.now) found.now }

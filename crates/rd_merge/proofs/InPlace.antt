@@ -3,6 +3,7 @@ use Rattle.std.proofs.Common.{◌≡◌, refl, ap, ◌∙◌, sym, subst, ℕ, z
 use Rattle.std.specs.Prelude.{Option, Some, None, is_some, vec_len}
 use Rattle.std.specs.declared.vec.Vec.{Vec}
 use Rattle.rd_graph.specs.Gathered.{gathered}
+use Rattle.rd_graph.specs.Internal.Taking.{KeepsOthers}
 use Rattle.rd_item.specs.Items.{Made}
 use Rattle.rd_keys.specs.declared.entry.EntryKey.{EntryKey}
 use Rattle.rd_list.specs.Wrappers.{Wrapper, wrapper}
@@ -16,7 +17,7 @@ use Rattle.rd_list.specs.declared.kept.Group.{Group}
 use Rattle.rd_list.proofs.Joins.{join-nil, join_assoc}
 use Rattle.rd_list.proofs.News.{kept-append}
 use Rattle.rd_merge.specs.Plans.{arranged_entries, entry_at, gathered_entries, put_entry, size_of, with_entry, wrapper_at}
-use Rattle.rd_merge.specs.Internal.Moving.{KeepsOthers, IsSameBut, NoneMade}
+use Rattle.rd_merge.specs.Internal.Moving.{IsSameBut, NoneMade}
 use Rattle.rd_merge.specs.Internal.PlanRoom.{HasLineRoom}
 
 abbrev pub Olds : Type 0

@@ -27,6 +27,7 @@ pub fn finish<A: Ledger>(kept: Kept<A>, new: NewList<A>, plan: Plan<A>) -> Kept<
         patch,
         steps,
         mut made,
+        aside,
         room,
     } = plan;
     let mut entries = kept.entries;
@@ -34,7 +35,7 @@ pub fn finish<A: Ledger>(kept: Kept<A>, new: NewList<A>, plan: Plan<A>) -> Kept<
     for step in steps {
         finish_step(alloc, &mut entries, &mut made, &mut fresh, step);
     }
-    let entries = in_line(alloc, entries, made, patch.line(), room);
+    let entries = in_line(alloc, entries, made, patch.line(), aside, room);
     Kept {
         entries,
         graph: kept.graph.apply(patch),

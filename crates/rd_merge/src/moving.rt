@@ -1,13 +1,15 @@
 //! Entries of a level are moved to their places, and nothing takes memory.
-ghost use Rattle.std.specs.Prelude.{◌≡◌, ◌<◌, ◌≤◌, ◌+◌, ◌∷◌, ◌++◌, [], true, drop, slice_index_or, vec_len, vec_capacity, length, option_map};
+ghost use Rattle.std.specs.Prelude.{◌≡◌, ℕ, ◌<◌, ◌≤◌, ◌+◌, ◌∷◌, ◌++◌, [], true, drop, slice_index_or, vec_len, vec_capacity, length, option_map};
 ghost use Rattle.rd_graph.specs.Gathered.{gathered, ArePlaces, IsLine};
+ghost use Rattle.rd_graph.specs.Internal.Taking.{KeepsBut, KeepsOthers, KeepsOutside};
+ghost use Rattle.rd_graph.specs.Runs.{places_aside, places_of, up_from};
 ghost use Rattle.rd_list.specs.Entries.{◌▷◌};
 ghost use Rattle.rd_list.specs.KeptView.{kept_entries};
 ghost use Rattle.rd_merge.specs.Plans.{arranged_entries, IsPlace, one_made, put_entry};
-ghost use Rattle.rd_merge.specs.Internal.Moving.{KeepsOthers, NoneMade};
+ghost use Rattle.rd_merge.specs.Internal.Moving.{NoneMade};
 ghost use Rattle.rd_merge.specs.Internal.PlanRoom.{HasLineRoom};
 
-use rd_graph::{gather_rising, is_rising};
+use rd_graph::{Run, gather_rising, has_room_aside, is_rising};
 use rd_list::{Entry, Group, Kept};
 use std::alloc::Global;
 use std::mem;
@@ -82,43 +84,113 @@ fn take_entry<A: Ledger>(
     take_at(alloc, made, place)
 }
 
+/// Moves so many old and made entries from a place on to the end of `room`, which has capacity for them.
+fn gather_run<A: Ledger>(
+    alloc: Global,
+    entries: &mut Vec<Entry<A>>,
+    made: &mut Vec<Entry<A>>,
+    run: Run,
+    room: &mut Vec<Entry<A>>,
+)
+    requires places { (k : ℕ) → k < run.count → run.from + k < vec_len entries.old + vec_len made.old }
+    requires room { vec_len room.old + run.count ≤ vec_capacity room.old }
+    ensures moved { room.new.items
+        ≡ room.old.items ++ gathered (up_from run.from run.count) (entries.old.items ++ made.old.items) }
+    ensures others { KeepsOutside run.from run.count (entries.old.items ++ made.old.items)
+        (entries.new.items ++ made.new.items) }
+    ensures entries { vec_len entries.new ≡ vec_len entries.old }
+    ensures made { vec_len made.new ≡ vec_len made.old }
+    ensures len { vec_len room.new ≡ vec_len room.old + run.count }
+    ensures room { vec_capacity room.old ≤ vec_capacity room.new }
+{
+    for i in 0..run.count {
+        room.push_reserved(take_entry(alloc, entries, made, run.from + i));
+    }
+}
+
 /// Moves old and made entries to the end of `room`, which has capacity for them.
 fn gather<A: Ledger>(
     alloc: Global,
     entries: &mut Vec<Entry<A>>,
     made: &mut Vec<Entry<A>>,
-    line: &[usize],
+    runs: &[Run],
     room: &mut Vec<Entry<A>>,
 )
-    requires places { ArePlaces line.now (vec_len entries.old + vec_len made.old) }
-    requires room { vec_len room.old + length line.now ≤ vec_capacity room.old }
-    ensures { room.new.items ≡ room.old.items ++ gathered line.now (entries.old.items ++ made.old.items) }
+    requires places { ArePlaces (places_of runs.now) (vec_len entries.old + vec_len made.old) }
+    requires room { vec_len room.old + length (places_of runs.now) ≤ vec_capacity room.old }
+    ensures { room.new.items
+        ≡ room.old.items ++ gathered (places_of runs.now) (entries.old.items ++ made.old.items) }
 {
-    for p in line {
-        let entry = take_entry(alloc, entries, made, *p);
-        if room.push(entry).is_err() {
-            return;
-        }
+    for run in runs {
+        gather_run(alloc, entries, made, *run, room);
     }
 }
 
-/// Moves old and made entries to the end of `room`, which has capacity for them. In one pass where each rise.
+/// Sets the entries of a run aside, if that is said of it.
+fn set_run_aside<A: Ledger>(
+    alloc: Global,
+    entries: &mut Vec<Entry<A>>,
+    made: &mut Vec<Entry<A>>,
+    run: Run,
+    aside: &mut Vec<Entry<A>>,
+)
+    requires places { (k : ℕ) → k < run.count → run.from + k < vec_len entries.old + vec_len made.old }
+    requires room { vec_len aside.old + length (places_aside (run ∷ [])) ≤ vec_capacity aside.old }
+    ensures moved { aside.new.items
+        ≡ aside.old.items ++ gathered (places_aside (run ∷ [])) (entries.old.items ++ made.old.items) }
+    ensures others { KeepsBut (places_aside (run ∷ [])) (entries.old.items ++ made.old.items) (entries.new.items ++ made.new.items) }
+    ensures entries { vec_len entries.new ≡ vec_len entries.old }
+    ensures made { vec_len made.new ≡ vec_len made.old }
+    ensures len { vec_len aside.new ≡ vec_len aside.old + length (places_aside (run ∷ [])) }
+    ensures room { vec_capacity aside.old ≤ vec_capacity aside.new }
+{
+    if run.aside {
+        gather_run(alloc, entries, made, run, aside);
+    }
+}
+
+/// Sets entries aside: those of the runs of which that is said.
+fn set_aside<A: Ledger>(
+    alloc: Global,
+    entries: &mut Vec<Entry<A>>,
+    made: &mut Vec<Entry<A>>,
+    runs: &[Run],
+    aside: &mut Vec<Entry<A>>,
+)
+    requires places { ArePlaces (places_of runs.now) (vec_len entries.old + vec_len made.old) }
+    requires room { vec_len aside.old + length (places_aside runs.now) ≤ vec_capacity aside.old }
+    ensures moved { aside.new.items
+        ≡ aside.old.items ++ gathered (places_aside runs.now) (entries.old.items ++ made.old.items) }
+    ensures others { KeepsBut (places_aside runs.now) (entries.old.items ++ made.old.items) (entries.new.items ++ made.new.items) }
+    ensures entries { vec_len entries.new ≡ vec_len entries.old }
+    ensures made { vec_len made.new ≡ vec_len made.old }
+    ensures len { vec_len aside.new ≡ vec_len aside.old + length (places_aside runs.now) }
+{
+    for run in runs {
+        set_run_aside(alloc, entries, made, *run, aside);
+    }
+}
+
+/// Moves old and made entries to the end of `room`, which has capacity for them. In one pass where each rise, but for those
+/// that are set aside before.
 fn line_up<A: Ledger>(
     alloc: Global,
     mut entries: Vec<Entry<A>>,
     mut made: Vec<Entry<A>>,
-    line: &[usize],
+    runs: &[Run],
+    mut aside: Vec<Entry<A>>,
     room: &mut Vec<Entry<A>>,
 )
-    requires places { ArePlaces line.now (vec_len entries + vec_len made) }
-    requires room { vec_len room.old + length line.now ≤ vec_capacity room.old }
-    ensures { room.new.items ≡ room.old.items ++ gathered line.now (entries.items ++ made.items) }
+    requires places { ArePlaces (places_of runs.now) (vec_len entries + vec_len made) }
+    requires room { vec_len room.old + length (places_of runs.now) ≤ vec_capacity room.old }
+    ensures { room.new.items ≡ room.old.items ++ gathered (places_of runs.now) (entries.items ++ made.items) }
 {
-    if is_rising(line, entries.len(), made.len()) {
-        gather_rising(entries, made, line, room);
+    if is_rising(runs, entries.len(), made.len()) && has_room_aside(runs, &aside) {
+        set_aside(alloc, &mut entries, &mut made, runs, &mut aside);
+        gather_rising(entries, made, aside, runs, room);
         return;
     }
-    gather(alloc, &mut entries, &mut made, line, room);
+    gather(alloc, &mut entries, &mut made, runs, room);
 }
 
 /// The entries as they are, or old and made ones in a line.
@@ -126,19 +198,20 @@ pub(crate) fn in_line<A: Ledger>(
     alloc: Global,
     entries: Vec<Entry<A>>,
     made: Vec<Entry<A>>,
-    line: Option<&[usize]>,
+    line: Option<&[Run]>,
+    aside: Vec<Entry<A>>,
     mut room: Vec<Entry<A>>,
 ) -> Vec<Entry<A>>
-    requires line { IsLine (option_map (λ l. l.now) line) (vec_len entries + vec_len made) }
-    requires still { NoneMade (option_map (λ l. l.now) line) (vec_len made) }
-    requires room { HasLineRoom (option_map (λ l. l.now) line) room }
+    requires line { IsLine (option_map (λ l. places_of l.now) line) (vec_len entries + vec_len made) }
+    requires still { NoneMade (option_map (λ l. places_of l.now) line) (vec_len made) }
+    requires room { HasLineRoom (option_map (λ l. places_of l.now) line) room }
     ensures { kept_entries result.items
-        ≡ arranged_entries (option_map (λ l. l.now) line.entry) (kept_entries entries.items ▷ kept_entries made.items) }
+        ≡ arranged_entries (option_map (λ l. places_of l.now) line.entry) (kept_entries entries.items ▷ kept_entries made.items) }
 {
     match line {
         None => entries,
         Some(line) => {
-            line_up(alloc, entries, made, line, &mut room);
+            line_up(alloc, entries, made, line, aside, &mut room);
             room
         }
     }

@@ -7,7 +7,8 @@ use std::alloc::Global;
 use std::marker::Model;
 use std::sync::ledger::Ledger;
 
-/// What a merge does at a level: the patch of its graph, what is put where, and room for the entries that are made and for the line.
+/// What a merge does at a level: the patch of its graph, what is put where, and room for the entries that are made, for those that are
+/// set aside and for the line.
 #[derive(Drop)]
 #[cycle(plan)]
 pub struct Plan<A: Ledger> {
@@ -15,6 +16,7 @@ pub struct Plan<A: Ledger> {
     pub(crate) patch: Patch,
     pub(crate) steps: Vec<Step<A>>,
     pub(crate) made: Vec<Entry<A>>,
+    pub(crate) aside: Vec<Entry<A>>,
     pub(crate) room: Vec<Entry<A>>,
 }
 

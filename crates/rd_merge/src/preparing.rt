@@ -15,7 +15,7 @@ ghost use Rattle.rd_merge.specs.Internal.Planning.{EntriesFit, GroupFits, Groups
 use crate::going::Touches;
 use crate::looking::look;
 use crate::plan::{Plan, Step};
-use rd_graph::Patch;
+use rd_graph::{Patch, count_aside, count_of};
 use rd_list::{Entry, Kept, NewEntry, NewList, new_keys};
 use std::alloc::{AllocError, Global};
 use std::sync::ledger::Ledger;
@@ -44,7 +44,15 @@ fn line_room<A: Ledger>(alloc: Global, patch: &Patch) -> Result<Vec<Entry<A>>, A
     ensures { IfOk result (λ r. HasLineRoom (line_of patch.now) r) }
 {
     match patch.line() {
-        Some(line) => Vec::with_capacity(alloc, line.len()),
+        Some(line) => Vec::with_capacity(alloc, count_of(line)),
+        None => Ok(Vec::new(alloc)),
+    }
+}
+
+/// Room for the entries of a line that are set aside, if there is one.
+fn aside_room<A: Ledger>(alloc: Global, patch: &Patch) -> Result<Vec<Entry<A>>, AllocError> {
+    match patch.line() {
+        Some(line) => Vec::with_capacity(alloc, count_aside(line)),
         None => Ok(Vec::new(alloc)),
     }
 }
@@ -68,12 +76,14 @@ fn plan_level<A: Ledger, T: Touches>(
     let mut inner = plan_groups(alloc, kept, &looked.inner, tree)?;
     steps.append(&mut inner)?;
     let made = Vec::with_capacity(alloc, names.len())?;
+    let aside = aside_room(alloc, &patch)?;
     let room = line_room(alloc, &patch)?;
     Ok(Plan {
         alloc,
         patch,
         steps,
         made,
+        aside,
         room,
     })
 }

@@ -9,7 +9,9 @@ use Rattle.rd_graph.specs.Graphs.{Graph, nodes}
 use Rattle.rd_graph.specs.Patches.{IsArranged}
 use Rattle.rd_graph.specs.Internal.Seen.{seen}
 use Rattle.rd_graph.specs.Internal.Tables.{label_in}
+use Rattle.rd_graph.specs.Runs.{places_of}
 use Rattle.rd_graph.specs.declared.graph.Node.{Node}
+use Rattle.rd_graph.specs.declared.runs.Run.{Run}
 use Rattle.rd_graph.specs.Internal.Chains.{AreLabels}
 use Rattle.rd_graph.specs.Internal.Walks.{stays_at, staying}
 
@@ -60,5 +62,5 @@ pub record ArePlacesByRank (stays : List Bool) (places : List ℕ) (chain : List
   pub alone : line ≡ map (λ (x : ℕ × ℕ). x.1) pairs
 
 -- a line of places is one of the merge
-abbrev pub IsLineOf : {A : Type 0} → List ℕ → List EntryKey → List (Option ℕ) → Graph EntryKey → Vec ℕ A → Type 0
-IsLineOf gone chain found g line = IsArranged gone chain found g (Some line.items)
+abbrev pub IsLineOf : {A : Type 0} → List ℕ → List EntryKey → List (Option ℕ) → Graph EntryKey → Vec Run A → Type 0
+IsLineOf gone chain found g runs = IsArranged gone chain found g (Some (places_of runs.items))

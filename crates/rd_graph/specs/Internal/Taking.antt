@@ -1,13 +1,17 @@
 -- Nodes that are taken out of their places.
-use Rattle.std.specs.Prelude.{◌≡◌, ℕ, zero, suc, ◌<◌, ◌≢◌, List, [], ◌∷◌, length, slice_index_or}
+use Rattle.std.specs.Prelude.{◌≡◌, ℕ, ◌+◌, ◌<◌, ◌≤◌, ◌⊎◌, ◌≢◌, List, length, slice_index_or, Contains}
 
 -- a list with one place changed
 pub record KeepsOthers {T : Type 0} (i : ℕ) (old new : List T) : Type 0 where
   pub size : length new ≡ length old
   pub others : (k : ℕ) (d : T) → k ≢ i → slice_index_or new k d ≡ slice_index_or old k d
 
--- places of a line that follow each other below an end, so many of them from a place on
-abbrev pub IsRun : ℕ → ℕ → ℕ → List ℕ → Type 0
-IsRun end zero p ps = Unit {0}
-IsRun end (suc count) p [] = ⊥
-IsRun end (suc count) p (q ∷ ps) = (q ≡ p) × (p < end) × IsRun end count (suc p) ps
+-- a list as it was but for so many places from one on
+pub record KeepsOutside {T : Type 0} (from count : ℕ) (old new : List T) : Type 0 where
+  pub size : length new ≡ length old
+  pub others : (k : ℕ) (d : T) → (k < from) ⊎ (from + count ≤ k) → slice_index_or new k d ≡ slice_index_or old k d
+
+-- a list as it was but for these places
+pub record KeepsBut {T : Type 0} (ps : List ℕ) (old new : List T) : Type 0 where
+  pub size : length new ≡ length old
+  pub others : (k : ℕ) (d : T) → (Contains ps k → ⊥) → slice_index_or new k d ≡ slice_index_or old k d

@@ -1,14 +1,9 @@
 -- Entries that are taken out of their places and put there.
-use Rattle.std.specs.Prelude.{◌≡◌, ℕ, ◌≢◌, List, length, slice_index_or, Option, Some, None}
+use Rattle.std.specs.Prelude.{◌≡◌, ℕ, List, Option, Some, None}
 use Rattle.rd_item.specs.Items.{Made}
 use Rattle.rd_list.specs.Wrappers.{Wrapper}
 use Rattle.rd_list.specs.Entries.{Entries, nil, leaf, group}
 use Rattle.rd_merge.specs.Plans.{Steps, later, left_for, with_entry}
-
--- a list with one place changed
-pub record KeepsOthers {T : Type 0} (i : ℕ) (old new : List T) : Type 0 where
-  pub size : length new ≡ length old
-  pub others : (k : ℕ) (d : T) → k ≢ i → slice_index_or new k d ≡ slice_index_or old k d
 
 -- a level as it was but for the entry at a place, if one is given
 abbrev pub IsSameBut : {G L : Type 0} → Option ℕ → Entries G L → Entries G L → Type 0

@@ -1,5 +1,5 @@
 -- The entries of a new list that are not taken yet.
-use Rattle.std.specs.Prelude.{◌≡◌, [], ◌∷◌, Option, Some, None}
+use Rattle.std.specs.Prelude.{◌≡◌, []}
 use Rattle.std.specs.Vec.Iter.{into_iter_items}
 use Rattle.rd_item.specs.Items.{Made}
 use Rattle.rd_list.specs.Wrappers.{Wrapper}

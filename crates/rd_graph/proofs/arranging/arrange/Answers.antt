@@ -2,6 +2,7 @@ use Rattle.std.proofs.Common.{refl, ap, ◌∙◌, sym, subst, List, Some, lengt
 use Rattle.rd_graph.specs.Graphs.{IsInOrder}
 use Rattle.rd_graph.specs.Patches.{CanBePatched, IsArranged}
 use Rattle.rd_graph.specs.Internal.Seen.{seen}
+use Rattle.rd_graph.specs.Runs.{places_of}
 use Rattle.rd_graph.specs.declared.graph.Node.{Node}
 use Rattle.rd_graph.proofs.StandingStill.{still_line}
 use Rattle.rd_graph.proofs.arranging.arrange.Goals as goal
@@ -22,4 +23,4 @@ pub moving_line-requires-clause-places : goal.moving_line-requires-clause-places
 moving_line-requires-clause-places c = c.deref-2.ensures.value ∙ c.in_ok-places.ensures
 
 pub returns : goal.returns
-returns c = subst (λ g. IsArranged c.args.gone.now c.args.chain.now c.args.found.now g (Some c.in_ok-line.line.items)) (ap seen c.deref-nodes.ensures.value ∙ c.graph.view_is) c.in_ok-line.ensures
+returns c = subst (λ g. IsArranged c.args.gone.now c.args.chain.now c.args.found.now g (Some (places_of c.in_ok-line.line.items))) (ap seen c.deref-nodes.ensures.value ∙ c.graph.view_is) c.in_ok-line.ensures

@@ -1,5 +1,7 @@
-use Rattle.std.proofs.Common.{◌∙◌, ap, length}
+use Rattle.std.proofs.Common.{◌∙◌, ap, sym, subst, length, Some}
 use Rattle.std.proofs.lemmas.Result.{IfOk-weaker}
+use Rattle.rd_graph.specs.Patches.{IsArranged}
+use Rattle.rd_graph.specs.Internal.Seen.{seen}
 use Rattle.rd_graph.proofs.RankedMerges.{ranked_by, once_fixed, count_places, marked_at}
 use Rattle.rd_graph.proofs.ranking.ranked_line.Goals as goal
 
@@ -18,7 +20,8 @@ sorted_places-requires-clause-once c =
 
 pub returns : goal.returns
 returns c =
-    IfOk-weaker c.sorted_places.result _ _
-    (λ v. ranked_by c.args.gone.now c.args.chain.now c.args.found.now c.args.nodes.now c.requires.can c.requires.sound c.deref.result.now c.args.places.now (ap length c.deref.ensures.value ∙ c.in_ok-stays.ensures.count)
-    (marked_at _ _ _ c.args.gone.now c.deref.ensures.value c.in_ok-stays.ensures.stays) c.requires.places v.items)
-    c.sorted_places.ensures
+    IfOk-weaker c.runs_of.result _ _
+    (λ v e. subst (λ ps. IsArranged c.args.gone.now c.args.chain.now c.args.found.now (seen c.args.nodes.now) (Some ps)) (sym (e ∙ c.deref-2.ensures.value))
+    (ranked_by c.args.gone.now c.args.chain.now c.args.found.now c.args.nodes.now c.requires.can c.requires.sound c.deref.result.now c.args.places.now (ap length c.deref.ensures.value ∙ c.in_ok-stays.ensures.count)
+    (marked_at _ _ _ c.args.gone.now c.deref.ensures.value c.in_ok-stays.ensures.stays) c.requires.places c.in_ok-line.line.items c.in_ok-line.ensures))
+    c.runs_of.ensures

@@ -1,8 +1,9 @@
 use Rattle.std.proofs.Common.{refl}
+use Rattle.rd_graph.specs.Runs.{places_of}
 use Rattle.rd_graph.proofs.WalkedLines.{walked_by}
 use Rattle.rd_graph.proofs.walking.walked_line.Goals as goal
 
 pub returns : goal.returns
 returns c =
-    walked_by c.args.gone.now c.args.chain.now c.args.found.now c.args.nodes.now c.requires.can c.requires.sound c.in_ok-stays.stays.items c.deref.result.now c.deref-2.result.now c.args.places.now c.in_ok-line.line.items
+    walked_by c.args.gone.now c.args.chain.now c.args.found.now c.args.nodes.now c.requires.can c.requires.sound c.in_ok-stays.stays.items c.deref.result.now c.deref-2.result.now c.args.places.now (places_of c.in_ok-line.line.items)
     c.in_ok-stays.ensures.count c.in_ok-stays.ensures.stays c.requires.places c.deref.ensures.value c.deref-2.ensures.value (c.if-not-rises_where.ensures.0 refl) c.in_ok-line.ensures

@@ -4,6 +4,7 @@ use Rattle.rd_graph.specs.Patches.{line_of}
 use Rattle.rd_graph.proofs.PutInPlace.{fits}
 use Rattle.rd_list.specs.Entries.{◌▷◌, list_size}
 use Rattle.rd_list.specs.KeptView.{kept_entries}
+use Rattle.rd_graph.specs.Runs.{places_of}
 use Rattle.rd_merge.specs.Internal.Untaken.{untaken}
 use Rattle.rd_merge.specs.Plans.{size_of, made_count}
 use Rattle.rd_merge.specs.PlanView.{steps_seen}
@@ -96,7 +97,7 @@ finish-in_line-entries-requires-clause-line g t c =
     let none = none_counted c.loop-step.step-iterator.rest.items (omega (arith, ok.0, over.0)) in
     let entries = inv.4 in
     let counted = inv.5 in
-    line_so (option_map (λ l. l.now) c.line.result) (line_of c.args.plan.patch) (vec_len c.loop-step.entries + vec_len c.loop-step.made) (size_of c.args.kept.entries + made_count c.args.plan.steps) (c.line.ensures ∙ ap (λ p. line_of p.patch) c.plan.view_is) (omega (arith, none, entries, counted)) c.requires.line
+    line_so (option_map (λ l. places_of l.now) c.line.result) (line_of c.args.plan.patch) (vec_len c.loop-step.entries + vec_len c.loop-step.made) (size_of c.args.kept.entries + made_count c.args.plan.steps) (c.line.ensures ∙ ap (λ p. line_of p.patch) c.plan.view_is) (omega (arith, none, entries, counted)) c.requires.line
 
 pub finish-in_line-entries-requires-clause-still : goal.finish-in_line-entries-requires-clause-still
 finish-in_line-entries-requires-clause-still g t c =
@@ -105,10 +106,10 @@ finish-in_line-entries-requires-clause-still g t c =
     let over = c.in-None.ensures.steps in
     let none = none_counted c.loop-step.step-iterator.rest.items (omega (arith, ok.0, over.0)) in
     let counted = inv.5 in
-    none_made (option_map (λ l. l.now) c.line.result) (line_of c.args.plan.patch) c.args.plan.steps (vec_len c.loop-step.made) (c.line.ensures ∙ ap (λ p. line_of p.patch) c.plan.view_is) (omega (arith, none, counted)) c.requires.still
+    none_made (option_map (λ l. places_of l.now) c.line.result) (line_of c.args.plan.patch) c.args.plan.steps (vec_len c.loop-step.made) (c.line.ensures ∙ ap (λ p. line_of p.patch) c.plan.view_is) (omega (arith, none, counted)) c.requires.still
 
 pub finish-in_line-entries-requires-clause-room : goal.finish-in_line-entries-requires-clause-room
-finish-in_line-entries-requires-clause-room g t c = room_so (option_map (λ l. l.now) c.line.result) (line_of c.plan.inside.patch) c.plan.inside.room c.line.ensures c.plan.invariant.2
+finish-in_line-entries-requires-clause-room g t c = room_so (option_map (λ l. places_of l.now) c.line.result) (line_of c.plan.inside.patch) c.plan.inside.room c.line.ensures c.plan.invariant.2
 
 pub finish-apply-requires : goal.finish-apply-requires
 finish-apply-requires g t c = fits c.plan.inside.patch c.args.plan.patch c.kept.inside.graph c.args.kept.graph (ap (λ p. p.patch) c.plan.view_is) (ap (λ k. k.graph) c.kept.view_is) c.requires.patch

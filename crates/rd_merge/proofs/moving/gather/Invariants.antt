@@ -1,14 +1,16 @@
-use Rattle.std.proofs.Common.{◌≡◌, ◌<◌, ◌≤◌, ◌+◌, ◌++◌, get_or, length, ℕ, take}
+use Rattle.std.proofs.Common.{◌≡◌, ◌≤◌, ◌+◌, ◌++◌, get_or, length, ℕ, take, drop}
 use Rattle.std.specs.Prelude.{vec_len, vec_capacity}
 use Rattle.rd_graph.specs.Gathered.{gathered}
+use Rattle.rd_graph.specs.Runs.{places_of}
+use Rattle.rd_graph.proofs.Listing.{Has}
 use Rattle.rd_merge.proofs.moving.gather.Given as goal
 
-abbrev pub invariant-loop-p : goal.invariant-loop-p
-invariant-loop-p g l = record {
-  moved : l.room.items ≡ l.fn.room.items ++ gathered (take l.p-index l.line) (l.fn.entries.items ++ l.fn.made.items);
-  left : (k : ℕ) → l.p-index ≤ k → k < length l.line → (d : _) → get_or (l.entries.items ++ l.made.items) (get_or l.line k 0) d ≡ get_or (l.fn.entries.items ++ l.fn.made.items) (get_or l.line k 0) d;
+abbrev pub invariant-loop-run : goal.invariant-loop-run
+invariant-loop-run g l = record {
+  moved : l.room.items ≡ l.fn.room.items ++ gathered (places_of (take l.run-index l.runs)) (l.fn.entries.items ++ l.fn.made.items);
+  left : (k : ℕ) → Has (places_of (drop l.run-index l.runs)) k → (d : _) → get_or (l.entries.items ++ l.made.items) k d ≡ get_or (l.fn.entries.items ++ l.fn.made.items) k d;
   entries : vec_len l.entries ≡ vec_len l.fn.entries;
   made : vec_len l.made ≡ vec_len l.fn.made;
-  filled : vec_len l.room ≡ vec_len l.fn.room + l.p-index;
+  filled : vec_len l.room ≡ vec_len l.fn.room + length (places_of (take l.run-index l.runs));
   roomy : vec_capacity l.fn.room ≤ vec_capacity l.room;
 }

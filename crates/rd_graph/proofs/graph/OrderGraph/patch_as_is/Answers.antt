@@ -5,22 +5,23 @@ use Rattle.rd_graph.specs.Patches.{CanBePatched}
 use Rattle.rd_graph.specs.declared.graph.Node.{Node}
 use Rattle.rd_graph.specs.Internal.Patching.{lists_seen}
 use Rattle.rd_graph.specs.Internal.Seen.{seen}
+use Rattle.rd_graph.specs.Runs.{places_of}
 use Rattle.rd_graph.proofs.Merged.{patched_by}
 use Rattle.rd_graph.proofs.Trimmings.{short_by}
 use Rattle.rd_graph.proofs.graph.OrderGraph.patch_as_is.Goals as goal
 
 pub returns-clause-fits : goal.returns-clause-fits
 returns-clause-fits c =
-    (short_by c.args.gone.now c.args.chain.now c.args.found.now c.args.self.now (seen c.in_ok-made.made.items) (lists_seen c.in_ok-relisted.relisted.items) (lists_seen c.in_ok-lists.lists.items) (option_map (λ v. v.items) c.in_ok-line.line)
+    (short_by c.args.gone.now c.args.chain.now c.args.found.now c.args.self.now (seen c.in_ok-made.made.items) (lists_seen c.in_ok-relisted.relisted.items) (lists_seen c.in_ok-lists.lists.items) (option_map (λ v. places_of v.items) c.in_ok-line.line)
     c.in_ok-lists.ensures
-    (patched_by c.args.gone.now c.args.chain.now c.args.found.now c.args.self.now c.deref.result.now c.self.inside.nodes.items (lists_seen c.in_ok-relisted.relisted.items) (seen c.in_ok-made.made.items) (option_map (λ v. v.items) c.in_ok-line.line)
+    (patched_by c.args.gone.now c.args.chain.now c.args.found.now c.args.self.now c.deref.result.now c.self.inside.nodes.items (lists_seen c.in_ok-relisted.relisted.items) (seen c.in_ok-made.made.items) (option_map (λ v. places_of v.items) c.in_ok-line.line)
     c.requires c.self.invariant c.self.view_is c.deref.ensures.value c.in_ok-relisted.ensures c.in_ok-line.ensures c.in_ok-made.ensures)).0
 
 pub returns-clause-patched : goal.returns-clause-patched
 returns-clause-patched c =
-    (short_by c.args.gone.now c.args.chain.now c.args.found.now c.args.self.now (seen c.in_ok-made.made.items) (lists_seen c.in_ok-relisted.relisted.items) (lists_seen c.in_ok-lists.lists.items) (option_map (λ v. v.items) c.in_ok-line.line)
+    (short_by c.args.gone.now c.args.chain.now c.args.found.now c.args.self.now (seen c.in_ok-made.made.items) (lists_seen c.in_ok-relisted.relisted.items) (lists_seen c.in_ok-lists.lists.items) (option_map (λ v. places_of v.items) c.in_ok-line.line)
     c.in_ok-lists.ensures
-    (patched_by c.args.gone.now c.args.chain.now c.args.found.now c.args.self.now c.deref.result.now c.self.inside.nodes.items (lists_seen c.in_ok-relisted.relisted.items) (seen c.in_ok-made.made.items) (option_map (λ v. v.items) c.in_ok-line.line)
+    (patched_by c.args.gone.now c.args.chain.now c.args.found.now c.args.self.now c.deref.result.now c.self.inside.nodes.items (lists_seen c.in_ok-relisted.relisted.items) (seen c.in_ok-made.made.items) (option_map (λ v. places_of v.items) c.in_ok-line.line)
     c.requires c.self.invariant c.self.view_is c.deref.ensures.value c.in_ok-relisted.ensures c.in_ok-line.ensures c.in_ok-made.ensures)).1
 
 pub changed-requires-clause-sound : goal.changed-requires-clause-sound

@@ -1,0 +1,102 @@
+//! Places as runs of places that follow each other.
+ghost use Rattle.std.specs.Prelude.{◌≡◌, ◌^◌, ◌+◌, ◌-◌, ◌<◌, ◌++◌, ◌∷◌, [], IsTrue, OnOk, IfOk, length, min};
+ghost use Rattle.rd_graph.specs.Runs.{places_aside, places_of, up_from};
+
+use std::alloc::{AllocError, Global};
+
+/// So many places that follow each other, and the first of them; and whether what stands there is set aside before the
+/// rest is moved, since its place is not in the order of the others.
+#[derive(Clone, Copy)]
+pub struct Run {
+    pub from: usize,
+    pub count: usize,
+    pub aside: bool,
+}
+
+/// Puts so many places from one on at the end.
+pub(crate) fn push_run(
+    runs: &mut Vec<Run>,
+    from: usize,
+    count: usize,
+    aside: bool,
+) -> Result<(), AllocError>
+    ensures { OnOk result (places_of runs.new.items ≡ places_of runs.old.items ++ up_from from count) }
+{
+    if count == 0 {
+        return Ok(());
+    }
+    runs.push(Run { from, count, aside })?;
+    Ok(())
+}
+
+/// Does the place follow a run, and may it be of the run? The first place `apart` of another kind may not, nor one that is
+/// set aside where the run is not.
+fn goes_on(run: Run, place: usize, apart: usize, aside: bool) -> bool
+    ensures next { IsTrue result → place ≡ run.from + run.count }
+    ensures few { IsTrue result → run.count + 1 < 2 ^ 64 }
+{
+    place != apart
+        && run.aside == aside
+        && run.from <= place
+        && place - run.from == run.count
+        && run.count < usize::MAX
+}
+
+/// Puts a place at the end.
+pub(crate) fn push_place(
+    runs: &mut Vec<Run>,
+    place: usize,
+    apart: usize,
+    aside: bool,
+) -> Result<(), AllocError>
+    ensures { OnOk result (places_of runs.new.items ≡ places_of runs.old.items ++ place ∷ []) }
+{
+    let Some(last) = runs.pop() else {
+        return push_run(runs, place, 1, aside);
+    };
+    if goes_on(last, place, apart, aside) {
+        return push_run(runs, last.from, last.count + 1, aside);
+    }
+    push_run(runs, last.from, last.count, last.aside)?;
+    push_run(runs, place, 1, aside)
+}
+
+/// The places as runs, the first place `apart` of another kind not after those before it.
+pub(crate) fn runs_of(alloc: Global, places: &[usize], apart: usize) -> Result<Vec<Run>, AllocError>
+    ensures { IfOk result (λ v. places_of v.items ≡ places.now) }
+{
+    let mut runs = Vec::new(alloc);
+    for place in places {
+        push_place(&mut runs, *place, apart, false)?;
+    }
+    Ok(runs)
+}
+
+/// How many places there are, or else the greatest number.
+pub fn count_of(runs: &[Run]) -> usize
+    ensures { result ≡ min (length (places_of runs.now)) (2 ^ 64 - 1) }
+{
+    let mut count: usize = 0;
+    for run in runs {
+        count = count.saturating_add(run.count);
+    }
+    count
+}
+
+/// How many of a run's places are set aside.
+fn aside_of(run: Run) -> usize
+    ensures { result ≡ length (places_aside (run ∷ [])) }
+{
+    if run.aside { run.count } else { 0 }
+}
+
+/// How many places there are of runs that are set aside, or else the greatest number.
+pub fn count_aside(runs: &[Run]) -> usize
+    ensures { result ≡ min (length (places_aside runs.now)) (2 ^ 64 - 1) }
+{
+    let mut count: usize = 0;
+    for run in runs {
+        count = count.saturating_add(aside_of(*run));
+    }
+    count
+}
