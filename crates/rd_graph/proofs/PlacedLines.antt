@@ -45,7 +45,7 @@ module _ {E : Type 0} where
       subst Once (sym (gathered_map (p ∷ ps) (x ∷ xs) x below))
       (once_map_apart (λ q. get_or (x ∷ xs) q x) (p ∷ ps) (λ q r h k e. same_place (x ∷ xs) q r x o (below_has (length (x ∷ xs)) (p ∷ ps) q below h) (below_has (length (x ∷ xs)) (p ∷ ps) r below k) e) once)
 
-  before_places : (xs : List E) (a b d : E) → Before xs a b → (i : ℕ) × (j : ℕ) × (i < j) × (j < length xs) × (get_or xs i d ≡ a) × (get_or xs j d ≡ b)
+  pub before_places : (xs : List E) (a b d : E) → Before xs a b → (i : ℕ) × (j : ℕ) × (i < j) × (j < length xs) × (get_or xs i d ≡ a) × (get_or xs j d ≡ b)
   before_places [] a b d h = absurd h
   before_places (x ∷ xs) a b d (inl h) = let c = at_any xs b d (has_from xs b h.1) in (0, suc c.0, omega arith, (let l = c.1 in omega (arith, l)), h.0, c.2)
     where

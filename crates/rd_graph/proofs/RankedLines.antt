@@ -98,7 +98,26 @@ module _ (stays : List Bool) where
         )
       ]
 
-  -- ---- names of the chain that stay
+  -- ---- places and names of the chain that stay
+
+  pub fixed_places : (ps : List ℕ) (p : ℕ) → Has (fixed stays ps ps) p → stays_at stays p ≡ true
+  fixed_places [] p h = absurd h
+  fixed_places (q ∷ ps) p h = elim (cases (stays_at stays q)) [
+    | inl t ↦ let k : Has (q ∷ fixed stays ps ps) p = rw t at h in elim k [ inl e ↦ ap (stays_at stays) (sym e) ∙ t | inr m ↦ fixed_places ps p m ]
+    | inr f ↦ let k : Has (fixed stays ps ps) p = rw f at h in fixed_places ps p k
+  ]
+
+  pub fixed_length : {E : Type 0} (ps : List ℕ) (ks : List E) → length ps ≡ length ks → length (fixed stays ps ps) ≡ length (fixed stays ps ks)
+  fixed_length [] [] e = refl
+  fixed_length [] (k ∷ ks) e = absurd (omega (arith, e))
+  fixed_length (p ∷ ps) [] e = absurd (omega (arith, e))
+  fixed_length (p ∷ ps) (k ∷ ks) e =
+      let rest = fixed_length ps ks (omega (arith, e)) in
+      elim (cases (stays_at stays p)) [ inl t ↦ rw t (omega (arith, rest)) | inr f ↦ rw f rest ]
+
+  pub fixed_map : {E : Type 0} (f : ℕ → E) (ps : List ℕ) → fixed stays ps (map f ps) ≡ map f (fixed stays ps ps)
+  fixed_map f [] = refl
+  fixed_map f (p ∷ ps) = elim (cases (stays_at stays p)) [ inl t ↦ rw t (ap (λ ks. f p ∷ ks) (fixed_map f ps)) | inr u ↦ rw u (fixed_map f ps) ]
 
   module _ {E : Type 0} (name : ℕ → E) where
     abbrev pub fixed_of : List ℕ → List E

@@ -5,7 +5,7 @@ use Rattle.std.specs.List.Sorted.{IsNonDecreasingBy, IsStableByKey}
 use Rattle.std.specs.Ordering.{nat_cmp}
 use Rattle.std.proofs.lemmas.Bool.{cases_lt, eqb-true, eq-eqb}
 use Rattle.std.proofs.Math.Dec.{eqb}
-use Rattle.std.proofs.lemmas.List.{map-append}
+use Rattle.std.proofs.lemmas.List.{map-append, get_or-map}
 use Rattle.std.proofs.lemmas.List.Sorted.{Contains-permutation, IsPermutation-map, IsPermutation-sym}
 use Rattle.rd_keys.specs.declared.entry.EntryKey.{EntryKey}
 use Rattle.rd_graph.specs.Graphs.{Graph, nodes, Precedes, Reaches, Hop, here, over, Stitch, Drops, GoTogether, IsInOrder}
@@ -14,22 +14,21 @@ use Rattle.rd_graph.specs.Orders.{Before}
 use Rattle.rd_graph.specs.Names.{same_entry}
 use Rattle.rd_graph.specs.Passes.{stitch_pass}
 use Rattle.rd_graph.specs.Patches.{CanBePatched, IsArranged, is_gone, not_found}
-use Rattle.rd_graph.specs.Internal.Chains.{AreLabels}
 use Rattle.rd_graph.specs.Internal.Seen.{seen}
 use Rattle.rd_graph.specs.Internal.Walks.{stays_at, staying, counted, free_after}
-use Rattle.rd_graph.specs.Internal.Ranks.{fixed, loose, ranked, ArePlacesByRank}
+use Rattle.rd_graph.specs.Internal.Ranks.{fixed, loose, ranked, AreNamesAt, AreRanks, ArePlacesByRank}
 use Rattle.rd_graph.specs.declared.graph.Node.{Node}
 use Rattle.rd_graph.proofs.Listing.{Has, Once, cases, has_from, contains_from, has_left, has_right, has_either, has_map, map_has, before_left, before_right, before_across, before_once, before_from, before_to, once_join}
 use Rattle.rd_graph.proofs.Calls.{once_of, once_to}
 use Rattle.rd_graph.proofs.Entries.{same_entry-sound, same_entry-refl, has_get}
 use Rattle.rd_graph.proofs.Dropping.{dropped}
 use Rattle.rd_graph.proofs.Sorting.{before_map, map_before, by_label, by_place, once_permutation}
-use Rattle.rd_graph.proofs.Gatherings.{AreBelow, below_at, has_below, gathered_map, apart_at}
+use Rattle.rd_graph.proofs.Gatherings.{AreBelow, has_below, gathered_map}
 use Rattle.rd_graph.proofs.LineFacts.{node_length, seen_length}
 use Rattle.rd_graph.proofs.ChainPlaces.{before_at}
 use Rattle.rd_graph.proofs.Walks.{staying_to, staying_from, staying_before, staying_once, stays_below}
 use Rattle.rd_graph.proofs.PlacedLines.{placed_line, once_places, chained, at_old, not_gone}
-use Rattle.rd_graph.proofs.RankedLines.{ranked_map, ranked_places, chain_pairs, chain_seconds, ranks_rise, loose_has, loose_before, loose_to, loose_once, fixed_of, fixed_to, fixed_before, fixed_once, fixed_rank}
+use Rattle.rd_graph.proofs.RankedLines.{ranked_map, ranked_places, chain_pairs, chain_seconds, ranks_rise, loose_has, loose_before, loose_to, loose_once, fixed_of, fixed_to, fixed_before, fixed_once, fixed_rank, fixed_length, fixed_map, fixed_places}
 
 pub counted_length : (n : ℕ) (os : List (Option ℕ)) → length (counted n os) ≡ length os
 counted_length n [] = refl
@@ -72,7 +71,21 @@ module _ (gone : List ℕ) (chain : List EntryKey) (found : List (Option ℕ)) (
   pub fx_once : Once fx
   fx_once = once_any fx fx_once_at
 
-  module _ (label : EntryKey → ℕ) (labels : AreLabels g fx label) (all sorted : List (ℕ × ℕ))
+  abbrev fp : List ℕ
+  fp = fixed stays places places
+
+  fp_within : (i : ℕ) → i < length fp → get_or fp i 0 < length g
+  fp_within i l = let u = stays_below stays (get_or fp i 0) (fixed_places stays places (get_or fp i 0) (has_get fp i 0 l)) in omega (arith, u, size)
+
+  -- the names of the chain that stay are those at its places that stay
+  pub fx_named : AreNamesAt fp fx g
+  fx_named = record {
+    count = fixed_length stays places chain (ap length are ∙ places_length chain found (length g) _ can.found_are);
+    within = fp_within;
+    at = λ i d l. ap (λ ks. get_or ks i d) (fx_is d ∙ fixed_map stays (name d) places) ∙ get_or-map (name d) fp i 0 d l ∙ at_old gone chain found g can sound stays places size marked are (get_or fp i 0) d (fp_within i l);
+  }
+
+  module _ (label : EntryKey → ℕ) (labels : AreRanks g fx label) (all sorted : List (ℕ × ℕ))
       (all_are : all ≡ loose stays 0 places ++ ranked label old (staying stays 0 (length g)))
       (moved : IsPermutation all sorted) (up : IsNonDecreasingBy (λ (x : ℕ × ℕ). x.0) sorted) (stable : IsStableByKey (λ (x : ℕ × ℕ). x.0) nat_cmp all sorted) where
     abbrev second : ℕ × ℕ → ℕ
@@ -155,24 +168,12 @@ module _ (gone : List ℕ) (chain : List EntryKey) (found : List (Option ℕ)) (
         let joint : Before all x y = subst (λ (zs : List (ℕ × ℕ)). Before zs x y) (sym all_are) (before_right free tied x y both) in
         put x y (before_from all x y joint) (before_to all x y joint) (elim (cases_lt x.0 y.0) [ inl k ↦ inl k | inr k ↦ inr (omega (arith, low, k), joint) ])
 
-    -- the label of a name of the chain that stays is its place among them
+    -- the rank of a name of the chain that stays is its place among them
     label_at : (i : ℕ) (d : EntryKey) → i < length fx → label (get_or fx i d) ≡ i
-    label_at i d l =
-        let b : EntryKey = get_or fx i d in
-        let low : label b ≤ i = labels.own i d l in
-        elim (labels.from b) [
-          | inl e ↦ absurd (omega (arith, e, low, l))
-          | inr r ↦
-              let m = r.1 in
-              let e = r.2 in
-              elim (cases_lt r.0 i) [
-                | inr k ↦ omega (arith, e, low, k)
-                | inl k ↦ absurd (elim (r.3 d) [
-                  | inl same ↦ apart_at fx r.0 i d fx_once k l same
-                  | inr reach ↦ back (get_or fx r.0 d) b d reach (before_at fx r.0 i d k l) (has_get fx r.0 d m) (has_get fx i d l)
-                ])
-              ]
-        ]
+    label_at i d l = elim (labels.own i d l) [
+      | inl e ↦ e
+      | inr r ↦ let k = r.1 in absurd (back (get_or fx r.0 d) (get_or fx i d) d r.2 (before_at fx r.0 i d k l) (has_get fx r.0 d (omega (arith, k, l))) (has_get fx i d l))
+    ]
       where
         left : Graph EntryKey
         left = stitch_pass same_entry (is_gone gone g) [] g
@@ -272,15 +273,15 @@ module _ (gone : List ℕ) (chain : List EntryKey) (found : List (Option ℕ)) (
   pub once_fixed : spec.Once (fixed stays places chain)
   once_fixed = once_to (fixed stays places chain) (fx_once gone chain found (seen ns) can sound stays places size_seen marked_seen are_seen)
 
+  pub named_fixed : AreNamesAt (fixed stays places places) (fixed stays places chain) (seen ns)
+  named_fixed = fx_named gone chain found (seen ns) can sound stays places size_seen marked_seen are_seen
+
   pub ranked_by : (line : List ℕ) → ArePlacesByRank stays places chain (seen ns) line → IsArranged gone chain found (seen ns) (Some line)
   ranked_by line by =
       let r = by.by_rank in
       subst (λ (ls : List ℕ). IsArranged gone chain found (seen ns) (Some ls)) (sym by.alone)
-      (ranked_line gone chain found (seen ns) can sound stays places size_seen marked_seen are_seen r.put.label r.put.labels r.before by.pairs
-      (r.put.pairs ∙ ap (λ m. loose stays 0 places ++ ranked r.put.label (nodes (seen ns)) (staying stays 0 m)) size_seen) r.same r.sorted r.stable)
-
-pub kept_within : (stays : List Bool) (ns : List Node) (kept : List ℕ) → length stays ≡ length ns → kept ≡ staying stays 0 (length stays) → (k : ℕ) → k < length kept → get_or kept k 0 < length ns
-kept_within stays ns kept size is k l = below_at (length ns) kept k (subst (λ ks. AreBelow (length ns) ks) (sym is) (has_below (length ns) (staying stays 0 (length stays)) (λ p h. let r = staying_to stays 0 (length stays) p h in let u = r.2 in omega (arith, u, size)))) l
+      (ranked_line gone chain found (seen ns) can sound stays places size_seen marked_seen are_seen r.put.rank r.put.ranks r.before by.pairs
+      (r.put.pairs ∙ ap (λ m. loose stays 0 places ++ ranked r.put.rank (nodes (seen ns)) (staying stays 0 m)) size_seen) r.same r.sorted r.stable)
 
 pub marked_at : (now stays : List Bool) (n : ℕ) (gone : List ℕ) → now ≡ stays → ((p : ℕ) → p < n → IsTrue (stays_at stays p) ↔ (Contains gone p → ⊥)) → (p : ℕ) → p < n → IsTrue (stays_at now p) ↔ (Contains gone p → ⊥)
 marked_at now stays n gone e h = subst (λ (ss : List Bool). (p : ℕ) → p < n → IsTrue (stays_at ss p) ↔ (Contains gone p → ⊥)) (sym e) h

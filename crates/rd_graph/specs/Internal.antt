@@ -4,6 +4,7 @@ pub mod MadeNodes
 pub mod Patching
 pub mod Relisting
 pub mod Ranks
+pub mod Regions
 pub mod Seen
 pub mod Tables
 pub mod Taking

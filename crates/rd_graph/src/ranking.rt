@@ -1,20 +1,18 @@
-//! A line by ranks: nodes are sorted by the first name of the chain that they are or reach.
-ghost use Rattle.std.specs.Prelude.{◌≡◌, ℕ, ◌+◌, ◌<◌, ◌++◌, ◌∷◌, [], IfOk, OnOk, Some, IsPermutation, length, map, slice_index_or, if◌then◌else◌, ◌^◌, ◌-◌, ◌≤◌};
+//! A line by ranks: nodes are sorted by their places among the names of the chain that stay.
+ghost use Rattle.std.specs.Prelude.{◌≡◌, ◌+◌, ◌<◌, ◌++◌, ◌∷◌, [], IfOk, OnOk, IsPermutation, length, map, if◌then◌else◌, ◌^◌, ◌-◌};
 ghost use Rattle.std.specs.List.Sorted.{IsNonDecreasingBy, IsStableByKey};
 ghost use Rattle.std.specs.Ordering.{nat_cmp};
 ghost use Rattle.rd_graph.specs.Graphs.{IsInOrder};
 ghost use Rattle.rd_graph.specs.Orders.{Once};
 ghost use Rattle.rd_graph.specs.Patches.{CanBePatched};
 ghost use Rattle.rd_graph.specs.Internal.Seen.{seen};
-ghost use Rattle.rd_graph.specs.Internal.Walks.{stays_at, staying, counted};
-ghost use Rattle.rd_graph.specs.Internal.Ranks.{fixed, rank_after, loose_one, loose, ranked_nodes, PutsLabelled, AreByRank, ArePlacesByRank, IsLineOf};
+ghost use Rattle.rd_graph.specs.Internal.Walks.{counted};
+ghost use Rattle.rd_graph.specs.Internal.Ranks.{fixed, rank_after, loose_one, loose, AreNamesAt, PutsRanked, AreByRank, ArePlacesByRank, IsLineOf};
 
-use crate::chain::label_nodes;
+use crate::counting::push_ranked;
 use crate::graph::Node;
 use crate::runs::{Run, runs_of};
-use crate::tables::label;
 use crate::walking::{marks, stays_there};
-use indexmap::IndexMap;
 use rd_keys::EntryKey;
 use std::alloc::{AllocError, Global};
 
@@ -43,6 +41,27 @@ fn fixed_names(
         push_fixed(&mut names, stays_there(stays, places[i]), chain[i])?;
     }
     Ok(names)
+}
+
+/// Puts a place of the chain at the end, if it stays.
+fn push_if(places: &mut Vec<usize>, stays: bool, place: usize) -> Result<(), AllocError>
+    ensures { OnOk result (places.new.items ≡ places.old.items ++ (if stays then place ∷ [] else [])) }
+{
+    if stays {
+        places.push(place)?;
+    }
+    Ok(())
+}
+
+/// The places of the chain that stay.
+fn fixed_places(alloc: Global, stays: &[bool], places: &[usize]) -> Result<Vec<usize>, AllocError>
+    ensures { IfOk result (λ v. v.items ≡ fixed stays.now places.now places.now) }
+{
+    let mut some = Vec::new(alloc);
+    for place in places {
+        push_if(&mut some, stays_there(stays, *place), *place)?;
+    }
+    Ok(some)
 }
 
 /// Puts a place of the chain at the end with its rank, unless it stays. Gives the rank of the next one.
@@ -79,23 +98,6 @@ fn loose_pairs(
     Ok(pairs)
 }
 
-/// Puts some places at the end, with the ranks of their nodes.
-fn push_ranked(
-    pairs: &mut Vec<(usize, usize)>,
-    nodes: &[Node],
-    kept: &[usize],
-    labels: &IndexMap<EntryKey, usize>,
-    last: usize,
-) -> Result<(), AllocError>
-    requires { (k : ℕ) → k < length kept.now → slice_index_or kept.now k 0 < length nodes.now }
-    ensures { OnOk result (pairs.new.items ≡ pairs.old.items ++ ranked_nodes labels.now last nodes.now kept.now) }
-{
-    for place in kept {
-        pairs.push((label(labels, last, nodes[*place].key), *place))?;
-    }
-    Ok(())
-}
-
 /// The pairs by their ranks, those of one rank as they stood.
 fn sort(pairs: &mut Vec<(usize, usize)>) -> Result<(), AllocError>
     ensures same { IsPermutation pairs.old.items pairs.new.items }
@@ -117,75 +119,6 @@ fn places_alone(alloc: Global, pairs: &[(usize, usize)]) -> Result<Vec<usize>, A
     Ok(places)
 }
 
-/// Puts a place at the end, if it stays.
-fn push_if(line: &mut Vec<usize>, stays: bool, place: usize) -> Result<(), AllocError>
-    ensures { OnOk result (line.new.items ≡ line.old.items ++ (if stays then place ∷ [] else [])) }
-{
-    if stays {
-        line.push(place)?;
-    }
-    Ok(())
-}
-
-/// Puts those places at the end that stay, of a stretch of places.
-fn push_staying(
-    line: &mut Vec<usize>,
-    stays: &[bool],
-    from: usize,
-    to: usize,
-) -> Result<(), AllocError>
-    requires { to ≤ length stays.now }
-    ensures { OnOk result (line.new.items ≡ line.old.items ++ staying stays.now from (to - from)) }
-{
-    for place in from..to {
-        push_if(line, stays[place], place)?;
-    }
-    Ok(())
-}
-
-/// The places that stay.
-fn staying_places(alloc: Global, stays: &[bool]) -> Result<Vec<usize>, AllocError>
-    ensures { IfOk result (λ v. v.items ≡ staying stays.now 0 (length stays.now)) }
-{
-    let mut kept = Vec::with_capacity(alloc, stays.len())?;
-    push_staying(&mut kept, stays, 0, stays.len())?;
-    Ok(kept)
-}
-
-/// Puts the places that stay at the end, with the ranks of their nodes.
-fn push_kept(
-    alloc: Global,
-    pairs: &mut Vec<(usize, usize)>,
-    nodes: &[Node],
-    stays: &[bool],
-    labels: &IndexMap<EntryKey, usize>,
-    last: usize,
-) -> Result<(), AllocError>
-    requires { length stays.now ≡ length nodes.now }
-    ensures { OnOk result (pairs.new.items
-        ≡ pairs.old.items ++ ranked_nodes labels.now last nodes.now (staying stays.now 0 (length stays.now))) }
-{
-    let kept = staying_places(alloc, stays)?;
-    push_ranked(pairs, nodes, &kept, labels, last)
-}
-
-/// Puts the places that stay at the end, with the ranks of their nodes among some names.
-fn push_labelled(
-    alloc: Global,
-    pairs: &mut Vec<(usize, usize)>,
-    nodes: &[Node],
-    stays: &[bool],
-    names: &[EntryKey],
-) -> Result<(), AllocError>
-    requires sound { IsInOrder (seen nodes.now) }
-    requires stays { length stays.now ≡ length nodes.now }
-    requires once { Once names.now }
-    ensures { OnOk result (PutsLabelled names.now stays.now (seen nodes.now) pairs.old.items pairs.new.items) }
-{
-    let labels = label_nodes(alloc, nodes, names)?;
-    push_kept(alloc, pairs, nodes, stays, &labels, names.len())
-}
-
 /// Puts the places that stay at the end, with the ranks of their nodes among the names of a chain that stay.
 fn push_nodes(
     alloc: Global,
@@ -199,11 +132,13 @@ fn push_nodes(
     requires stays { length stays.now ≡ length nodes.now }
     requires places { length places.now ≡ length chain.now }
     requires once { Once (fixed stays.now places.now chain.now) }
-    ensures { OnOk result (PutsLabelled (fixed stays.now places.now chain.now) stays.now (seen nodes.now)
+    requires at { AreNamesAt (fixed stays.now places.now places.now) (fixed stays.now places.now chain.now) (seen nodes.now) }
+    ensures { OnOk result (PutsRanked (fixed stays.now places.now chain.now) stays.now (seen nodes.now)
         pairs.old.items pairs.new.items) }
 {
+    let some = fixed_places(alloc, stays, places)?;
     let names = fixed_names(alloc, stays, places, chain)?;
-    push_labelled(alloc, pairs, nodes, stays, &names)
+    push_ranked(alloc, pairs, nodes, stays, &some, &names)
 }
 
 /// The places with their ranks, by their ranks.
@@ -218,6 +153,7 @@ fn sorted_pairs(
     requires stays { length stays.now ≡ length nodes.now }
     requires places { length places.now ≡ length chain.now }
     requires once { Once (fixed stays.now places.now chain.now) }
+    requires at { AreNamesAt (fixed stays.now places.now places.now) (fixed stays.now places.now chain.now) (seen nodes.now) }
     ensures { IfOk result (λ v. AreByRank stays.now places.now chain.now (seen nodes.now) v.items) }
 {
     let mut pairs = loose_pairs(alloc, stays, places)?;
@@ -238,6 +174,7 @@ fn sorted_places(
     requires stays { length stays.now ≡ length nodes.now }
     requires places { length places.now ≡ length chain.now }
     requires once { Once (fixed stays.now places.now chain.now) }
+    requires at { AreNamesAt (fixed stays.now places.now places.now) (fixed stays.now places.now chain.now) (seen nodes.now) }
     ensures { IfOk result (λ v. ArePlacesByRank stays.now places.now chain.now (seen nodes.now) v.items) }
 {
     let pairs = sorted_pairs(alloc, nodes, stays, places, chain)?;

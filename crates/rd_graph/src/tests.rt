@@ -4,10 +4,12 @@ mod agreeing;
 mod checked;
 mod drawing;
 mod matrix;
+mod reversing;
 
 use crate::{OrderGraph, Places};
 use agreeing::{CHANGES, LEVELS, compare_all};
 use rd_keys::{Arena, BoxKey, BoxMark, EntryKey, Part};
+use reversing::two_are_reversed;
 use std::alloc::{AllocError, Global};
 use std::test::Fail;
 
@@ -72,6 +74,20 @@ fn drawn_changes_agree(rt: HostRuntime) -> Result<(), Fail> {
             assert_eq!(rt; tally.agreed, LEVELS * CHANGES);
             assert!(rt; tally.moved > 0);
             assert!(rt; tally.moved < tally.agreed);
+        }
+        (_, _) => assert!(rt; false),
+    }
+    Ok(())
+}
+
+// In the middle of a line two nodes change their places, and the others on both sides stay.
+#[test]
+fn the_middle_is_reversed(rt: HostRuntime) -> Result<(), Fail> {
+    let mut boxes = Arena::<u8, BoxMark>::starting_at(rt.alloc(), 2, 0);
+    match (boxes.insert(0), boxes.insert(0)) {
+        (Ok(one), Ok(other)) => {
+            let names = ten_names(rt.alloc(), one, other)?;
+            assert!(rt; two_are_reversed(rt.alloc(), &names)?);
         }
         (_, _) => assert!(rt; false),
     }

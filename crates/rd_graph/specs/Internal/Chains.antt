@@ -1,9 +1,14 @@
 -- Chains that are added to a graph, and labels of its nodes by which they are sorted again.
 use Rattle.std.specs.Prelude.{◌≡◌, ℕ, zero, suc, ◌<◌, ◌≤◌, Bool, if◌then◌else◌, ◌⊎◌, Option, Some, None, List, [], ◌∷◌, ◌++◌, map, take, drop, length, slice_index_or, Contains}
+use Rattle.rd_graph.specs.Orders.{Before}
 use Rattle.rd_graph.specs.Graphs.{Graph, nodes, Precedes, Reaches}
 use Rattle.rd_graph.specs.Names.{is_in, place_of}
 
 module _ {E : Type 0} where
+  -- no edge goes back in the list of the nodes
+  abbrev pub NoneGoesBack : Graph E → Type 0
+  NoneGoesBack g = (a b : E) → Precedes g a b → Before (nodes g) b a → ⊥
+
   -- Labels of nodes: the least place in the chain of what a node is or reaches, or the length of the chain.
   pub record AreLabels (g : Graph E) (chain : List E) (label : E → ℕ) : Type 0 where
     pub rises : (a b : E) → Precedes g a b → label a ≤ label b

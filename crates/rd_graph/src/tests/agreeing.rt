@@ -27,7 +27,11 @@ pub(super) struct Tally {
 }
 
 /// The names of some numbers.
-fn named(alloc: Global, names: &[EntryKey], numbers: &[u8]) -> Result<Vec<EntryKey>, AllocError> {
+pub(super) fn named(
+    alloc: Global,
+    names: &[EntryKey],
+    numbers: &[u8],
+) -> Result<Vec<EntryKey>, AllocError> {
     let mut all = Vec::new(alloc);
     for number in numbers {
         if let Some(name) = names.get(usize::from(*number)) {

@@ -2,7 +2,7 @@ use Rattle.std.proofs.Common.{◌∙◌, ap, sym, subst, length, Some}
 use Rattle.std.proofs.lemmas.Result.{IfOk-weaker}
 use Rattle.rd_graph.specs.Patches.{IsArranged}
 use Rattle.rd_graph.specs.Internal.Seen.{seen}
-use Rattle.rd_graph.proofs.RankedMerges.{ranked_by, once_fixed, count_places, marked_at}
+use Rattle.rd_graph.proofs.RankedMerges.{ranked_by, once_fixed, named_fixed, count_places, marked_at}
 use Rattle.rd_graph.proofs.ranking.ranked_line.Goals as goal
 
 pub sorted_places-requires-clause-stays : goal.sorted_places-requires-clause-stays
@@ -16,6 +16,11 @@ sorted_places-requires-clause-places c =
 pub sorted_places-requires-clause-once : goal.sorted_places-requires-clause-once
 sorted_places-requires-clause-once c =
     once_fixed c.args.gone.now c.args.chain.now c.args.found.now c.args.nodes.now c.requires.can c.requires.sound c.deref.result.now c.args.places.now (ap length c.deref.ensures.value ∙ c.in_ok-stays.ensures.count)
+    (marked_at _ _ _ c.args.gone.now c.deref.ensures.value c.in_ok-stays.ensures.stays) c.requires.places
+
+pub sorted_places-requires-clause-at : goal.sorted_places-requires-clause-at
+sorted_places-requires-clause-at c =
+    named_fixed c.args.gone.now c.args.chain.now c.args.found.now c.args.nodes.now c.requires.can c.requires.sound c.deref.result.now c.args.places.now (ap length c.deref.ensures.value ∙ c.in_ok-stays.ensures.count)
     (marked_at _ _ _ c.args.gone.now c.deref.ensures.value c.in_ok-stays.ensures.stays) c.requires.places
 
 pub returns : goal.returns
