@@ -1,7 +1,7 @@
 -- The area of touched boxes, from the list that was painted and from the tree.
 use Rattle.std.proofs.Common.{◌≡◌, refl, ap, ◌∙◌, sym, subst, Bool, true, false, cond, ◌&&◌, ◌||◌, ℤ, ℕ, ◌+◌, ◌≤◌, arith}
-use Rattle.std.specs.Prelude.{Some}
-use Rattle.rd_geom.specs.Plane.{holds_pixel}
+use Rattle.std.specs.Prelude.{Option, Some}
+use Rattle.rd_geom.specs.Plane.{Rectangle, holds_pixel}
 use Rattle.rd_geom.specs.Canvas.{canvas_of}
 use Rattle.rd_geom.specs.Areas.{Region, in_area}
 use Rattle.rd_keys.specs.Keys.{BoxKey, same_key}
@@ -13,9 +13,11 @@ use Rattle.rd_tree.specs.Forest.{empty, tree, from_some, starting_at, head, IsAp
 use Rattle.rd_tree.specs.declared.node.Item.{Item}
 use Rattle.rd_tree.specs.Document.{BoxForest, Document, IsRooted}
 use Rattle.rd_tree.specs.Hulls.{any_touched, breadth}
+use Rattle.rd_stack.specs.Paths.{BoxData}
 use Rattle.rd_partial.specs.Looks.{looks_in, looks_bound, holds_touched}
 use Rattle.rd_partial.specs.Invalid.{any_shows, is_invalid}
 use Rattle.rd_partial.specs.Internal.Counting.{looks_below}
+use Rattle.rd_partial.specs.Internal.Looked.{Onward}
 use Rattle.rd_partial.specs.Internal.Standing.{Standing, at_root}
 use Rattle.rd_partial.specs.Internal.Touched.{Joins, touched_shows, leads_to_touched}
 use Rattle.rd_partial.proofs.Marked.{fresh_shows}
@@ -31,6 +33,14 @@ module _ (t : Document) (r : IsRooted t) where
 
   pub root_first : (k : BoxKey) → k ≡ t.root → Some k ≡ head (from_some same_key (Some k) t.boxes)
   root_first k e = ap Some e ∙ sym (ap head (from_root k e) ∙ ap head r.2)
+
+  -- no box comes after it
+  pub root_last : (k : BoxKey) → k ≡ t.root → (here : BoxData) (c nx : Option BoxKey) (hull : Rectangle) → Onward t.boxes k here c nx hull
+      → from_some same_key nx t.boxes ≡ empty
+  root_last k e here c nx hull w =
+      let all : tree k w.item w.below w.rest ≡ tree t.root r.0 r.1 empty = sym w.is ∙ from_root k e ∙ r.2 in
+      let none : w.rest ≡ empty = cc (all) in
+      w.next ∙ none
 
   of_tree : (k : BoxKey) (d : Item) (ch : BoxForest) → looks_below leads_to_touched (tree k d ch empty) ≤ looks_bound holds_touched (tree k d ch empty)
   of_tree k d ch = by (any_touched ch) (visits_bound leads_to_touched ch) (looks leads_to_touched holds_touched (λ e below h. or_true e.touched (any_touched below) h) (tree k d ch empty))

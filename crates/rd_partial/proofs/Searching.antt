@@ -9,7 +9,7 @@ use Rattle.rd_item.specs.Items.{Made}
 use Rattle.rd_tree.specs.Forest.{empty, tree, head, starting_at, from_some, size, IsApart}
 use Rattle.rd_tree.specs.declared.node.Item.{Item}
 use Rattle.rd_tree.specs.Document.{BoxForest, Document, AllFit}
-use Rattle.rd_tree.specs.Hulls.{any_touched}
+use Rattle.rd_tree.specs.Hulls.{any_touched, touched_in}
 use Rattle.rd_tree.specs.Shown.{Shown, shown, told}
 use Rattle.rd_tree.specs.declared.view.BoxView.{BoxView}
 use Rattle.rd_tree.specs.Seeking.{siblings_from, looks_until, is_marked, reaches, hull_reaches}
@@ -22,12 +22,12 @@ use Rattle.rd_partial.specs.Internal.Counting.{looks_below, visits}
 use Rattle.rd_partial.specs.declared.look.Looked.{Looked}
 use Rattle.rd_partial.specs.Internal.Looked.{Onward, here_of, looked_of}
 use Rattle.rd_partial.specs.Internal.Standing.{Standing, below}
-use Rattle.rd_partial.specs.Internal.Touched.{touched_shows, leads_to_touched}
+use Rattle.rd_partial.specs.Internal.Touched.{touched_shows, marks_from, leads_to_touched}
 use Rattle.rd_partial.specs.Internal.Work.{passes}
 use Rattle.rd_partial.specs.Internal.Seeking.{PassesMarks, PassesWanted, IsNextMarked, IsNextNear}
 use Rattle.rd_partial.proofs.Adding.{joins_same}
 use Rattle.rd_partial.proofs.Kids.{Kept, passes_more, cost_more, boxed_none, cost_none}
-use Rattle.rd_partial.proofs.Touching.{Added, marks_told, none_shows}
+use Rattle.rd_partial.proofs.Touching.{Added, marks_told, none_shows, no_marks}
 use Rattle.rd_partial.proofs.Going as going
 use Rattle.rd_stack.proofs.Walk.Going as walk
 
@@ -91,7 +91,7 @@ not_found P root boxes empty looks s h =
 not_found P root boxes (tree k d low rest) looks s h = cc
 
 pub marks_begin : (t : Document) (first : Option BoxKey) (looks : ℕ) → PassesMarks t first first looks looks
-marks_begin t first looks = record { fewer = omega arith; shows = λ s x y. refl; looks_is = omega arith }
+marks_begin t first looks = record { fewer = omega arith; shows = λ s x y. refl; marks = refl; looks_is = omega arith }
 
 pub wanted_begin : (wants : Rectangle → Bool) (t : Document) (first : Option BoxKey) (looks : ℕ) → PassesWanted wants t first first looks looks
 wanted_begin wants t first looks = record { fewer = omega arith; gives = λ n s r. refl; made = λ n s r. refl; looks_is = omega arith }
@@ -163,8 +163,12 @@ module _ (t : Document) (apart : IsApart same_key t.boxes) (k : BoxKey) (d : Ite
       let lm : looks_below leads_to_touched (starting_at same_key k t.boxes) ≡ 1 + looks_below leads_to_touched (from_some same_key (head rest) t.boxes) =
       rw (is, next, n.1) refl in
       let f = fewer in
+      let here : marks_from (Some k) t ≡ 0 + (touched_in low + touched_in rest) = ap touched_in is ∙ rw n.0 refl in
+      let under = no_marks low n.1 in
+      let later : marks_from (head rest) t ≡ touched_in rest = ap touched_in next in
       record {
         fewer = omega (arith, f, p.fewer);
+        marks = omega (arith, here, under, later, p.marks);
         shows = λ s x y. rw (next, is, n.0, none_shows (below s (box_data k d)) low x y n.1) refl ∙ p.shows s x y;
         looks_is = omega (arith, lm, p.looks_is);
       }

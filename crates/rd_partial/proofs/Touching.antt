@@ -1,17 +1,18 @@
 -- The loop over siblings that adds what touched boxes show.
-use Rattle.std.proofs.Common.{◌≡◌, refl, ap, ◌∙◌, sym, subst, Bool, true, false, ◌&&◌, ◌||◌, ℤ, ℕ, ◌+◌, ◌≤◌, ◌<◌, arith}
-use Rattle.std.specs.Prelude.{Option, Some}
+use Rattle.std.proofs.Common.{◌≡◌, refl, ap, ◌∙◌, sym, subst, Bool, true, false, cond, ◌&&◌, ◌||◌, ℤ, ℕ, ◌+◌, ◌-◌, ◌≤◌, ◌<◌, arith}
+use Rattle.std.specs.Prelude.{Option, Some, nat_lt}
 use Rattle.rd_geom.specs.Areas.{Region}
 use Rattle.rd_keys.specs.Keys.{BoxKey, same_key}
 use Rattle.rd_tree.specs.Forest.{empty, tree, starting_at, from_some, size}
 use Rattle.rd_tree.specs.Document.{BoxForest, Document}
-use Rattle.rd_tree.specs.Hulls.{any_touched}
+use Rattle.rd_tree.specs.Hulls.{any_touched, touched_in}
 use Rattle.rd_tree.specs.Shown.{Shown, shown}
+use Rattle.rd_tree.proofs.Summaries.Sums.{any_touched-is}
 use Rattle.rd_stack.specs.Fresh.{box_data}
 use Rattle.rd_partial.specs.Internal.Counting.{looks_below}
 use Rattle.rd_partial.specs.Internal.Looked.{Onward, here_of}
 use Rattle.rd_partial.specs.Internal.Standing.{Standing, below}
-use Rattle.rd_partial.specs.Internal.Touched.{Joins, HasMarks, box_shows, touched_shows, own_shows, shows_below, leads_to_touched, looks_under}
+use Rattle.rd_partial.specs.Internal.Touched.{Joins, HasMarks, box_shows, touched_shows, own_shows, shows_below, leads_to_touched, marks_from, looks_under}
 use Rattle.rd_partial.specs.declared.look.Looked.{Looked}
 use Rattle.rd_partial.proofs.Adding.{joins_then, joins_same, joins_none}
 
@@ -36,6 +37,10 @@ three : (a b c : Bool) → ((a || b) || c) ≡ (a || (b || c))
 three true b c = refl
 three false b c = refl
 
+-- nor is there a mark
+pub no_marks : (f : BoxForest) → any_touched f ≡ false → touched_in f ≡ 0
+no_marks f h = let e : nat_lt 0 (touched_in f) ≡ false = sym (any_touched-is f) ∙ h in grind arith
+
 -- what the loop over siblings keeps
 pub record Added (s : Standing) (first next : BoxForest) (before now : Region) (looks0 looks : ℕ) : Type 0 where
   pub fewer : size next ≤ size first
@@ -43,14 +48,17 @@ pub record Added (s : Standing) (first next : BoxForest) (before now : Region) (
   pub looks_is : looks + looks_below leads_to_touched next ≤ looks0 + looks_below leads_to_touched first
 
 module _ (s : Standing) (t : Document) (k : BoxKey) (v : Looked) (w : Onward t.boxes k (here_of v) v.first_child v.next_sibling v.hull) (m : HasMarks (starting_at same_key k t.boxes) v.touched v.touched_below) where
-  marks : (v.touched ≡ w.item.touched) × (v.touched_below ≡ any_touched w.below)
+  marks : (v.touched ≡ w.item.touched) × (v.touched_below ≡ touched_in w.below)
   marks = subst (λ z. HasMarks z v.touched v.touched_below) w.is m
+
+  leads : nat_lt 0 v.touched_below ≡ any_touched w.below
+  leads = ap (nat_lt 0) marks.1 ∙ sym (any_touched-is w.below)
 
   below_is : (x y : ℤ) → shows_below s v t x y ≡ touched_shows (below s (box_data k w.item)) w.below x y
   below_is x y =
-      ap (λ b. v.touched_below && touched_shows (below s b) (from_some same_key v.first_child t.boxes) x y) w.data_is
-      ∙ ap (λ z. v.touched_below && touched_shows (below s (box_data k w.item)) z x y) w.child
-      ∙ ap (λ z. z && touched_shows (below s (box_data k w.item)) w.below x y) marks.1
+      ap (λ b. nat_lt 0 v.touched_below && touched_shows (below s b) (from_some same_key v.first_child t.boxes) x y) w.data_is
+      ∙ ap (λ z. nat_lt 0 v.touched_below && touched_shows (below s (box_data k w.item)) z x y) w.child
+      ∙ ap (λ z. z && touched_shows (below s (box_data k w.item)) w.below x y) leads
       ∙ by (any_touched w.below) refl
     where
       by : (b : Bool) → any_touched w.below ≡ b → (b && touched_shows (below s (box_data k w.item)) w.below x y) ≡ touched_shows (below s (box_data k w.item)) w.below x y
@@ -69,7 +77,20 @@ module _ (s : Standing) (t : Document) (k : BoxKey) (v : Looked) (w : Onward t.b
       ∙ ap (λ z. touched_shows s z x y) (sym w.is)
 
   looks_more : looks_below leads_to_touched (starting_at same_key k t.boxes) ≡ 1 + looks_under v t + looks_below leads_to_touched (from_some same_key v.next_sibling t.boxes)
-  looks_more = rw (w.is, marks.1, w.child, w.next) refl
+  looks_more = rw (w.is, leads, w.child, w.next) refl
+
+  marks_more : marks_from (Some k) t ≡ cond v.touched 1 0 + v.touched_below + marks_from v.next_sibling t
+  marks_more =
+      let here : marks_from (Some k) t ≡ cond w.item.touched 1 0 + (touched_in w.below + touched_in w.rest) = ap touched_in w.is in
+      let own : cond v.touched 1 0 ≡ cond w.item.touched 1 0 = ap {B = ℕ} (λ b. cond b 1 0) marks.0 in
+      let under = marks.1 in
+      let later : marks_from v.next_sibling t ≡ touched_in w.rest = ap touched_in w.next in
+      omega (arith, here, own, under, later)
+
+  -- so many are left for the later siblings
+  pub left_after : (left own : ℕ) (at : Option BoxKey) → left ≡ marks_from at t → marks_from (Some k) t ≡ marks_from at t → own ≡ cond v.touched 1 0
+      → left - (own + v.touched_below) ≡ marks_from v.next_sibling t
+  left_after left own at l p o = let m = marks_more in omega (arith, m, l, p, o)
 
   size_more : size (starting_at same_key k t.boxes) ≡ 1 + (size (from_some same_key v.first_child t.boxes) + size (from_some same_key v.next_sibling t.boxes))
   size_more = rw (w.is, w.child, w.next) refl
@@ -108,8 +129,13 @@ module _ (s : Standing) (t : Document) (k : BoxKey) (v : Looked) (w : Onward t.b
 pub added_begin : (s : Standing) (first : BoxForest) (a : Region) (looks : ℕ) → Added s first first a a looks looks
 added_begin s first a looks = record { fewer = omega arith; then = λ c h. h; looks_is = omega arith }
 
-pub added_end : (s : Standing) (first next : BoxForest) (before now : Region) (looks0 looks : ℕ) → next ≡ empty → Added s first next before now looks0 looks
+-- no mark is left
+pub none_left : (left marks : ℕ) → left ≡ marks → left ≤ 0 → marks ≡ 0
+none_left left marks e z = omega (arith, e, z)
+
+-- once no mark is left, all is added
+pub added_end : (s : Standing) (first next : BoxForest) (before now : Region) (looks0 looks : ℕ) → touched_in next ≡ 0 → Added s first next before now looks0 looks
     → Joins (touched_shows s first) before now × (looks ≤ looks0 + looks_below leads_to_touched first)
 added_end s first next before now looks0 looks e i =
-    let j : Added s first empty before now looks0 looks = subst (λ z. Added s first z before now looks0 looks) e i in
-    (j.then now (joins_none (touched_shows s empty) now (λ x y. refl)), omega (arith, j.looks_is))
+    let off : any_touched next ≡ false = any_touched-is next ∙ ap (nat_lt 0) e in
+    (i.then now (joins_none (touched_shows s next) now (λ x y. none_shows s next x y off)), omega (arith, i.looks_is))

@@ -1,5 +1,5 @@
 //! Looks at boxes.
-ghost use Rattle.std.specs.Prelude.{◌≡◌, ◌+◌, MatchOption, IfSome};
+ghost use Rattle.std.specs.Prelude.{◌≡◌, ◌+◌, if◌then◌else◌, MatchOption, IfSome};
 ghost use Rattle.rd_keys.specs.Keys.{same_key};
 ghost use Rattle.rd_stack.specs.Paths.{OutlineFits};
 ghost use Rattle.rd_tree.specs.Forest.{empty, starting_at};
@@ -24,7 +24,7 @@ pub struct Looked<'a> {
     pub next_sibling: Option<BoxKey>,
     pub hull: Rect,
     pub touched: bool,
-    pub touched_below: bool,
+    pub touched_below: u32,
 }
 
 impl<'a> Looked<'a> {
@@ -35,6 +35,14 @@ impl<'a> Looked<'a> {
         ensures { result ≡ here_of self.now }
     {
         BoxData::new(self.key, &self.rect, self.style)
+    }
+
+    /// How many marks the box itself has: one, if it is touched.
+    #[inline(always)]
+    pub fn own_marks(&self) -> u32
+        ensures { result ≡ (if self.now.touched then 1 else 0) }
+    {
+        u32::from(self.touched)
     }
 }
 

@@ -1,17 +1,18 @@
 //! The area that touched boxes invalidate.
-ghost use Rattle.std.specs.Prelude.{◌≡◌, ◌≤◌, ◌+◌, ◌∷◌, [], ℤ, IfOk, OnOk};
+ghost use Rattle.std.specs.Prelude.{◌≡◌, ◌≤◌, ◌+◌, ◌∷◌, [], ℤ, Some, IfOk, OnOk};
 ghost use Rattle.rd_geom.specs.Areas.{in_area};
 ghost use Rattle.rd_list.specs.EntryNames.{kept_leaves};
 ghost use Rattle.rd_list.specs.KeptView.{kept_entries};
+ghost use Rattle.rd_tree.specs.Document.{IsRooted};
 ghost use Rattle.rd_stack.specs.Internal.Looks.{IsFirst};
 ghost use Rattle.rd_stack.specs.Paths.{OutlineFits};
 ghost use Rattle.rd_partial.specs.Looks.{holds_touched, looks_bound};
 ghost use Rattle.rd_partial.specs.Invalid.{any_shows, is_invalid};
 ghost use Rattle.rd_partial.specs.Internal.Standing.{leaf_in};
 ghost use Rattle.rd_partial.specs.Internal.Looked.{here_of};
-ghost use Rattle.rd_partial.specs.Internal.Touched.{Joins, leaf_shows, box_shows, own_shows, shows_below, shows_from, touched_looks, looks_under};
+ghost use Rattle.rd_partial.specs.Internal.Touched.{Joins, leaf_shows, box_shows, own_shows, shows_below, shows_from, marks_from, touched_looks, looks_under};
 
-use crate::look::Looked;
+use crate::look::{Looked, look_at};
 use crate::seeking::next_marked;
 use crate::standing::Standing;
 use rd_area::Area;
@@ -72,15 +73,17 @@ fn add_below<B: Ledger>(
 ) -> Result<(), NoMemory>
     requires live { IsFirst looked.now.first_child tree.now }
     requires fits { OutlineFits (here_of looked.now) }
+    requires marks { looked.now.touched_below ≡ marks_from looked.now.first_child tree.now }
     ensures area { OnOk result (Joins (shows_below s.now looked.now tree.now) area.old area.new) }
     ensures looks { looks.new ≤ looks.old + looks_under looked.now tree.now }
 {
-    if looked.touched_below {
+    if looked.touched_below > 0 {
         add_siblings(
             tree,
             area,
             &s.below(&looked.here()),
             looked.first_child,
+            looked.touched_below,
             looks,
         )
     } else {
@@ -88,29 +91,57 @@ fn add_below<B: Ledger>(
     }
 }
 
-/// Adds what may be seen of the touched ones of some siblings, and of the touched boxes below them.
+/// Adds what may be seen of the touched ones of some siblings, and of the touched boxes below them. So many marks are all
+/// that they have, and no sibling is looked at after the last one.
 #[cycle(touching)]
 fn add_siblings<B: Ledger>(
     tree: &Tree<B>,
     area: &mut Area,
     s: &Standing,
     first: Option<BoxKey>,
+    marks: u32,
     looks: &mut Steps<B>,
 ) -> Result<(), NoMemory>
     requires live { IsFirst first tree.now }
+    requires marks { marks ≡ marks_from first tree.now }
     ensures area { OnOk result (Joins (shows_from s.now first tree.now) area.old area.new) }
     ensures looks { looks.new ≤ looks.old + touched_looks first tree.now }
 {
+    let mut left = marks;
     let mut at = first;
-    loop {
+    while left > 0 {
         let looked = match next_marked(tree, at, looks) {
             Some(looked) => looked,
-            None => return Ok(()),
+            None => unreachable!(),
         };
         add_if_touched(area, s, &looked)?;
         add_below(tree, area, s, &looked, looks)?;
+        left -= looked.own_marks() + looked.touched_below;
         at = looked.next_sibling;
     }
+    Ok(())
+}
+
+/// Adds what may be seen of the root, if it is touched, and of the touched boxes below it.
+fn add_root<B: Ledger>(
+    tree: &Tree<B>,
+    area: &mut Area,
+    s: &Standing,
+    root: BoxKey,
+    looks: &mut Steps<B>,
+) -> Result<(), NoMemory>
+    requires root { root ≡ tree.now.root }
+    requires rooted { IsRooted tree.now }
+    ensures area { OnOk result (Joins (shows_from s.now (Some root) tree.now) area.old area.new) }
+    ensures looks { looks.new ≤ looks.old + touched_looks (Some root) tree.now }
+{
+    let looked = match look_at(tree, root, looks) {
+        Some(looked) => looked,
+        None => unreachable!(),
+    };
+    add_if_touched(area, s, &looked)?;
+    add_below(tree, area, s, &looked, looks)?;
+    Ok(())
 }
 
 /// Adds what may be seen of the leaves of touched boxes in a level of a list, and in its groups.
@@ -165,6 +196,6 @@ pub fn touched_area<A: Ledger, B: Ledger>(
     let mut area = Area::none(alloc, tree.canvas())?;
     add_entries(tree, &mut area, list.entries())?;
     let s = Standing::at_root(tree.canvas());
-    add_siblings(tree, &mut area, &s, Some(tree.root()), looks)?;
+    add_root(tree, &mut area, &s, tree.root(), looks)?;
     Ok(area)
 }

@@ -202,7 +202,7 @@ fn move_two<B: Ledger>(rt: &impl Abort, tree: &mut Tree<B>, looks: &mut Steps<B>
     shows(rt, tree, looks, first, None, None);
 }
 
-/// A look at the box tells so many children, this hull, and whether a box below it was touched.
+/// A look at the box tells so many children, this hull, and how many boxes below it were touched.
 fn is_near<B: Ledger>(
     rt: &impl Abort,
     tree: &Tree<B>,
@@ -210,7 +210,7 @@ fn is_near<B: Ledger>(
     key: BoxKey,
     children: u32,
     hull: [i32; 4],
-    touched_below: bool,
+    touched_below: u32,
 ) {
     let view = look_at(rt, tree, looks, key);
     assert_eq!(rt; view.children, children);
@@ -231,22 +231,22 @@ fn near_three<B: Ledger>(rt: &impl Abort, tree: &mut Tree<B>, looks: &mut Steps<
     let root = box_of(rt, tree, &names.top);
     let upper = box_of(rt, tree, &names.b);
     let lower = box_of(rt, tree, &names.a);
-    is_near(rt, tree, looks, root, 1, [0, 0, 10, 10], true);
-    is_near(rt, tree, looks, upper, 1, [0, 0, 10, 10], true);
-    is_near(rt, tree, looks, lower, 0, [0, 0, 10, 10], false);
+    is_near(rt, tree, looks, root, 1, [0, 0, 10, 10], 2);
+    is_near(rt, tree, looks, upper, 1, [0, 0, 10, 10], 1);
+    is_near(rt, tree, looks, lower, 0, [0, 0, 10, 10], 0);
     tree.settle();
-    is_near(rt, tree, looks, root, 1, [0, 0, 10, 10], false);
+    is_near(rt, tree, looks, root, 1, [0, 0, 10, 10], 0);
     lay(rt, tree, &names.a, [20, 5, 10, 10]);
-    is_near(rt, tree, looks, root, 1, [0, 0, 30, 15], true);
-    is_near(rt, tree, looks, upper, 1, [0, 0, 30, 15], true);
-    is_near(rt, tree, looks, lower, 0, [20, 5, 10, 10], false);
+    is_near(rt, tree, looks, root, 1, [0, 0, 30, 15], 1);
+    is_near(rt, tree, looks, upper, 1, [0, 0, 30, 15], 1);
+    is_near(rt, tree, looks, lower, 0, [20, 5, 10, 10], 0);
     lay(rt, tree, &names.a, [12, 5, 2, 2]);
-    is_near(rt, tree, looks, root, 1, [0, 0, 14, 10], true);
+    is_near(rt, tree, looks, root, 1, [0, 0, 14, 10], 1);
     move_last(rt, tree, &names.a, &names.top);
-    is_near(rt, tree, looks, root, 2, [0, 0, 14, 10], true);
-    is_near(rt, tree, looks, upper, 0, [0, 0, 10, 10], false);
+    is_near(rt, tree, looks, root, 2, [0, 0, 14, 10], 1);
+    is_near(rt, tree, looks, upper, 0, [0, 0, 10, 10], 0);
     take(rt, tree, &names.a);
-    is_near(rt, tree, looks, root, 1, [0, 0, 10, 10], false);
+    is_near(rt, tree, looks, root, 1, [0, 0, 10, 10], 0);
 }
 
 /// One tree, from its planting on.

@@ -1,5 +1,5 @@
 -- What a look at a box tells of all that is below it.
-use Rattle.std.specs.Prelude.{ℕ, ◌+◌, Bool, false, ◌||◌}
+use Rattle.std.specs.Prelude.{ℕ, ◌+◌, Bool, false, ◌||◌, if◌then◌else◌}
 use Rattle.rd_geom.specs.Plane.{Rectangle, no_pixels, hull_of, outset}
 use Rattle.rd_style.specs.declared.styles.Style.{Style}
 use Rattle.rd_tree.specs.Forest.{Forest, empty, tree}
@@ -14,6 +14,12 @@ breadth (tree k d below rest) = 1 + breadth rest
 abbrev pub any_touched : BoxForest → Bool
 any_touched empty = false
 any_touched (tree k d below rest) = d.touched || (any_touched below || any_touched rest)
+
+-- how many boxes are touched, those below counted too
+abbrev pub touched_in : BoxForest → ℕ
+touched_in empty = 0
+touched_in (tree k d below rest) = (if d.touched then 1 else 0) + (touched_in below +
+    touched_in rest)
 
 -- CSS 2.2 section 18.4: a border box with its outline round it
 abbrev pub outlined : Rectangle → Style → Rectangle

@@ -38,8 +38,8 @@ pub struct BoxView<'a> {
     pub hull: Rect,
     /// Was it touched since the marks were last cleared?
     pub touched: bool,
-    /// Was a box below it touched since then?
-    pub touched_below: bool,
+    /// How many boxes below it were touched since then.
+    pub touched_below: u32,
 }
 
 /// What a node, what a walk reads of it, and its row show of its box.
@@ -64,7 +64,7 @@ pub(crate) fn view_of(
         next_sibling: glance.next,
         hull: row.hull,
         touched: glance.touched,
-        touched_below: row.touched > 0,
+        touched_below: row.touched,
     }
 }
 

@@ -8,7 +8,7 @@ use Rattle.rd_stack.specs.Paths.{OutlineFits}
 use Rattle.rd_partial.specs.declared.look.Looked.{Looked}
 use Rattle.rd_partial.specs.Internal.Looked.{Onward, here_of}
 use Rattle.rd_partial.specs.Internal.Standing.{Standing}
-use Rattle.rd_partial.specs.Internal.Touched.{HasMarks, shows_from, touched_looks}
+use Rattle.rd_partial.specs.Internal.Touched.{HasMarks, shows_from, marks_from, touched_looks}
 use Rattle.rd_partial.specs.Internal.Work.{passes_from, siblings_cost, visits_from}
 
 -- So many boxes there are from one on.
@@ -19,6 +19,7 @@ size_from first t = size (from_some same_key first t.boxes)
 pub record PassesMarks (t : Document) (first at : Option BoxKey) (looks0 looks : ℕ) : Type 0 where
   pub fewer : size_from at t ≤ size_from first t
   pub shows : (s : Standing) (x y : ℤ) → shows_from s at t x y ≡ shows_from s first t x y
+  pub marks : marks_from at t ≡ marks_from first t
   pub looks_is : looks + touched_looks at t ≤ looks0 + touched_looks first t
 
 -- A look at the next one that is touched, or has a touched box below it.

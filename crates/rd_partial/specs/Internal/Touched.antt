@@ -1,5 +1,5 @@
 -- What the walk to the touched boxes adds to an area.
-use Rattle.std.specs.Prelude.{◌≡◌, ℕ, ℤ, Bool, false, ◌&&◌, ◌||◌, if◌then◌else◌, Option, Some, None}
+use Rattle.std.specs.Prelude.{◌≡◌, ℕ, ℤ, Bool, false, ◌&&◌, ◌||◌, nat_lt, if◌then◌else◌, Option, Some, None}
 use Rattle.rd_geom.specs.Plane.{holds_pixel}
 use Rattle.rd_geom.specs.Canvas.{canvas_of}
 use Rattle.rd_geom.specs.Areas.{Region, in_area}
@@ -8,7 +8,7 @@ use Rattle.rd_keys.specs.declared.entry.Part.TheVariants.{Back, Border, Content,
 use Rattle.rd_item.specs.declared.leaf.Leaf.{Leaf}
 use Rattle.rd_tree.specs.Forest.{empty, tree, from_some}
 use Rattle.rd_tree.specs.Document.{BoxForest, Document}
-use Rattle.rd_tree.specs.Hulls.{any_touched}
+use Rattle.rd_tree.specs.Hulls.{any_touched, touched_in}
 use Rattle.rd_stack.specs.Paths.{BoxData}
 use Rattle.rd_stack.specs.Fresh.{box_data}
 use Rattle.rd_partial.specs.Looks.{BoxTest}
@@ -42,9 +42,9 @@ touched_shows s (tree k d below rest) x y =
     || (touched_shows (standing.below s (box_data k d)) below x y || touched_shows s rest x y)
 
 -- what a look tells of the marks
-abbrev pub HasMarks : BoxForest → Bool → Bool → Type 0
+abbrev pub HasMarks : BoxForest → Bool → ℕ → Type 0
 HasMarks empty t u = Unit {0}
-HasMarks (tree k d below rest) t u = (t ≡ d.touched) × (u ≡ any_touched below)
+HasMarks (tree k d below rest) t u = (t ≡ d.touched) × (u ≡ touched_in below)
 
 -- has the box a touched box below it?
 abbrev pub leads_to_touched : BoxTest
@@ -56,11 +56,15 @@ own_shows s v x y = v.touched && box_shows s (here_of v) x y
 
 -- what the touched boxes below it show
 abbrev pub shows_below : Standing → Looked → Document → ℤ → ℤ → Bool
-shows_below s v t x y = v.touched_below && touched_shows (standing.below s (here_of v)) (from_some same_key v.first_child t.boxes) x y
+shows_below s v t x y = nat_lt 0 v.touched_below && touched_shows (standing.below s (here_of v)) (from_some same_key v.first_child t.boxes) x y
 
 -- what the touched ones of some siblings show, and those below them, from one on
 abbrev pub shows_from : Standing → Option BoxKey → Document → ℤ → ℤ → Bool
 shows_from s first t x y = touched_shows s (from_some same_key first t.boxes) x y
+
+-- how many of these are touched
+abbrev pub marks_from : Option BoxKey → Document → ℕ
+marks_from first t = touched_in (from_some same_key first t.boxes)
 
 -- the looks at some siblings, from one on
 abbrev pub touched_looks : Option BoxKey → Document → ℕ
@@ -68,4 +72,4 @@ touched_looks first t = looks_below leads_to_touched (from_some same_key first t
 
 -- the looks below a box
 abbrev pub looks_under : Looked → Document → ℕ
-looks_under v t = if v.touched_below then touched_looks v.first_child t else 0
+looks_under v t = if nat_lt 0 v.touched_below then touched_looks v.first_child t else 0

@@ -1,6 +1,6 @@
 -- What links tell of the forest, and what a look at a box tells of the next ones.
 use Rattle.std.proofs.Common.{◌≡◌, refl, ap, ◌∙◌, sym, subst, Bool, true, false, ◌||◌, inl, inr}
-use Rattle.std.specs.Prelude.{Option, Some, None, option_map, nat_lt}
+use Rattle.std.specs.Prelude.{Option, Some, None, option_map}
 use Rattle.rd_keys.specs.Keys.{same_key}
 use Rattle.rd_keys.specs.Arena.{Arena, value}
 use Rattle.rd_keys.proofs.Keys.{same_key-sound, same_key-refl}
@@ -13,9 +13,8 @@ use Rattle.rd_tree.specs.Shown.{Shown, shown}
 use Rattle.rd_tree.proofs.Linking.Standing.{cases, refute, never, either, from_left, from_right, differs, apart_back}
 use Rattle.rd_geom.specs.Plane.{hull_of}
 use Rattle.rd_tree.specs.declared.table.row.Summary.{Summary}
-use Rattle.rd_tree.specs.Hulls.{breadth, extent, hull_in, any_touched}
-use Rattle.rd_tree.specs.Internal.Summaries.{touched_in, summary_first, summary_of}
-use Rattle.rd_tree.proofs.Summaries.Sums.{any_touched-is}
+use Rattle.rd_tree.specs.Hulls.{breadth, extent, hull_in, touched_in}
+use Rattle.rd_tree.specs.Internal.Summaries.{summary_first, summary_of}
 use Rattle.rd_tree.proofs.Nodes.Grow.{seen_is, live_if_in}
 
 module _ {K D : Type 0} where
@@ -158,7 +157,7 @@ shown_begins : (root k : BoxKey) (x : inner.Node) (row : Summary) (f : BoxForest
     (same_key k root) x row) ≡ shown root f
 shown_begins root k x row f b table =
     let r : row ≡ summary_first (tree k x.item b.below b.rest) = table ∙ ap summary_first b.is in
-    let v : Option BoxKey → Option BoxKey → Bool → Summary → Option Shown = λ o n t y.
+    let v : Option BoxKey → Option BoxKey → Summary → Option Shown = λ o n y.
     Some (record {
       key = k;
       rect = x.item.rect;
@@ -169,19 +168,12 @@ shown_begins root k x row f b table =
       next_sibling = n;
       hull = y.hull;
       touched = x.item.touched;
-      touched_below = t;
+      touched_below = y.touched;
     }) in
-    let e1 : v x.links.first x.links.next (nat_lt 0 row.touched) row ≡ v (head b.below) x.links.next (nat_lt 0 row.touched) row = ap (λ o. v o x.links.next
-    (nat_lt 0 row.touched) row) b.first in
-    let e2 : v (head b.below) x.links.next (nat_lt 0 row.touched) row ≡ v (head b.below) (head b.rest) (nat_lt 0 row.touched) row = ap (λ o. v
-    (head b.below) o (nat_lt 0 row.touched) row) b.next in
-    let e3 : v (head b.below) (head b.rest) (nat_lt 0 row.touched) row ≡ v (head b.below) (head b.rest) (nat_lt 0 (touched_in b.below)) (summary_first
-    (tree k x.item b.below b.rest)) =
-    ap (λ y. v (head b.below) (head b.rest) (nat_lt 0 y.touched) y) r in
-    let e4 : v (head b.below) (head b.rest) (nat_lt 0 (touched_in b.below)) (summary_first (tree k x.item b.below b.rest)) ≡ shown root (tree k x.item
-    b.below b.rest) =
-    ap (λ t. v (head b.below) (head b.rest) t (summary_first (tree k x.item b.below b.rest))) (sym (any_touched-is b.below)) in
-    e1 ∙ (e2 ∙ (e3 ∙ (e4 ∙ ap (shown root) (sym b.is))))
+    let e1 : v x.links.first x.links.next row ≡ v (head b.below) x.links.next row = ap (λ o. v o x.links.next row) b.first in
+    let e2 : v (head b.below) x.links.next row ≡ v (head b.below) (head b.rest) row = ap (λ o. v (head b.below) o row) b.next in
+    let e3 : v (head b.below) (head b.rest) row ≡ shown root (tree k x.item b.below b.rest) = ap (v (head b.below) (head b.rest)) r in
+    e1 ∙ (e2 ∙ (e3 ∙ ap (shown root) (sym b.is)))
 
 pub apart_seen : (a : Arena inner.Node) (root : BoxKey) → IsTree a root → IsApart same_key (seen a root)
 apart_seen a root t = subst (λ f. IsApart same_key f) (sym (seen_is a root t)) t.is.apart
@@ -258,7 +250,7 @@ onward root f k v a h = at (starting_at same_key k f) refl h where
         next_sibling = head rest;
         hull = hull_of (extent d) (hull_in below);
         touched = d.touched;
-        touched_below = any_touched below;
+        touched_below = touched_in below;
       } in
       let n : w ≡ v = cc in
       subst (λ u. Onward root f k u) n (record {

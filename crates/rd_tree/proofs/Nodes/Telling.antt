@@ -5,8 +5,7 @@ use Rattle.rd_keys.specs.Keys.{same_key}
 use Rattle.rd_keys.proofs.Keys.{same_key-sound, same_key-refl}
 use Rattle.rd_tree.specs.Forest.{empty, tree, ◌▷◌, has, children, in_subtree, with_children, AreApart, IsApart}
 use Rattle.rd_tree.specs.Document.{BoxKey, Item, BoxForest}
-use Rattle.rd_tree.specs.Hulls.{breadth, extent, hull_in}
-use Rattle.rd_tree.specs.Internal.Summaries.{touched_in}
+use Rattle.rd_tree.specs.Hulls.{breadth, extent, hull_in, touched_in}
 use Rattle.rd_tree.proofs.Linking.Standing.{cases, either, from_left, from_right, has-join, differs_back, apart_back}
 use Rattle.rd_tree.proofs.Nodes.Putting.{under_by}
 use Rattle.rd_tree.proofs.Forests.Subtrees.{subtree-here, subtree-inner, subtree-later, not_in_subtree}

@@ -6,8 +6,8 @@ use Rattle.rd_keys.specs.Keys.{same_key}
 use Rattle.rd_keys.proofs.Keys.{same_key-sound, same_key-refl}
 use Rattle.rd_tree.specs.Forest.{empty, tree, top, has, starting_at, children, item_of, without_siblings, branch, IsApart}
 use Rattle.rd_tree.specs.Document.{BoxKey, Item, BoxForest}
-use Rattle.rd_tree.specs.Hulls.{breadth, extent, hull_in}
-use Rattle.rd_tree.specs.Internal.Summaries.{touched_in, summary_first, summary_of}
+use Rattle.rd_tree.specs.Hulls.{breadth, extent, hull_in, touched_in}
+use Rattle.rd_tree.specs.Internal.Summaries.{summary_first, summary_of}
 use Rattle.rd_tree.proofs.Summaries.Hulls.{hull-unit, hull_in-unit}
 use Rattle.rd_tree.proofs.Forests.Restoring.{branch_there}
 

@@ -6,8 +6,8 @@ use Rattle.rd_keys.proofs.Keys.{same_key-sound, same_key-refl}
 use Rattle.rd_tree.specs.declared.table.row.Summary.{Summary}
 use Rattle.rd_tree.specs.Forest.{has, children, in_subtree, without_branch, branch, map_where, IsApart}
 use Rattle.rd_tree.specs.Document.{BoxKey, Item, BoxForest}
-use Rattle.rd_tree.specs.Internal.Summaries.{touched_in, summary_of}
-use Rattle.rd_tree.specs.Hulls.{hull_in}
+use Rattle.rd_tree.specs.Internal.Summaries.{summary_of}
+use Rattle.rd_tree.specs.Hulls.{hull_in, touched_in}
 use Rattle.rd_tree.proofs.Linking.Standing.{either}
 use Rattle.rd_tree.proofs.Forests.Without.{stays}
 use Rattle.rd_tree.proofs.Nodes.Each.{has-each, apart_each, children-each}

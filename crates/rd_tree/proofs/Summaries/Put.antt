@@ -6,8 +6,8 @@ use Rattle.rd_keys.proofs.Keys.{same_key-sound, same_key-refl}
 use Rattle.rd_tree.specs.declared.table.row.Summary.{Summary}
 use Rattle.rd_tree.specs.Forest.{empty, tree, ◌▷◌, has, children, in_subtree, with_children, AreApart, IsApart}
 use Rattle.rd_tree.specs.Document.{BoxKey, Item, BoxForest}
-use Rattle.rd_tree.specs.Hulls.{breadth, extent, hull_in}
-use Rattle.rd_tree.specs.Internal.Summaries.{touched_in, summary_first, summary_of}
+use Rattle.rd_tree.specs.Hulls.{breadth, extent, hull_in, touched_in}
+use Rattle.rd_tree.specs.Internal.Summaries.{summary_first, summary_of}
 use Rattle.rd_tree.proofs.Linking.Standing.{either, out_of_children, differs_back, apart_back}
 use Rattle.rd_tree.proofs.Forests.Subtrees.{not_in_subtree, has_inner, has_later, children-past, children-one}
 use Rattle.rd_tree.proofs.Summaries.Hulls.{hull-later}

@@ -6,8 +6,8 @@ use Rattle.rd_tree.specs.declared.table.row.Summary.{Summary}
 use Rattle.rd_tree.specs.Forest.{Forest, empty, tree, starting_at, map_where}
 use Rattle.rd_tree.specs.Document.{BoxKey, BoxForest}
 use Rattle.rd_tree.specs.Touching.{settled}
-use Rattle.rd_tree.specs.Hulls.{breadth, extent, hull_in}
-use Rattle.rd_tree.specs.Internal.Summaries.{touched_in, summary_first, summary_of}
+use Rattle.rd_tree.specs.Hulls.{breadth, extent, hull_in, touched_in}
+use Rattle.rd_tree.specs.Internal.Summaries.{summary_first, summary_of}
 use Rattle.rd_tree.proofs.Forests.EachBranch.{from-each}
 
 abbrev all_settled : BoxForest → BoxForest

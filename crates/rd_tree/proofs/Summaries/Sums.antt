@@ -3,8 +3,7 @@ use Rattle.std.proofs.Common.{◌≡◌, refl, ℕ, ◌+◌, ◌≤◌, Bool, tr
 use Rattle.std.specs.Prelude.{nat_lt}
 use Rattle.rd_tree.specs.Forest.{Forest, empty, tree, size, ◌▷◌}
 use Rattle.rd_tree.specs.Document.{BoxForest}
-use Rattle.rd_tree.specs.Hulls.{breadth, any_touched}
-use Rattle.rd_tree.specs.Internal.Summaries.{touched_in}
+use Rattle.rd_tree.specs.Hulls.{breadth, any_touched, touched_in}
 
 pub breadth-join : {K D : Type 0} (f g : Forest K D) → breadth (f ▷ g) ≡ breadth f + breadth g
 breadth-join empty g = omega arith

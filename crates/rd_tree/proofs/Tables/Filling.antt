@@ -13,8 +13,8 @@ use Rattle.rd_tree.specs.Forest.{empty, tree, size, has}
 use Rattle.rd_tree.specs.Internal.Links.{child_and_sibling}
 use Rattle.rd_tree.specs.Document.{BoxKey, BoxForest, AllFit}
 use Rattle.rd_tree.specs.Internal.Linked.{linked, IsRead, seen_from}
-use Rattle.rd_tree.specs.Internal.Summaries.{summary_of, summary_at, touched_in}
-use Rattle.rd_tree.specs.Hulls.{breadth, hull_in, extent}
+use Rattle.rd_tree.specs.Internal.Summaries.{summary_of, summary_at}
+use Rattle.rd_tree.specs.Hulls.{breadth, hull_in, extent, touched_in}
 use Rattle.rd_tree.specs.Internal.Rows.{HasRows, IsFitAt, Puts, extent_under, touched_under}
 use Rattle.rd_tree.specs.Internal.Gathers.{Gathers, gathered_in, row_over}
 use Rattle.rd_tree.proofs.Linking.Standing.{from_left, from_right, differs, apart_back}

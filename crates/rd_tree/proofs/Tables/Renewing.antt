@@ -13,8 +13,8 @@ use Rattle.rd_tree.specs.Forest.{empty, tree, top, has, starting_at, children, i
 use Rattle.rd_tree.specs.Internal.Links.{Node, Stands, child_and_sibling, parent_of}
 use Rattle.rd_tree.specs.Document.{BoxKey, Item, BoxForest, AllFit}
 use Rattle.rd_tree.specs.Internal.Linked.{linked, seen_from}
-use Rattle.rd_tree.specs.Hulls.{breadth, hull_in, extent}
-use Rattle.rd_tree.specs.Internal.Summaries.{touched_in, summary_of, summary_at, is_above}
+use Rattle.rd_tree.specs.Hulls.{breadth, hull_in, extent, touched_in}
+use Rattle.rd_tree.specs.Internal.Summaries.{summary_of, summary_at, is_above}
 use Rattle.rd_tree.specs.Internal.Rows.{IsStanding, Puts, IsSwapping, extent_under, touched_under, with_hull, hull_anew_of, whole_in, joined}
 use Rattle.rd_tree.specs.Internal.Gathers.{Gathers, gathered_in, row_over}
 use Rattle.rd_tree.specs.Internal.Renews.{whole_at, IsRightBelow, IsRightIn, KeepsOutside, IsRound}

@@ -13,7 +13,8 @@ use Rattle.rd_tree.specs.Document.{BoxKey, Item, BoxForest}
 use Rattle.rd_tree.specs.Touching.{settled}
 use Rattle.rd_tree.specs.Internal.Linked.{linked, plain, Relinks, IsRead, IsTree, seen, seen_from}
 use Rattle.rd_tree.specs.Internal.Works.{Allows}
-use Rattle.rd_tree.specs.Internal.Summaries.{summary_of, summary_at, touched_in}
+use Rattle.rd_tree.specs.Hulls.{touched_in}
+use Rattle.rd_tree.specs.Internal.Summaries.{summary_of, summary_at}
 use Rattle.rd_tree.specs.Internal.Rows.{HasRows, IsTabled, Puts, unmarked, touched_under}
 use Rattle.rd_tree.specs.Internal.Renews.{whole_at}
 use Rattle.rd_tree.specs.Internal.Settles.{HasCounts, Unmarks}

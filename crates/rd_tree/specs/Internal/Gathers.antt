@@ -9,8 +9,8 @@ use Rattle.rd_tree.specs.declared.table.fill.Gathered.{Gathered}
 use Rattle.rd_tree.specs.Forest.{has}
 use Rattle.rd_tree.specs.Document.{BoxKey, BoxForest}
 use Rattle.rd_tree.specs.Internal.Linked.{linked}
-use Rattle.rd_tree.specs.Internal.Summaries.{summary_of, summary_at, touched_in}
-use Rattle.rd_tree.specs.Hulls.{breadth, hull_in}
+use Rattle.rd_tree.specs.Internal.Summaries.{summary_of, summary_at}
+use Rattle.rd_tree.specs.Hulls.{breadth, hull_in, touched_in}
 
 -- what some siblings are together
 abbrev pub gathered_in : BoxForest → Gathered

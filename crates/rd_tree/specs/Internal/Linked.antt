@@ -1,5 +1,5 @@
 -- An arena of nodes that are linked as a forest.
-use Rattle.std.specs.Prelude.{◌≡◌, ℕ, ◌≤◌, nat_lt, Bool, true, List, map, Option, Some, None, option_map, is_some, if◌then◌else◌}
+use Rattle.std.specs.Prelude.{◌≡◌, ℕ, ◌≤◌, Bool, true, List, map, Option, Some, None, option_map, is_some, if◌then◌else◌}
 use Rattle.std.specs.HashMap.{HashMap, get_by_text}
 use Rattle.std.specs.Prelude.{String}
 use Rattle.std.specs.Str.{bytes_eq}
@@ -101,7 +101,7 @@ shown_of k is_root n row =
       next_sibling = n.links.next;
       hull = row.hull;
       touched = n.item.touched;
-      touched_below = nat_lt 0 row.touched;
+      touched_below = row.touched;
     }
 
 -- the boxes that the links tell from one on: it, those below it, and its later siblings with theirs

@@ -14,8 +14,8 @@ use Rattle.rd_tree.specs.Document.{BoxKey, Item, BoxForest, AllFit}
 use Rattle.std.specs.HashMap.{HashMap}
 use Rattle.std.specs.Prelude.{String}
 use Rattle.rd_tree.specs.Internal.Linked.{linked, seen, seen_from, IsConsistent}
-use Rattle.rd_tree.specs.Internal.Summaries.{summary_of, summary_at, is_above, touched_in}
-use Rattle.rd_tree.specs.Hulls.{extent, hull_in}
+use Rattle.rd_tree.specs.Internal.Summaries.{summary_of, summary_at, is_above}
+use Rattle.rd_tree.specs.Hulls.{extent, hull_in, touched_in}
 
 -- The row of k is this one, and those of all other slots are as they were.
 abbrev pub Puts : List Summary → List Summary → BoxKey → Summary → Type 0

@@ -1,17 +1,11 @@
 -- What the table of a tree has for each box.
-use Rattle.std.specs.Prelude.{ℕ, ◌+◌, Bool, false, if◌then◌else◌, List, slice_index_or, Option, Some, None}
+use Rattle.std.specs.Prelude.{Bool, false, List, slice_index_or, Option, Some, None}
 use Rattle.rd_geom.specs.Plane.{no_pixels, hull_of}
 use Rattle.rd_keys.specs.Keys.{same_key}
 use Rattle.rd_tree.specs.Forest.{empty, tree, starting_at, in_subtree}
 use Rattle.rd_tree.specs.declared.table.row.Summary.{Summary}
 use Rattle.rd_tree.specs.Document.{BoxKey, BoxForest}
-use Rattle.rd_tree.specs.Hulls.{breadth, extent, hull_in}
-
--- how many boxes are touched, those below counted too
-abbrev pub touched_in : BoxForest → ℕ
-touched_in empty = 0
-touched_in (tree k d below rest) = (if d.touched then 1 else 0) + (touched_in below +
-    touched_in rest)
+use Rattle.rd_tree.specs.Hulls.{breadth, extent, hull_in, touched_in}
 
 -- the children of the first of some boxes, the touched boxes below it, and the hull of it and all below it
 abbrev pub summary_first : BoxForest → Summary

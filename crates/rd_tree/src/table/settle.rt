@@ -6,7 +6,7 @@ ghost use Rattle.rd_tree.specs.Forest.{has};
 ghost use Rattle.rd_tree.specs.Touching.{settled};
 ghost use Rattle.rd_tree.specs.Internal.Links.{child_and_sibling, edit, on_each, with_item};
 ghost use Rattle.rd_tree.specs.Internal.Linked.{Relinks, IsRead, linked, seen_from};
-ghost use Rattle.rd_tree.specs.Internal.Summaries.{touched_in};
+ghost use Rattle.rd_tree.specs.Hulls.{touched_in};
 ghost use Rattle.rd_tree.specs.Internal.Rows.{HasRows, touched_under};
 ghost use Rattle.rd_tree.specs.Internal.Settles.{HasCounts, Unmarks};
 

@@ -1,6 +1,7 @@
 use Rattle.std.proofs.Common.{◌≡◌, ◌+◌, ◌*◌}
 use Rattle.rd_keys.specs.Keys.{same_key}
 use Rattle.rd_tree.specs.Forest.{from_some, size, head}
+use Rattle.rd_partial.specs.Internal.Touched.{marks_from}
 use Rattle.rd_partial.proofs.Touching.{Added}
 use Rattle.rd_partial.proofs.touched.+touching.Given as goal
 
@@ -10,10 +11,11 @@ decreases-add_below g l = 2 * size (from_some same_key l.looked.now.first_child 
 abbrev pub decreases-add_siblings : goal.decreases-add_siblings
 decreases-add_siblings g l = 2 * size (from_some same_key l.first l.tree.now.boxes)
 
-abbrev pub decreases-add_siblings-loop-looked : goal.decreases-add_siblings-loop-looked
-decreases-add_siblings-loop-looked g l = size (from_some same_key l.at l.tree.boxes)
+abbrev pub decreases-add_siblings-loop-left : goal.decreases-add_siblings-loop-left
+decreases-add_siblings-loop-left g l = size (from_some same_key l.at l.tree.boxes)
 
-abbrev pub invariant-add_siblings-loop-looked : goal.invariant-add_siblings-loop-looked
-invariant-add_siblings-loop-looked g l =
+abbrev pub invariant-add_siblings-loop-left : goal.invariant-add_siblings-loop-left
+invariant-add_siblings-loop-left g l =
     (l.at ≡ head (from_some same_key l.at l.tree.boxes))
+    × (l.left ≡ marks_from l.at l.tree)
     × Added l.s (from_some same_key l.fn.first l.tree.boxes) (from_some same_key l.at l.tree.boxes) l.fn.area l.area l.fn.looks l.looks

@@ -1,7 +1,7 @@
 use Rattle.std.proofs.Common.{◌≡◌, ◌+◌, ◌*◌}
 use Rattle.rd_tree.specs.Forest.{size}
 use Rattle.rd_tree.specs.Internal.Linked.{seen_from}
-use Rattle.rd_tree.specs.Internal.Summaries.{touched_in}
+use Rattle.rd_tree.specs.Hulls.{touched_in}
 use Rattle.rd_tree.proofs.Tables.Settling.{Settling}
 use Rattle.rd_tree.proofs.table.settle.+settling.Given as goal
 
