@@ -1,15 +1,26 @@
 -- The hit of a list with another on top.
-use Rattle.std.proofs.Common.{◌≡◌, refl, ◌∙◌, sym, ap, ℤ, ℕ, ◌+◌, ◌<◌, Bool, true, false, not, ◌&&◌, cond, List, [], ◌∷◌, length, take, drop, get_or, Option, Some, None}
-use Rattle.std.proofs.lemmas.List.{take-append-drop}
+use Rattle.std.specs.Prelude.{option_map, filter}
+use Rattle.std.proofs.Common.{◌≡◌, refl, ◌∙◌, sym, ap, subst, zero, suc, ℤ, ℕ, ◌+◌, ◌-◌, ◌≤◌, arith, ◌++◌, ◌<◌, Bool, true, false, not, ◌&&◌, cond, List, [], ◌∷◌, length, take, drop, get_or, Option, Some, None}
+use Rattle.std.proofs.lemmas.List.{take-append-drop, drop-drop, length-drop, take_all}
 use Rattle.std.specs.Option.{is_some}
-use Rattle.rd_geom.specs.Plane.{holds_pixel}
+use Rattle.rd_geom.specs.Plane.{Rectangle, IsWithin, holds_pixel}
 use Rattle.rd_keys.specs.Keys.{BoxKey}
 use Rattle.rd_item.specs.declared.leaf.Leaf as item
 use Rattle.rd_list.specs.declared.kept.Entry.{Entry}
 use Rattle.rd_list.specs.Wrappers.{Wrapper}
 use Rattle.rd_list.specs.Displayed.{shown}
-use Rattle.rd_list.specs.Entries.{Entries, nil, leaf, ◌▷◌, flat}
-use Rattle.rd_list.specs.Lists.{hit, is_hit, is_outline}
+use Rattle.rd_list.specs.Entries.{Entries, nil, leaf, group, ◌▷◌, flat, list_size}
+use Rattle.rd_list.specs.Blocks.{AreHeld, AreWithin, Covers, Tells, total}
+use Rattle.rd_list.specs.EntryNames.{kept_leaves}
+use Rattle.rd_list.specs.Kept.{Ordered}
+use Rattle.rd_list.specs.KeptView.{kept_entries}
+use Rattle.rd_list.proofs.Covering.{held_leaves, total_next}
+use Rattle.rd_list.proofs.Admitting.{found_told}
+use Rattle.rd_list.specs.declared.blocks.Block.{Block}
+use Rattle.rd_list.specs.declared.kept.Entry.TheVariants as kept
+use Rattle.rd_item.specs.Items.{Made}
+use Rattle.rd_keys.specs.declared.entry.EntryKey.{EntryKey}
+use Rattle.rd_list.specs.Lists.{hit, is_hit, is_outline, last}
 use Rattle.rd_list.specs.Internal.LastHit.{last_owner}
 use Rattle.rd_list.proofs.Displaying.{shown-append, shown_from}
 use Rattle.rd_list.proofs.Joins.{flat-join}
@@ -84,3 +95,83 @@ unseen false b c d e h = refl
 pub unseen_missed : (x y : ℤ) (l : item.Leaf) → holds_pixel l.visible x y ≡ false → hit (leaf l nil) x y ≡ None
 unseen_missed x y l h =
     sym (leaf_missed x y l (unseen (holds_pixel l.shape.outer x y) (not (holds_pixel l.shape.inner x y)) (holds_pixel l.visible x y) (not (is_outline l.part)) l.hits h))
+
+-- ---- block by block
+
+within_left : (r : Rectangle) (ms ns : List Made) → AreWithin r (ms ++ ns) → AreWithin r ms
+within_left r [] ns h = tt
+within_left r (m ∷ ms) ns h = (h.0, within_left r ms ns h.1)
+
+within_right : (r : Rectangle) (ms ns : List Made) → AreWithin r (ms ++ ns) → AreWithin r ns
+within_right r [] ns h = h
+within_right r (m ∷ ms) ns h = within_right r ms ns h.1
+
+-- no leaf that lies in a rectangle is hit outside of it
+outside : (x y : ℤ) (r : Rectangle) (l : item.Leaf) → IsWithin l.visible r → holds_pixel r x y ≡ false → holds_pixel l.visible x y ≡ false
+outside x y r l w f = by (holds_pixel l.visible x y) refl
+  where
+    by : (b : Bool) → holds_pixel l.visible x y ≡ b → holds_pixel l.visible x y ≡ false
+    by false e = e
+    by true e = absurd (let t = w x y e in cc)
+
+list_missed : (x y : ℤ) (r : Rectangle) (xs : Entries (Ordered EntryKey Wrapper) Made) → AreWithin r (flat xs) → holds_pixel r x y ≡ false → hit (kept_leaves xs) x y ≡ None
+unfolding or_else
+list_missed x y r nil h f = refl
+list_missed x y r (leaf m rest) h f =
+    hit-join x y (leaf m.leaf nil) (kept_leaves rest) ∙ ap (λ g. or_else g (hit (leaf m.leaf nil) x y)) (list_missed x y r rest h.1 f) ∙ unseen_missed x y m.leaf (outside x y r m.leaf h.0 f)
+list_missed x y r (group g inner rest) h f =
+    ap (λ ls. option_map (λ l. l.owner) (last (filter (is_hit x y) ls))) (sym (flat-join (kept_leaves inner) (kept_leaves rest)))
+    ∙ hit-join x y (kept_leaves inner) (kept_leaves rest)
+    ∙ ap (λ g. or_else g (hit (kept_leaves inner) x y)) (list_missed x y r rest (within_right r (flat inner) (flat rest) h) f) ∙ list_missed x y r inner (within_left r (flat inner) (flat rest) h) f
+
+module _ {A : Type 0} where
+  -- outside of its hull nothing of a block is hit
+  pub block_missed : (x y : ℤ) (r : Rectangle) (es : List (Entry A)) → AreHeld r es → holds_pixel r x y ≡ false → None ≡ hit (shown es) x y
+  block_missed x y r es h f = sym (list_missed x y r (kept_entries es) (held_leaves r es h) f)
+
+  -- one block further down
+  pub block_down : (x y : ℤ) (es : List (Entry A)) (start end : ℕ) (found : Option BoxKey) → start ≤ end → end ≤ length es → found ≡ hit (shown (take (end - start) (drop start es))) x y → hit (shown (drop end es)) x y ≡ None
+      → hit (shown (drop start es)) x y ≡ found
+  unfolding or_else
+  block_down x y es start end found l m f n =
+      let parts : drop start es ≡ take (end - start) (drop start es) ++ drop end es =
+      sym (take-append-drop (end - start) (drop start es)) ∙ ap (λ zs. take (end - start) (drop start es) ++ zs) (drop-drop (end - start) start es ∙ ap (λ k. drop k es) (let e : start + (end - start) ≡ end = omega (arith, l) in e)) in
+      ap (λ zs. hit (shown zs) x y) parts ∙ ap (λ zs. hit zs x y) (shown-append (take (end - start) (drop start es)) (drop end es))
+      ∙ hit-join x y (shown (take (end - start) (drop start es))) (shown (drop end es))
+      ∙ ap (λ g. or_else g (hit (shown (take (end - start) (drop start es))) x y)) n ∙ sym f
+
+  -- a part of a level is no larger
+  pub drop_size : (es : List (Entry A)) (p : ℕ) → list_size (kept_entries (drop p es)) ≤ list_size (kept_entries es)
+  drop_size es zero = omega arith
+  drop_size [] (suc p) = omega arith
+  drop_size (kept.Leaf i ∷ es) (suc p) = let r = drop_size es p in omega (arith, r)
+  drop_size (kept.Group g ∷ es) (suc p) = let r = drop_size es p in omega (arith, r)
+
+  take_size : (es : List (Entry A)) (n : ℕ) → list_size (kept_entries (take n es)) ≤ list_size (kept_entries es)
+  take_size es zero = omega arith
+  take_size [] (suc n) = omega arith
+  take_size (kept.Leaf i ∷ es) (suc n) = let r = take_size es n in omega (arith, r)
+  take_size (kept.Group g ∷ es) (suc n) = let r = take_size es n in omega (arith, r)
+
+  pub part_size : (es : List (Entry A)) (p n : ℕ) → list_size (kept_entries (take n (drop p es))) ≤ list_size (kept_entries es)
+  part_size es p n = let a = take_size (drop p es) n in let b = drop_size es p in omega (arith, a, b)
+
+  -- the block below a number of blocks
+  pub block_below : (bs : List Block) (es : List (Entry A)) (number end : ℕ) (b : Block) → Covers bs es → 0 < number → number ≤ length bs → end ≡ total (take number bs) → b ≡ get_or bs (number - 1) b
+      → (b.count ≤ end) × (end - b.count ≡ total (take (number - 1) bs)) × (b.is_open ≡ false → Tells b (take (end - (end - b.count)) (drop (end - b.count) es)))
+  block_below bs es number end b c some few e is =
+      let i : ℕ = number - 1 in
+      let n = total_next bs i b (omega (arith, some, few)) is in
+      let same : i + 1 ≡ number = omega (arith, some) in
+      let whole : total (take number bs) ≡ total (take i bs) + b.count = ap (λ k. total (take k bs)) (sym same) ∙ n in
+      let start : end - b.count ≡ total (take i bs) = omega (arith, e, whole) in
+      let t = found_told bs es i (end - b.count) b c (omega (arith, few), start) (omega (arith, some, few)) is in
+      (omega (arith, e, whole), start, (λ f. subst (λ k. Tells b (take k (drop (end - b.count) es))) (let q : b.count ≡ end - (end - b.count) = omega (arith, e, whole) in q) (t.1 f)))
+
+  -- the part from a place on
+  pub rest_is : (es : List (Entry A)) (p : ℕ) → take (length es - p) (drop p es) ≡ drop p es
+  rest_is es p = let n = length-drop p es in take_all (length es - p) (drop p es) (omega (arith, n))
+
+pub is_not : (b : Bool) → not b ≡ true → b ≡ false
+is_not true e = cc
+is_not false e = refl

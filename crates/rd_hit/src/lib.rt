@@ -6,6 +6,7 @@
 ghost use Rattle.std.specs.Prelude.{◌≡◌, ◌≤◌, ◌<◌, ◌+◌, ◌-◌, ◌∷◌, [], IsTrue, None, drop, false, length};
 ghost use Rattle.rd_geom.specs.Plane.{holds_pixel, is_among};
 ghost use Rattle.rd_list.specs.Displayed.{shown};
+ghost use Rattle.rd_list.specs.Blocks.{Covers, Tells};
 ghost use Rattle.rd_list.specs.Entries as list;
 ghost use Rattle.rd_list.specs.EntryNames.{kept_leaves};
 ghost use Rattle.rd_list.specs.Lists as lists;
@@ -13,7 +14,7 @@ ghost use Rattle.rd_list.specs.Lists as lists;
 use rd_geom::Rect;
 use rd_item::Item;
 use rd_keys::{BoxKey, Part};
-use rd_list::{Entry, ListView};
+use rd_list::{Block, Entry, Kept, ListView, covered_by};
 use std::sync::ledger::Ledger;
 
 fn is_outline(part: Part) -> bool
@@ -39,7 +40,7 @@ fn is_hit<A: Ledger>(item: &Item<A>, x: i32, y: i32) -> bool
 pub fn hit<A: Ledger>(list: ListView<'_, A>, x: i32, y: i32) -> Option<BoxKey>
     ensures { result ≡ lists.hit (kept_leaves list.entry.list.now.entries) x y }
 {
-    topmost(list.entries(), x, y)
+    topmost_of(list.list(), x, y)
 }
 
 /// Is `v` none of the `count` whole numbers from `low` on? What lies before them wraps round to a large number, so that
@@ -120,6 +121,51 @@ fn left_below<A: Ledger>(entries: &[Entry<A>], from: usize, x: i32, y: i32) -> u
     left
 }
 
+/// The box of the topmost leaf of a list that is hit.
+#[cycle(hitting)]
+fn topmost_of<A: Ledger>(list: &Kept<A>, x: i32, y: i32) -> Option<BoxKey>
+    ensures { result ≡ lists.hit (kept_leaves list.now.entries) x y }
+{
+    topmost_by(&list.blocks, &list.entries, x, y)
+}
+
+/// The same of a level, block by block from the top down.
+#[cycle(hitting)]
+fn topmost_by<A: Ledger>(blocks: &[Block], entries: &[Entry<A>], x: i32, y: i32) -> Option<BoxKey>
+    requires { Covers blocks.now entries.now }
+    ensures { result ≡ lists.hit (shown entries.now) x y }
+{
+    let mut number = blocks.len();
+    let mut end = covered_by(blocks, entries);
+    let found = topmost(&entries[end..], x, y);
+    if found.is_some() {
+        return found;
+    }
+    while number > 0 {
+        number -= 1;
+        let block = blocks[number];
+        let start = end - block.count;
+        let found = topmost_in_block(block, &entries[start..end], x, y);
+        if found.is_some() {
+            return found;
+        }
+        end = start;
+    }
+    None
+}
+
+/// The same of the entries of a block, unless the pixel is outside of its hull.
+#[cycle(hitting)]
+fn topmost_in_block<A: Ledger>(block: Block, entries: &[Entry<A>], x: i32, y: i32) -> Option<BoxKey>
+    requires { block.is_open ≡ false → Tells block entries.now }
+    ensures { result ≡ lists.hit (shown entries.now) x y }
+{
+    if !block.is_open && misses(block.hull, x, y) {
+        return None;
+    }
+    topmost(entries, x, y)
+}
+
 #[cycle(hitting)]
 fn topmost<A: Ledger>(entries: &[Entry<A>], x: i32, y: i32) -> Option<BoxKey>
     ensures { result ≡ lists.hit (shown entries.now) x y }
@@ -145,7 +191,7 @@ fn topmost_in<A: Ledger>(entry: &Entry<A>, x: i32, y: i32) -> Option<BoxKey>
 {
     match entry {
         Entry::Leaf(item) => hit_item(item, x, y),
-        Entry::Group(group) => topmost(&group.inner.entries, x, y),
+        Entry::Group(group) => topmost_of(&group.inner, x, y),
     }
 }
 

@@ -41,6 +41,7 @@ fn scene<A: Ledger>(alloc: Global, made: &mut Steps<A>) -> Option<Kept<A>> {
     let inner = Kept {
         entries: inner,
         graph: OrderGraph::empty(alloc),
+        blocks: Vec::new(alloc),
     };
     entries
         .push(Entry::Group(Group {
@@ -54,7 +55,11 @@ fn scene<A: Ledger>(alloc: Global, made: &mut Steps<A>) -> Option<Kept<A>> {
         .push(part_of(4, Part::Outline, 0, true, made)?)
         .ok()?;
     let graph = OrderGraph::empty(alloc);
-    Some(Kept { entries, graph })
+    Some(Kept {
+        entries,
+        graph,
+        blocks: Vec::new(alloc),
+    })
 }
 
 fn is_hit_right<A: Ledger>(list: &Kept<A>) -> bool {

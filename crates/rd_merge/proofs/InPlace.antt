@@ -2,7 +2,8 @@
 use Rattle.std.proofs.Common.{◌≡◌, refl, ap, ◌∙◌, sym, subst, ℕ, zero, suc, ◌<◌, true, List, [], ◌∷◌, ◌++◌, length, get_or, set, take, drop, arith}
 use Rattle.std.specs.Prelude.{Option, Some, None, is_some, vec_len}
 use Rattle.std.specs.declared.vec.Vec.{Vec}
-use Rattle.rd_graph.specs.Gathered.{gathered}
+use Rattle.std.proofs.lemmas.List.{append-nil}
+use Rattle.rd_graph.specs.Gathered.{gathered, arranged}
 use Rattle.rd_graph.specs.Internal.Taking.{KeepsOthers}
 use Rattle.rd_item.specs.Items.{Made}
 use Rattle.rd_keys.specs.declared.entry.EntryKey.{EntryKey}
@@ -106,6 +107,19 @@ module _ {A : Type 0} where
       let zero_made : n ≡ 0 = subst (λ o. NoneMade o n) none still in
       let empty : ms ≡ [] = none_long ms (size ∙ zero_made) in
       sym (ap (λ o. arranged_entries o (kept_entries es ▷ kept_entries ms)) none ∙ ap (λ zs. kept_entries es ▷ kept_entries zs) empty ∙ join-nil (kept_entries es))
+
+  pub lined_items : {B : Type 0} (line : Option (List ℕ)) (l : List ℕ) (es ms start after : List (Entry A)) (room : Vec (Entry A) B) → line ≡ Some l → HasLineRoom line room
+      → length start ≡ vec_len room → after ≡ start ++ gathered l (es ++ ms) → after ≡ arranged line (es ++ ms)
+  lined_items line l es ms start after room some has size e =
+      let roomy : HasLineRoom (Some l) room = subst (λ o. HasLineRoom o room) some has in
+      let empty : start ≡ [] = none_long start (omega (arith, size, roomy.0)) in
+      e ∙ ap (λ s. s ++ gathered l (es ++ ms)) empty ∙ ap (λ o. arranged o (es ++ ms)) (sym some)
+
+  pub unlined_items : (line : Option (List ℕ)) (es ms : List (Entry A)) (n : ℕ) → line ≡ None → NoneMade line n → length ms ≡ n → es ≡ arranged line (es ++ ms)
+  unlined_items line es ms n none still size =
+      let zero_made : n ≡ 0 = subst (λ o. NoneMade o n) none still in
+      let empty : ms ≡ [] = none_long ms (size ∙ zero_made) in
+      sym (ap (λ o. arranged o (es ++ ms)) none ∙ ap (λ zs. es ++ zs) empty ∙ append-nil es)
 
   -- ---- a group is taken
 

@@ -1,17 +1,19 @@
 //! The second half of a merge: entries are put at their places in the kept list, and nothing takes memory.
 ghost use Rattle.std.specs.Prelude.{◌≡◌, ◌≤◌, ◌+◌, ◌∷◌, [], vec_len, vec_capacity};
 ghost use Rattle.rd_list.specs.Entries.{◌▷◌};
+ghost use Rattle.rd_list.specs.Blocks.{Covers, IsAt};
 ghost use Rattle.rd_list.specs.KeptView.{kept_entries};
 ghost use Rattle.rd_merge.specs.Plans.{IsGroupPlace, IsNamed, PlacesFit, StepsFit, filled, grouped_as, left_for, list_for, made_count, old_list, stepped, wrapper_for};
 ghost use Rattle.rd_merge.specs.PlanView.{steps_seen};
-ghost use Rattle.rd_merge.specs.Internal.Moving.{IsSameBut, left_after};
+ghost use Rattle.rd_merge.specs.Internal.Moving.{ChangesAt, IsSameBut, left_after};
 ghost use Rattle.rd_merge.specs.Internal.Untaken.{untaken};
 
-use crate::moving::{in_line, put};
+use crate::blocking::{clear, in_line_blocks, put_in_block};
+use crate::moving::in_line;
 use crate::opening::{next_leaf, open};
 use crate::plan::{Plan, Step};
 use crate::taking::NewEntries;
-use rd_list::{Entry, Group, Kept, NewList};
+use rd_list::{Block, Entry, FIRST, Group, Kept, NewList, Seek, renew_blocks};
 use std::alloc::Global;
 use std::sync::ledger::Ledger;
 
@@ -29,16 +31,31 @@ pub fn finish<A: Ledger>(kept: Kept<A>, new: NewList<A>, plan: Plan<A>) -> Kept<
         mut made,
         aside,
         room,
+        parts,
+        mut blocks,
     } = plan;
     let mut entries = kept.entries;
+    let mut had = kept.blocks;
+    let mut seek = FIRST;
     let mut fresh = NewEntries::new(alloc, new);
     for step in steps {
-        finish_step(alloc, &mut entries, &mut made, &mut fresh, step);
+        seek = finish_step(
+            alloc,
+            &mut had,
+            seek,
+            &mut entries,
+            &mut made,
+            &mut fresh,
+            step,
+        );
     }
+    let had = in_line_blocks(had, &entries, &made, patch.line(), parts);
     let entries = in_line(alloc, entries, made, patch.line(), aside, room);
+    renew_blocks(&mut blocks, &entries, &had);
     Kept {
         entries,
         graph: kept.graph.apply(patch),
+        blocks,
     }
 }
 
@@ -46,14 +63,18 @@ pub fn finish<A: Ledger>(kept: Kept<A>, new: NewList<A>, plan: Plan<A>) -> Kept<
 #[cycle(finishing)]
 fn finish_step<A: Ledger>(
     alloc: Global,
+    blocks: &mut Vec<Block>,
+    last: Seek,
     entries: &mut Vec<Entry<A>>,
     made: &mut Vec<Entry<A>>,
     fresh: &mut NewEntries<A>,
     step: Step<A>,
-)
+) -> Seek
     requires fits { StepsFit (vec_len entries.old) (steps_seen (step ∷ []))
         (kept_entries entries.old.items ▷ kept_entries made.old.items) (untaken fresh.old) }
     requires room { vec_len made.old + made_count (steps_seen (step ∷ [])) ≤ vec_capacity made.old }
+    requires at { IsAt blocks.old.items last.at last.start }
+    requires covers { Covers blocks.old.items entries.old.items }
     ensures stepped { kept_entries entries.new.items ▷ kept_entries made.new.items
         ≡ stepped (steps_seen (step ∷ []))
         (kept_entries entries.old.items ▷ kept_entries made.old.items) (untaken fresh.old) }
@@ -62,15 +83,18 @@ fn finish_step<A: Ledger>(
     ensures entries { vec_len entries.new ≡ vec_len entries.old }
     ensures made { vec_len made.new ≡ vec_len made.old + made_count (steps_seen (step ∷ [])) }
     ensures room { vec_capacity made.old ≤ vec_capacity made.new }
+    ensures at { IsAt blocks.new.items result.at result.start }
+    ensures covers { Covers blocks.new.items entries.new.items }
 {
     match step {
         Step::Leaf(place) => {
             let entry = next_leaf(fresh);
-            put(entries, made, place, entry);
+            put_in_block(blocks, last, entries, made, place, entry)
         }
         Step::Group { old, is_new, plan } => {
+            let seek = clear::<A>(blocks, last, old);
             let entry = finish_group(alloc, entries, fresh, old, is_new, Box::into_inner(plan));
-            put(entries, made, old, entry);
+            put_in_block(blocks, seek, entries, made, old, entry)
         }
     }
 }
@@ -95,6 +119,7 @@ fn finish_group<A: Ledger>(
     ensures left { untaken fresh.new
         ≡ left_for is_new (untaken fresh.old) }
     ensures others { IsSameBut old (kept_entries entries.old.items) (kept_entries entries.new.items) }
+    ensures rest { ChangesAt old entries.old.items entries.new.items }
     ensures len { vec_len entries.new ≡ vec_len entries.old }
 {
     let group = open(alloc, entries, fresh, old, is_new);

@@ -1,12 +1,12 @@
 //! Entries of a level are moved to their places, and nothing takes memory.
 ghost use Rattle.std.specs.Prelude.{◌≡◌, ℕ, ◌<◌, ◌≤◌, ◌+◌, ◌∷◌, ◌++◌, [], true, drop, slice_index_or, vec_len, vec_capacity, length, option_map};
-ghost use Rattle.rd_graph.specs.Gathered.{gathered, ArePlaces, IsLine};
+ghost use Rattle.rd_graph.specs.Gathered.{arranged, gathered, ArePlaces, IsLine};
 ghost use Rattle.rd_graph.specs.Internal.Taking.{KeepsBut, KeepsOthers, KeepsOutside};
 ghost use Rattle.rd_graph.specs.Runs.{places_aside, places_of, up_from};
 ghost use Rattle.rd_list.specs.Entries.{◌▷◌};
 ghost use Rattle.rd_list.specs.KeptView.{kept_entries};
 ghost use Rattle.rd_merge.specs.Plans.{arranged_entries, IsPlace, one_made, put_entry};
-ghost use Rattle.rd_merge.specs.Internal.Moving.{NoneMade};
+ghost use Rattle.rd_merge.specs.Internal.Moving.{NoneMade, PutsAt};
 ghost use Rattle.rd_merge.specs.Internal.PlanRoom.{HasLineRoom};
 
 use rd_graph::{Run, gather_rising, has_room_aside, is_rising};
@@ -54,6 +54,7 @@ pub(crate) fn put<A: Ledger>(
     requires room { vec_len made.old + one_made place ≤ vec_capacity made.old }
     ensures put { kept_entries entries.new.items ▷ kept_entries made.new.items
         ≡ put_entry place (kept_entries (entry ∷ [])) (kept_entries entries.old.items ▷ kept_entries made.old.items) }
+    ensures there { PutsAt place entry entries.old.items entries.new.items }
     ensures entries { vec_len entries.new ≡ vec_len entries.old }
     ensures made { vec_len made.new ≡ vec_len made.old + one_made place }
     ensures room { vec_capacity made.old ≤ vec_capacity made.new }
@@ -205,8 +206,9 @@ pub(crate) fn in_line<A: Ledger>(
     requires line { IsLine (option_map (λ l. places_of l.now) line) (vec_len entries + vec_len made) }
     requires still { NoneMade (option_map (λ l. places_of l.now) line) (vec_len made) }
     requires room { HasLineRoom (option_map (λ l. places_of l.now) line) room }
-    ensures { kept_entries result.items
+    ensures entries { kept_entries result.items
         ≡ arranged_entries (option_map (λ l. places_of l.now) line.entry) (kept_entries entries.items ▷ kept_entries made.items) }
+    ensures items { result.items ≡ arranged (option_map (λ l. places_of l.now) line.entry) (entries.items ++ made.items) }
 {
     match line {
         None => entries,

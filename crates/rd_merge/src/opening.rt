@@ -5,7 +5,7 @@ ghost use Rattle.rd_list.specs.NewView.{new_entries};
 ghost use Rattle.rd_list.specs.Views.{group_at};
 ghost use Rattle.rd_list.specs.Wrappers.{wrapper};
 ghost use Rattle.rd_merge.specs.Plans.{IsGroupPlace, IsNamed, IsPlace, first_leaf, first_list, first_wrapper, later, left_for, list_for, old_list, size_of, wrapper_at, wrapper_for};
-ghost use Rattle.rd_merge.specs.Internal.Moving.{IsSameBut};
+ghost use Rattle.rd_merge.specs.Internal.Moving.{ChangesAt, IsSameBut};
 ghost use Rattle.rd_merge.specs.Internal.Untaken.{untaken};
 
 use crate::moving::take_at;
@@ -88,6 +88,7 @@ fn take_group<A: Ledger>(alloc: Global, entries: &mut Vec<Entry<A>>, place: usiz
     ensures named { wrapper_at place (kept_entries entries.old.items) ≡ Some (wrapper result.key result.opacity) }
     ensures inner { group_at place (kept_entries entries.old.items) ≡ Some result.inner }
     ensures others { IsSameBut (Some place) (kept_entries entries.old.items) (kept_entries entries.new.items) }
+    ensures rest { ChangesAt (Some place) entries.old.items entries.new.items }
     ensures len { vec_len entries.new ≡ vec_len entries.old }
 {
     match take_at(alloc, entries, place) {
@@ -113,6 +114,7 @@ pub(crate) fn open<A: Ledger>(
     ensures left { untaken fresh.new
         ≡ left_for is_new (untaken fresh.old) }
     ensures others { IsSameBut old (kept_entries entries.old.items) (kept_entries entries.new.items) }
+    ensures rest { ChangesAt old entries.old.items entries.new.items }
     ensures len { vec_len entries.new ≡ vec_len entries.old }
 {
     let Some(place) = old else {

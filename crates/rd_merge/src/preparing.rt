@@ -16,7 +16,7 @@ use crate::going::Touches;
 use crate::looking::look;
 use crate::plan::{Plan, Step};
 use rd_graph::{Patch, count_aside, count_of};
-use rd_list::{Entry, Kept, NewEntry, NewList, new_keys};
+use rd_list::{Block, Entry, Kept, NewEntry, NewList, new_keys};
 use std::alloc::{AllocError, Global};
 use std::sync::ledger::Ledger;
 
@@ -57,6 +57,50 @@ fn aside_room<A: Ledger>(alloc: Global, patch: &Patch) -> Result<Vec<Entry<A>>, 
     }
 }
 
+/// Into how many runs the entries go.
+fn run_count(patch: &Patch) -> usize {
+    match patch.line() {
+        Some(line) => line.len(),
+        None => 0,
+    }
+}
+
+/// Room for what so many blocks say of the entries of a line, if there is one.
+fn part_room(alloc: Global, patch: &Patch, had: usize) -> Result<Vec<Block>, AllocError>
+    ensures { IfOk result (λ v. v.items ≡ []) }
+{
+    match patch.line() {
+        Some(line) => Vec::with_capacity(alloc, line.len().saturating_mul(2).saturating_add(had)),
+        None => Ok(Vec::new(alloc)),
+    }
+}
+
+/// How many blocks new entries may need.
+fn new_blocks<A: Ledger>(steps: &[Step<A>]) -> usize {
+    let mut count = steps.len() / 32;
+    for step in steps {
+        match step {
+            Step::Leaf(_) => {}
+            Step::Group { .. } => count = count.saturating_add(2),
+        }
+    }
+    count
+}
+
+/// Room for the blocks of the result: those that were there, two more for each run of a line, and those of new entries.
+fn block_room<A: Ledger>(
+    alloc: Global,
+    patch: &Patch,
+    had: usize,
+    steps: &[Step<A>],
+) -> Result<Vec<Block>, AllocError>
+    ensures { IfOk result (λ v. v.items ≡ []) }
+{
+    let runs = run_count(patch).saturating_mul(2);
+    let count = had.saturating_add(runs).saturating_add(new_blocks(steps));
+    Vec::with_capacity(alloc, count.saturating_add(2))
+}
+
 #[cycle(planning)]
 fn plan_level<A: Ledger, T: Touches>(
     alloc: Global,
@@ -78,6 +122,8 @@ fn plan_level<A: Ledger, T: Touches>(
     let made = Vec::with_capacity(alloc, names.len())?;
     let aside = aside_room(alloc, &patch)?;
     let room = line_room(alloc, &patch)?;
+    let parts = part_room(alloc, &patch, kept.blocks.len())?;
+    let blocks = block_room(alloc, &patch, kept.blocks.len(), &steps)?;
     Ok(Plan {
         alloc,
         patch,
@@ -85,6 +131,8 @@ fn plan_level<A: Ledger, T: Touches>(
         made,
         aside,
         room,
+        parts,
+        blocks,
     })
 }
 

@@ -72,13 +72,17 @@ fn columns<A: Ledger>(
     )
 }
 
-fn faded<A: Ledger>(opacity: u8, entries: Vec<Entry<A>>, graph: OrderGraph) -> Group<A>
+fn faded<A: Ledger>(alloc: Global, opacity: u8, entries: Vec<Entry<A>>) -> Group<A>
     ensures { levels result.inner.entries ≡ levels (kept_entries entries.items) }
 {
     Group {
         key: Key::new(0, 0),
         opacity,
-        inner: Kept { entries, graph },
+        inner: Kept {
+            entries,
+            graph: OrderGraph::empty(alloc),
+            blocks: Vec::new(alloc),
+        },
     }
 }
 
@@ -88,7 +92,7 @@ fn half<A: Ledger>(rt: &impl Abort, alloc: Global, entry: Entry<A>) -> Group<A>
 {
     let mut entries = Vec::new(alloc);
     match entries.push(entry) {
-        Ok(()) => faded(128, entries, OrderGraph::empty(alloc)),
+        Ok(()) => faded(alloc, 128, entries),
         Err(_) => panic!(rt; "no room for an entry"),
     }
 }
@@ -137,7 +141,11 @@ fn scene<A: Ledger>(rt: &impl Abort, alloc: Global, made: &mut Steps<A>) -> Kept
     let green = columns(rt, 4, 1, color(0, 255, 0, 128), made);
     put(rt, &mut entries, Entry::Leaf(green));
     let graph = OrderGraph::empty(alloc);
-    Kept { entries, graph }
+    Kept {
+        entries,
+        graph,
+        blocks: Vec::new(alloc),
+    }
 }
 
 const SIZE: Size = Size { w: 6, h: 4 };

@@ -234,7 +234,11 @@ fn kept<A: Ledger>(rt: &impl Abort, alloc: Global, list: NewList<A>) -> Kept<A> 
         }
     }
     let graph = OrderGraph::empty(alloc);
-    Kept { entries, graph }
+    Kept {
+        entries,
+        graph,
+        blocks: Vec::new(alloc),
+    }
 }
 
 /// The area that is to be painted anew.

@@ -1,4 +1,5 @@
-use Rattle.std.proofs.Common.{◌≡◌, ◌≤◌, ◌+◌, ◌*◌, ◌∷◌, [], drop, length, None}
+use Rattle.std.proofs.Common.{◌≡◌, ◌≤◌, ◌+◌, ◌*◌, ◌∷◌, [], take, drop, length, None}
+use Rattle.rd_list.specs.Blocks.{total}
 use Rattle.rd_list.specs.Displayed.{shown}
 use Rattle.rd_list.specs.Entries.{list_size}
 use Rattle.rd_list.specs.KeptView.{kept_entries}
@@ -14,8 +15,28 @@ invariant-topmost-loop-left g l = record {
 abbrev pub decreases-topmost-loop-left : goal.decreases-topmost-loop-left
 decreases-topmost-loop-left g l = l.left
 
+abbrev pub decreases-topmost_of : goal.decreases-topmost_of
+decreases-topmost_of g l = 5 * list_size l.list.now.entries + 4
+
+abbrev pub decreases-topmost_by : goal.decreases-topmost_by
+decreases-topmost_by g l = 5 * list_size (kept_entries l.entries.now) + 3
+
+abbrev pub decreases-topmost_in_block : goal.decreases-topmost_in_block
+decreases-topmost_in_block g l = 5 * list_size (kept_entries l.entries.now) + 2
+
 abbrev pub decreases-topmost : goal.decreases-topmost
-decreases-topmost g l = 2 * list_size (kept_entries l.entries.now) + 1
+decreases-topmost g l = 5 * list_size (kept_entries l.entries.now) + 1
 
 abbrev pub decreases-topmost_in : goal.decreases-topmost_in
-decreases-topmost_in g l = 2 * list_size (kept_entries (l.entry.now ∷ []))
+decreases-topmost_in g l = 5 * list_size (kept_entries (l.entry.now ∷ []))
+
+abbrev pub invariant-topmost_by-loop-number : goal.invariant-topmost_by-loop-number
+invariant-topmost_by-loop-number g l = record {
+  number : l.number ≤ length l.blocks;
+  end : l.end ≡ total (take l.number l.blocks);
+  within : l.end ≤ length l.entries;
+  none : hit (shown (drop l.end l.entries)) l.x l.y ≡ None;
+}
+
+abbrev pub decreases-topmost_by-loop-number : goal.decreases-topmost_by-loop-number
+decreases-topmost_by-loop-number g l = l.number

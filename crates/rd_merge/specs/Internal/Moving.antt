@@ -1,6 +1,10 @@
 -- Entries that are taken out of their places and put there.
-use Rattle.std.specs.Prelude.{◌≡◌, ℕ, List, Option, Some, None}
+use Rattle.std.specs.Prelude.{◌≡◌, ℕ, ◌-◌, ◌≤◌, ◌++◌, List, length, take, drop, slice_set, Option, Some, None}
 use Rattle.rd_item.specs.Items.{Made}
+use Rattle.rd_graph.specs.Internal.Taking.{KeepsOthers}
+use Rattle.rd_list.specs.Blocks.{Covers, CoversAll}
+use Rattle.rd_list.specs.declared.blocks.Block.{Block}
+use Rattle.rd_list.specs.declared.kept.Entry.{Entry}
 use Rattle.rd_list.specs.Wrappers.{Wrapper}
 use Rattle.rd_list.specs.Entries.{Entries, nil, leaf, group}
 use Rattle.rd_merge.specs.Plans.{Steps, later, left_for, with_entry}
@@ -20,3 +24,22 @@ abbrev pub left_after : Steps → Entries Wrapper Made → Entries Wrapper Made
 left_after nil fresh = fresh
 left_after (leaf place rest) fresh = later fresh
 left_after (group s inner rest) fresh = left_for s.is_new fresh
+
+-- a list as it was but for the element at a place, if one is given
+abbrev pub ChangesAt : {T : Type 0} → Option ℕ → List T → List T → Type 0
+ChangesAt None old new = new ≡ old
+ChangesAt (Some i) old new = KeepsOthers i old new
+
+-- a list with this element at a place, if one is given
+abbrev pub PutsAt : {T : Type 0} → Option ℕ → T → List T → List T → Type 0
+PutsAt None x old new = new ≡ old
+PutsAt (Some i) x old new = new ≡ slice_set old i x
+
+module _ {A : Type 0} where
+  -- blocks of entries, and then parts of those of the entries from one place up to another, as many as there is room for
+  abbrev pub PartsTo : List Block → List Block → List (Entry A) → ℕ → ℕ → Type 0
+  PartsTo old new es from end = (before made : List (Entry A)) → CoversAll old before → end ≤ length (es ++ made) → Covers new (before ++ take (end - from) (drop from (es ++ made)))
+
+  -- all of them
+  abbrev pub PartsAll : List Block → List Block → List (Entry A) → ℕ → ℕ → Type 0
+  PartsAll old new es from end = (before made : List (Entry A)) → CoversAll old before → end ≤ length (es ++ made) → CoversAll new (before ++ take (end - from) (drop from (es ++ made)))

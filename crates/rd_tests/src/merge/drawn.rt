@@ -233,6 +233,18 @@ fn agrees<A: Ledger>(
     has_all(&list, &model.matrix) && is_forward(&list, &model.matrix)
 }
 
+/// Is each entry in a block of which something is said?
+fn is_in_blocks<A: Ledger>(kept: &Kept<A>) -> bool {
+    let mut covered: usize = 0;
+    for block in &kept.blocks {
+        if block.is_open {
+            return false;
+        }
+        covered = covered.wrapping_add(block.count);
+    }
+    covered == kept.entries.len()
+}
+
 /// One drawn merge of a level, which can be made and agrees.
 fn next<A: Ledger>(
     rt: &impl Abort,
@@ -258,6 +270,7 @@ fn next<A: Ledger>(
     let kept = merged.expect(rt, "a merge that can be made");
     change(model, every, &touched.keys, &chain, at);
     assert!(rt; agrees(rt, alloc, every, &kept, model), "merge {at}");
+    assert!(rt; is_in_blocks(&kept), "blocks of merge {at}");
     (kept, next)
 }
 

@@ -1,8 +1,9 @@
-use Rattle.std.proofs.Common.{arith, ap, ◌∙◌, ◌≡◌, ◌+◌, ◌∷◌, []}
+use Rattle.std.proofs.Common.{arith, refl, ap, sym, subst, length, ◌∙◌, ◌≡◌, ◌+◌, ◌∷◌, ◌++◌, []}
 use Rattle.std.specs.Prelude.{option_map, vec_len}
 use Rattle.rd_graph.specs.Patches.{line_of}
 use Rattle.rd_graph.proofs.PutInPlace.{fits}
 use Rattle.rd_list.specs.Entries.{◌▷◌, list_size}
+use Rattle.rd_list.specs.Blocks.{Covers}
 use Rattle.rd_list.specs.KeptView.{kept_entries}
 use Rattle.rd_graph.specs.Runs.{places_of}
 use Rattle.rd_merge.specs.Internal.Untaken.{untaken}
@@ -35,13 +36,15 @@ finish-loop-step-init g t c =
       omega (arith, empty, count),
       omega (arith, room, counted),
       omega (arith, listed),
+      (omega arith, refl),
+      c.kept.invariant,
     )
 
 pub finish-loop-step-init-derived : goal.finish-loop-step-init-derived
 finish-loop-step-init-derived g t c = (tt, tt)
 
-pub finish-finish_step-requires : goal.finish-finish_step-requires
-finish-finish_step-requires g t c κs within =
+pub finish-finish_step-seek-requires : goal.finish-finish_step-seek-requires
+finish-finish_step-seek-requires g t c κs within =
     let s = c.in-Some.step in
     let more = c.next.new.self.rest.items in
     let next = c.in-Some.ensures.steps.0 in
@@ -56,7 +59,7 @@ finish-finish_step-requires g t c κs within =
         within,
         (
           now_fits (size_of c.args.kept.entries) s more (kept_entries c.loop-step.entries.items ▷ kept_entries c.loop-step.made.items) (untaken c.loop-step.fresh) c.loop-step.step-iterator.rest.items next (vec_len c.loop-step.entries) inv.4 inv.2,
-          omega (arith, count, counted, room),
+          (omega (arith, count, counted, room), (inv.8, inv.9)),
         ),
       ),
     )
@@ -70,23 +73,25 @@ finish-loop-step-preserved g t c =
     let inv = c.loop-step.invariant in
     let k = kept_entries c.loop-step.entries.items ▷ kept_entries c.loop-step.made.items in
     let n = untaken c.loop-step.fresh in
-    let k2 = kept_entries c.finish_step.new.entries.items ▷ kept_entries c.finish_step.new.made.items in
-    let n2 = untaken c.finish_step.new.fresh in
+    let k2 = kept_entries c.finish_step-seek.new.entries.items ▷ kept_entries c.finish_step-seek.new.made.items in
+    let n2 = untaken c.finish_step-seek.new.fresh in
     let size = ap (λ zs. list_size (steps_seen zs)) next ∙ first_size s more in
     let count = ap (λ zs. made_count (steps_seen zs)) next ∙ first_made s more in
     let listed = inv.7 in
     let counted = inv.5 in
     let room = inv.6 in
-    let made = c.finish_step.ensures.made in
-    let wider = c.finish_step.ensures.room in (
+    let made = c.finish_step-seek.ensures.made in
+    let wider = c.finish_step-seek.ensures.room in (
       inv.0,
       inv.1,
-      then_fits (size_of c.args.kept.entries) s more k n rest next k2 n2 c.finish_step.ensures.stepped c.finish_step.ensures.left inv.2,
-      then_stepped (size_of c.args.kept.entries) s more k n rest next k2 n2 c.finish_step.ensures.stepped c.finish_step.ensures.left ∙ inv.3,
-      c.finish_step.ensures.entries ∙ inv.4,
+      then_fits (size_of c.args.kept.entries) s more k n rest next k2 n2 c.finish_step-seek.ensures.stepped c.finish_step-seek.ensures.left inv.2,
+      then_stepped (size_of c.args.kept.entries) s more k n rest next k2 n2 c.finish_step-seek.ensures.stepped c.finish_step-seek.ensures.left ∙ inv.3,
+      c.finish_step-seek.ensures.entries ∙ inv.4,
       omega (arith, count, counted, made),
       omega (arith, room, wider),
       omega (arith, size, listed),
+      c.finish_step-seek.ensures.at,
+      c.finish_step-seek.ensures.covers,
     )
 
 pub finish-in_line-entries-requires-clause-line : goal.finish-in_line-entries-requires-clause-line
@@ -97,7 +102,7 @@ finish-in_line-entries-requires-clause-line g t c =
     let none = none_counted c.loop-step.step-iterator.rest.items (omega (arith, ok.0, over.0)) in
     let entries = inv.4 in
     let counted = inv.5 in
-    line_so (option_map (λ l. places_of l.now) c.line.result) (line_of c.args.plan.patch) (vec_len c.loop-step.entries + vec_len c.loop-step.made) (size_of c.args.kept.entries + made_count c.args.plan.steps) (c.line.ensures ∙ ap (λ p. line_of p.patch) c.plan.view_is) (omega (arith, none, entries, counted)) c.requires.line
+    line_so (option_map (λ l. places_of l.now) c.line-2.result) (line_of c.args.plan.patch) (vec_len c.loop-step.entries + vec_len c.loop-step.made) (size_of c.args.kept.entries + made_count c.args.plan.steps) (c.line-2.ensures ∙ ap (λ p. line_of p.patch) c.plan.view_is) (omega (arith, none, entries, counted)) c.requires.line
 
 pub finish-in_line-entries-requires-clause-still : goal.finish-in_line-entries-requires-clause-still
 finish-in_line-entries-requires-clause-still g t c =
@@ -106,10 +111,40 @@ finish-in_line-entries-requires-clause-still g t c =
     let over = c.in-None.ensures.steps in
     let none = none_counted c.loop-step.step-iterator.rest.items (omega (arith, ok.0, over.0)) in
     let counted = inv.5 in
-    none_made (option_map (λ l. places_of l.now) c.line.result) (line_of c.args.plan.patch) c.args.plan.steps (vec_len c.loop-step.made) (c.line.ensures ∙ ap (λ p. line_of p.patch) c.plan.view_is) (omega (arith, none, counted)) c.requires.still
+    none_made (option_map (λ l. places_of l.now) c.line-2.result) (line_of c.args.plan.patch) c.args.plan.steps (vec_len c.loop-step.made) (c.line-2.ensures ∙ ap (λ p. line_of p.patch) c.plan.view_is) (omega (arith, none, counted)) c.requires.still
 
 pub finish-in_line-entries-requires-clause-room : goal.finish-in_line-entries-requires-clause-room
-finish-in_line-entries-requires-clause-room g t c = room_so (option_map (λ l. places_of l.now) c.line.result) (line_of c.plan.inside.patch) c.plan.inside.room c.line.ensures c.plan.invariant.2
+finish-in_line-entries-requires-clause-room g t c = room_so (option_map (λ l. places_of l.now) c.line-2.result) (line_of c.plan.inside.patch) c.plan.inside.room c.line-2.ensures c.plan.invariant.2
+
+pub finish-in_line_blocks-had-requires-clause-none : goal.finish-in_line_blocks-had-requires-clause-none
+finish-in_line_blocks-had-requires-clause-none g t c = c.plan.invariant.3
+
+pub finish-in_line_blocks-had-requires-clause-had : goal.finish-in_line_blocks-had-requires-clause-had
+finish-in_line_blocks-had-requires-clause-had g t c = subst (Covers c.loop-step.had.items) (sym c.deref.ensures.value) c.loop-step.invariant.9
+
+pub finish-in_line_blocks-had-requires-clause-line : goal.finish-in_line_blocks-had-requires-clause-line
+finish-in_line_blocks-had-requires-clause-line g t c =
+    let inv = c.loop-step.invariant in
+    let ok = c.loop-step.step-iterator.rest.ok in
+    let over = c.in-None.ensures.steps in
+    let none = none_counted c.loop-step.step-iterator.rest.items (omega (arith, ok.0, over.0)) in
+    let entries = inv.4 in
+    let counted = inv.5 in
+    let many = c.deref.ensures.len in
+    let more = c.deref-2.ensures.len in
+    line_so (option_map (λ l. places_of l.now) c.line.result) (line_of c.args.plan.patch) (length c.deref.result.now + length c.deref-2.result.now) (size_of c.args.kept.entries + made_count c.args.plan.steps) (c.line.ensures ∙ ap (λ p. line_of p.patch) c.plan.view_is) (omega (arith, none, entries, counted, many, more)) c.requires.line
+
+pub finish-renew_blocks-requires-clause-none : goal.finish-renew_blocks-requires-clause-none
+finish-renew_blocks-requires-clause-none g t c = c.plan.invariant.4
+
+pub finish-renew_blocks-requires-clause-had : goal.finish-renew_blocks-requires-clause-had
+finish-renew_blocks-requires-clause-had g t c =
+    let same = c.line.ensures ∙ sym c.line-2.ensures in
+    let all = ap (λ es. es ++ c.deref-2.result.now) c.deref.ensures.value ∙ ap (λ es. c.loop-step.entries.items ++ es) c.deref-2.ensures.value in
+    rw (c.deref-4.ensures.value, c.deref-3.ensures.value, c.in_line-entries.ensures.items, ← same, ← all) c.in_line_blocks-had.ensures
+
+pub finish-invariant_of-result : goal.finish-invariant_of-result
+finish-invariant_of-result g t c = subst (Covers c.renew_blocks.new.blocks.items) c.deref-3.ensures.value c.renew_blocks.ensures
 
 pub finish-apply-requires : goal.finish-apply-requires
 finish-apply-requires g t c = fits c.plan.inside.patch c.args.plan.patch c.kept.inside.graph c.args.kept.graph (ap (λ p. p.patch) c.plan.view_is) (ap (λ k. k.graph) c.kept.view_is) c.requires.patch
@@ -149,6 +184,6 @@ finish_step-returns-in-Group-clause-stepped g t c =
     let size_later = kept-size c.finish_group-entry.new.entries.items in
     let len = c.finish_group-entry.ensures.len in
     let long : size_of k ≡ vec_len c.args.entries.now = omega (arith, size, ok.0) in
-    c.put-in-Group.ensures.put
+    c.put_in_block-in-Group.ensures.put
     ∙ group_stepped c.args.step i.old i.is_new i.plan i.is c.into_inner.result c.into_inner.ensures (vec_len c.args.entries.now) k m n long c.requires.fits (kept_entries c.finish_group-entry.new.entries.items) (kept_entries (c.finish_group-entry.result ∷ []))
     (omega (arith, size, size_later, ok.0, later.0, len)) c.finish_group-entry.ensures.others c.finish_group-entry.ensures.made

@@ -280,7 +280,7 @@ plan_level-invariant_of-result g t c =
     let ok = c.in_ok-names.names.ok in
     let len = c.len.ensures in
     let capacity = c.in_ok-made.ensures.capacity in
-    (c.in_ok-made.ensures.len, omega (arith, few, all, many, ok.0, len, capacity), c.in_ok-room.ensures)
+    (c.in_ok-made.ensures.len, omega (arith, few, all, many, ok.0, len, capacity), c.in_ok-room.ensures, c.in_ok-parts.ensures, c.in_ok-blocks.ensures)
 
 pub plan_level-returns : goal.plan_level-returns
 plan_level-returns g t c =

@@ -1,0 +1,243 @@
+-- An entry comes to a place of a level with blocks.
+use Rattle.std.proofs.Common.{◌≡◌, refl, ap, ◌∙◌, sym, subst, ℕ, zero, suc, ◌+◌, ◌-◌, ◌<◌, ◌≤◌, Bool, true, false, List, [], ◌∷◌, length, take, drop, get_or, set, int_eq, ◌&&◌, Option, Some, None, inl, inr, ◌⊎◌, arith}
+use Rattle.std.specs.Prelude.{IfSome, IsTrue, MatchOption, ◌≢◌}
+use Rattle.std.proofs.lemmas.Bool.{cases_lt}
+use Rattle.std.proofs.lemmas.Int.{ints}
+use Rattle.std.proofs.lemmas.List.{length-take-le, length-drop, get_or-take, get_or-drop}
+use Rattle.rd_geom.specs.Plane.{Rectangle, IsWithin}
+use Rattle.rd_list.specs.Blocks.{IsHeld, AreHeld, Tells, Covers, total, leaf_count, ChangesTo, IsAt, IsFound, IsLeaf, IsLeafAt}
+use Rattle.rd_list.proofs.Covering.{leaf_held, count_append}
+use Rattle.rd_list.specs.declared.blocks.Block.{Block}
+use Rattle.rd_list.specs.declared.kept.Entry.{Entry}
+use Rattle.rd_list.specs.declared.kept.Entry.TheVariants.{Leaf, Group}
+
+clash : (b : Bool) → b ≡ false → IsTrue b → ⊥
+clash b f t = cc
+
+-- rectangles that the program finds the same are the same
+pub same_rect : (a b : Rectangle) → (int_eq a.x b.x && (int_eq a.y b.y && (int_eq a.w b.w && int_eq a.h b.h))) ≡ true → a ≡ b
+same_rect a b e =
+    let left : a.x ≡ b.x = grind (arith, ints) in
+    let top : a.y ≡ b.y = grind (arith, ints) in
+    let wide : a.w ≡ b.w = grind (arith, ints) in
+    let high : a.h ≡ b.h = grind (arith, ints) in
+    λ i. record { x = left i; y = top i; w = wide i; h = high i }
+
+-- what stands at a place of a list, whatever is read where there is none
+pub read_any : {X : Type 0} (xs : List X) (i : ℕ) (x y : X) → i < length xs → x ≡ get_or xs i x → y ≡ get_or xs i y → x ≡ y
+read_any [] i x y h e f = absurd (omega (arith, h))
+read_any (z ∷ zs) zero x y h e f = e ∙ sym f
+read_any (z ∷ zs) (suc i) x y h e f = read_any zs i x y (omega (arith, h)) e f
+
+module _ {A : Type 0} where
+  -- ---- entry by entry
+
+  pub held_at : (r : Rectangle) (es : List (Entry A)) → AreHeld r es → (k : ℕ) (x : Entry A) → k < length es → x ≡ get_or es k x → IsHeld r x
+  held_at r [] h k x l e = absurd (omega (arith, l))
+  held_at r (y ∷ es) h zero x l e = subst (IsHeld r) (sym e) h.0
+  held_at r (y ∷ es) h (suc k) x l e = held_at r es h.1 k x (omega (arith, l)) e
+
+  pub held_by : (r : Rectangle) (es : List (Entry A)) → ((k : ℕ) (x : Entry A) → k < length es → x ≡ get_or es k x → IsHeld r x) → AreHeld r es
+  held_by r [] f = tt
+  held_by r (y ∷ es) f = (f 0 y (omega arith) refl, held_by r es (λ k x l e. f (suc k) x (omega (arith, l)) e))
+
+  same_lists : (xs ys : List (Entry A)) → length xs ≡ length ys → ((k : ℕ) (d : Entry A) → k < length xs → get_or xs k d ≡ get_or ys k d) → xs ≡ ys
+  same_lists [] [] e f = refl
+  same_lists [] (y ∷ ys) e f = absurd (omega (arith, e))
+  same_lists (x ∷ xs) [] e f = absurd (omega (arith, e))
+  same_lists (x ∷ xs) (y ∷ ys) e f =
+      let first : x ≡ y = f 0 x (omega arith) in
+      rw first (ap (λ zs. y ∷ zs) (same_lists xs ys (omega (arith, e)) (λ k d l. f (suc k) d (omega (arith, l)))))
+
+  -- the first entries of two levels
+  same_front : (n : ℕ) (xs ys : List (Entry A)) → n ≤ length xs → length xs ≡ length ys → ((k : ℕ) (d : Entry A) → k < n → get_or xs k d ≡ get_or ys k d) → take n xs ≡ take n ys
+  same_front n xs ys l e f =
+      let a = length-take-le n xs l in
+      let b = length-take-le n ys (omega (arith, l, e)) in
+      same_lists (take n xs) (take n ys) (a ∙ sym b) (λ k d m. (let j : k < n = omega (arith, m, a) in get_or-take n xs k d j ∙ f k d j ∙ sym (get_or-take n ys k d j)))
+
+  drop_twice : (xs : List (Entry A)) (j n : ℕ) → drop n (drop j xs) ≡ drop (j + n) xs
+  drop_twice xs zero n = ap (λ m. drop m xs) (let e : n ≡ 0 + n = omega arith in e)
+  drop_twice [] (suc j) n = drop_nil n ∙ sym (drop_nil (suc j + n))
+    where
+      drop_nil : (m : ℕ) → drop {A = Entry A} m [] ≡ []
+      drop_nil zero = refl
+      drop_nil (suc m) = refl
+  drop_twice (x ∷ xs) (suc j) n = drop_twice xs j n ∙ ap (λ m. drop m (x ∷ xs)) (let s : suc (j + n) ≡ suc j + n = omega arith in s)
+
+  -- the entries from a place on
+  same_back : (n : ℕ) (xs ys : List (Entry A)) → length xs ≡ length ys → ((k : ℕ) (d : Entry A) → n ≤ k → get_or xs k d ≡ get_or ys k d) → drop n xs ≡ drop n ys
+  same_back n xs ys e f =
+      let a = length-drop n xs in
+      let b = length-drop n ys in
+      same_lists (drop n xs) (drop n ys) (omega (arith, a, b, e)) (λ k d m. get_or-drop n xs k d ∙ f (n + k) d (omega arith) ∙ sym (get_or-drop n ys k d))
+
+  -- blocks say nothing of the entries past them
+  pub covers_same : (bs : List Block) (xs ys : List (Entry A)) → Covers bs xs → length xs ≡ length ys → ((k : ℕ) (d : Entry A) → k < total bs → get_or xs k d ≡ get_or ys k d) → Covers bs ys
+  covers_same [] xs ys c e f = tt
+  covers_same (b ∷ bs) xs ys c e f =
+      let l = c.0 in
+      let front = same_front b.count xs ys l e (λ k d m. f k d (omega (arith, m))) in
+      let n = length-drop b.count xs in
+      let m = length-drop b.count ys in (
+        omega (arith, l, e),
+        (λ g. subst (Tells b) front (c.1 g)),
+        covers_same bs (drop b.count xs) (drop b.count ys) c.2 (omega (arith, n, m, e))
+            (λ k d j. get_or-drop b.count xs k d ∙ f (b.count + k) d (omega (arith, j)) ∙ sym (get_or-drop b.count ys k d)),
+      )
+
+  -- ---- an entry comes to a place
+
+  held_put : (r : Rectangle) (n place : ℕ) (xs ys : List (Entry A)) → n ≤ length xs → length xs ≡ length ys → ((k : ℕ) (d : Entry A) → k ≢ place → get_or ys k d ≡ get_or xs k d)
+      → ((x : Entry A) → place < length ys → x ≡ get_or ys place x → IsHeld r x) → AreHeld r (take n xs) → AreHeld r (take n ys)
+  held_put r n place xs ys l e f g h =
+      let a = length-take-le n xs l in
+      let b = length-take-le n ys (omega (arith, l, e)) in
+      held_by r (take n ys) (λ k x m is.
+      let j : k < n = omega (arith, m, b) in
+      let at : x ≡ get_or ys k x = is ∙ get_or-take n ys k x j in
+      elim (sides k) [
+        | inl same ↦ g x (omega (arith, same, j, l, e)) (at ∙ ap (λ p. get_or ys p x) same)
+        | inr other ↦ held_at r (take n xs) h k x (omega (arith, j, a)) (at ∙ f k x other ∙ sym (get_or-take n xs k x j))
+      ])
+    where
+      sides : (k : ℕ) → (k ≡ place) ⊎ (k ≢ place)
+      sides k = elim (cases_lt k place) [
+        | inl l ↦ inr (λ e. omega (arith, l, e))
+        | inr m ↦ elim (cases_lt place k) [ inl l ↦ inr (λ e. omega (arith, l, e)) | inr l ↦ inl (omega (arith, l, m)) ]
+      ]
+
+  leaf_one : (x : Entry A) → IsLeaf x → leaf_count (x ∷ []) ≡ 1
+  leaf_one (Leaf i) l = refl
+  leaf_one (Group g) l = absurd l
+
+  is_leaf : (x : Entry A) (r : Rectangle) → IsLeafAt x r → IsLeaf x
+  is_leaf (Leaf i) r l = tt
+  is_leaf (Group g) r l = l
+
+  count_cons : (x : Entry A) (xs : List (Entry A)) → leaf_count (x ∷ xs) ≡ leaf_count (x ∷ []) + leaf_count xs
+  count_cons x xs = count_append (x ∷ []) xs
+
+  -- one leaf for another does not change how many there are
+  count_put : (n place : ℕ) (xs ys : List (Entry A)) → place < n → n ≤ length xs → length xs ≡ length ys → ((k : ℕ) (d : Entry A) → k ≢ place → get_or ys k d ≡ get_or xs k d)
+      → ((x : Entry A) → x ≡ get_or xs place x → IsLeaf x) → ((y : Entry A) → y ≡ get_or ys place y → IsLeaf y) → leaf_count (take n ys) ≡ leaf_count (take n xs)
+  count_put zero place xs ys p l e f g h = absurd (omega (arith, p))
+  count_put (suc n) place [] ys p l e f g h = absurd (omega (arith, l))
+  count_put (suc n) place (x ∷ xs) [] p l e f g h = absurd (omega (arith, e))
+  count_put (suc n) zero (x ∷ xs) (y ∷ ys) p l e f g h =
+      let front : take n ys ≡ take n xs = same_front n ys xs (omega (arith, l, e)) (omega (arith, e)) (λ k d m. f (suc k) d (λ q. omega (arith, q))) in
+      count_cons y (take n ys) ∙ ap (λ m. m + leaf_count (take n ys)) (leaf_one y (h y refl) ∙ sym (leaf_one x (g x refl))) ∙ ap (λ zs. leaf_count (x ∷ []) + leaf_count zs) front ∙ sym (count_cons x (take n xs))
+  count_put (suc n) (suc place) (x ∷ xs) (y ∷ ys) p l e f g h =
+      let first : y ≡ x = f 0 y (λ q. omega (arith, q)) in
+      let rest = count_put n place xs ys (omega (arith, p)) (omega (arith, l)) (omega (arith, e)) (λ k d m. f (suc k) d (λ q. m (omega (arith, q)))) g h in
+      count_cons y (take n ys) ∙ ap (λ z. leaf_count (z ∷ []) + leaf_count (take n ys)) first ∙ ap (λ m. leaf_count (x ∷ []) + m) rest ∙ sym (count_cons x (take n xs))
+
+  -- what a block must be that stands in place of another
+  pub record Serves (b new : Block) (x y : Entry A) : Type 0 where
+    pub count : new.count ≡ b.count
+    pub closed : new.is_open ≡ false → (b ≡ new) × IsHeld new.hull x × IsLeaf x × IsLeaf y
+
+  read_some : (zs : List (Entry A)) (i : ℕ) → i < length zs → (x : Entry A) × (x ≡ get_or zs i x)
+  read_some [] i q = absurd (omega (arith, q))
+  read_some (u ∷ us) zero q = (u, refl)
+  read_some (u ∷ us) (suc i) q = read_some us i (omega (arith, q))
+
+  pub covers_put : (bs : List Block) (xs ys : List (Entry A)) (at start place : ℕ) (new : Block) → Covers bs xs → start ≡ total (take at bs) → start ≤ place → at < length bs
+      → ((b : Block) → b ≡ get_or bs at b → (place < start + b.count) × ((x y : Entry A) → place < length ys → x ≡ get_or ys place x → y ≡ get_or xs place y → Serves b new x y) × (new.count ≡ b.count))
+      → length xs ≡ length ys → ((k : ℕ) (d : Entry A) → k ≢ place → get_or ys k d ≡ get_or xs k d) → Covers (set bs at new) ys
+  covers_put [] xs ys at start place new c s l h w e f = absurd (omega (arith, h))
+  covers_put (b ∷ bs) xs ys zero start place new c s l h w e f =
+      let v = w b refl in
+      let p = v.0 in
+      let n = v.2 in
+      let m = c.0 in
+      let start_is : start ≡ 0 = s in
+      let inside : place < b.count = omega (arith, p, start_is) in
+      let there : place < length ys = omega (arith, inside, m, e) in (
+        omega (arith, n, m, e),
+        (λ o. subst (λ j. Tells new (take j ys)) (sym n) (told v.1 inside there m o)),
+        subst (λ zs. Covers bs zs) (same_back b.count xs ys e (λ k d j. sym (f k d (λ q. omega (arith, q, j, inside)))) ∙ ap (λ j. drop j ys) (sym n)) c.2,
+      )
+    where
+      told : ((x y : Entry A) → place < length ys → x ≡ get_or ys place x → y ≡ get_or xs place y → Serves b new x y) → place < b.count → place < length ys → b.count ≤ length xs → new.is_open ≡ false → Tells new (take b.count ys)
+      told serves inside there m o =
+          let some = read_some ys place there in
+          let old = read_some xs place (omega (arith, there, e)) in
+          let all = (serves some.0 old.0 there some.1 old.1).closed o in
+          let was : Tells new (take b.count xs) = subst (λ z. Tells z (take b.count xs)) all.0 (c.1 (ap (λ z. z.is_open) all.0 ∙ o)) in (
+            held_put new.hull b.count place xs ys m e f (λ x q is. ((serves x old.0 q is old.1).closed o).1) was.0,
+            count_put b.count place xs ys inside m e f (λ y is. ((serves some.0 y there some.1 is).closed o).3) (λ x is. ((serves x old.0 there is old.1).closed o).2) ∙ was.1,
+          )
+  covers_put (b ∷ bs) xs ys (suc at) start place new c s l h w e f =
+      let m = c.0 in
+      let n = length-drop b.count xs in
+      let o = length-drop b.count ys in
+      let s_is : start ≡ b.count + total (take at bs) = s in
+      let back : b.count + (place - b.count) ≡ place = omega (arith, s_is, l) in (
+        omega (arith, m, e),
+        (λ g. subst (Tells b) (same_front b.count xs ys m e (λ k d j. sym (f k d (λ q. omega (arith, q, j, s_is, l))))) (c.1 g)),
+        covers_put bs (drop b.count xs) (drop b.count ys) at (start - b.count) (place - b.count) new c.2 (omega (arith, s_is)) (omega (arith, l)) (omega (arith, h))
+            (λ x is. let v = w x is in let p = v.0 in (
+              omega (arith, p, s_is, l),
+              (λ y z q is_y is_z.
+                  v.1 y z (omega (arith, q, o)) (is_y ∙ get_or-drop b.count ys (place - b.count) y ∙ ap (λ k. get_or ys k y) back)
+                  (is_z ∙ get_or-drop b.count xs (place - b.count) z ∙ ap (λ k. get_or xs k z) back)),
+              v.2,
+            ))
+            (omega (arith, n, o, e))
+            (λ k d q. get_or-drop b.count ys k d ∙ f (b.count + k) d (λ r. q (omega (arith, r))) ∙ sym (get_or-drop b.count xs k d)),
+      )
+
+  -- an open block serves for any entry
+  pub opened_serves : (b new : Block) (x y : Entry A) → new.count ≡ b.count → IsTrue new.is_open → Serves b new x y
+  opened_serves b new x y e t = record { count = e; closed = λ f. absurd (clash new.is_open f t) }
+
+  -- one with the leaf in its hull stays, where another leaf was
+  pub same_serves : (b : Block) (rect : Option Rectangle) (x y : Entry A) → MatchOption rect ⊥ (λ r. IsWithin r b.hull) → IfSome rect (λ r. IsLeafAt x r × IsLeaf y) → Serves b b x y
+  same_serves b None x y a h = absurd a
+  same_serves b (Some r) x y a h = record { count = refl; closed = λ f. (refl, leaf_held r b.hull x h.0 a, is_leaf x r h.0, h.1) }
+
+  -- an entry comes to a place of a block, which is another one then, or the same
+  pub put_found : (bs : List Block) (at start place : ℕ) (rect : Option Rectangle) (new : Block) → at < length bs → IsAt bs at start → IsFound bs at start place
+      → ((b : Block) → b ≡ get_or bs at b → (x y : Entry A) → IfSome rect (λ r. IsLeafAt x r × IsLeaf y) → Serves b new x y) → ((b : Block) → b ≡ get_or bs at b → new.count ≡ b.count)
+      → (xs ys : List (Entry A)) → Covers bs xs → ChangesTo place rect xs ys → Covers (set bs at new) ys
+  put_found bs at start place rect new h a found serves count xs ys c to =
+      covers_put bs xs ys at start place new c a.1 found.0 h
+      (λ b is. (found.1 b h is, (λ x y l e d. serves b is x y (to.there x y l e d)), count b is))
+      (sym to.size) to.others
+
+  -- no block has the place
+  pub put_past : (bs : List Block) (at start place : ℕ) (rect : Option Rectangle) → length bs ≤ at → IsAt bs at start → IsFound bs at start place → (xs ys : List (Entry A)) → Covers bs xs → ChangesTo place rect xs ys → Covers bs ys
+  put_past bs at start place rect h a found xs ys c to =
+      let s = a.1 in
+      let l = found.0 in
+      let whole : total (take at bs) ≡ total bs = ap total (take_whole bs at h) in
+      covers_same bs xs ys c (sym to.size) (λ k d j. sym (to.others k d (λ q. omega (arith, q, j, s, l, whole))))
+    where
+      take_whole : (cs : List Block) (n : ℕ) → length cs ≤ n → take n cs ≡ cs
+      take_whole [] zero m = refl
+      take_whole [] (suc n) m = refl
+      take_whole (x ∷ cs) zero m = absurd (omega (arith, m))
+      take_whole (x ∷ cs) (suc n) m = ap (λ ds. x ∷ ds) (take_whole cs n (omega (arith, m)))
+
+  -- ---- what blocks say of some entries
+
+  -- a block that is found, and what it says
+  pub found_told : (bs : List Block) (xs : List (Entry A)) (at start : ℕ) (b : Block) → Covers bs xs → IsAt bs at start → at < length bs → b ≡ get_or bs at b
+      → (start + b.count ≤ length xs) × (b.is_open ≡ false → Tells b (take b.count (drop start xs)))
+  found_told [] xs at start b c s h is = absurd (omega (arith, h))
+  found_told (x ∷ bs) xs zero start b c s h is =
+      let e : start ≡ 0 = s.1 in
+      let m = c.0 in
+      let same : x ≡ b = sym is in
+      let n : b.count ≡ x.count = ap (λ (y : Block). y.count) is in
+      (omega (arith, e, m, n), (λ f. rw e (subst (λ (y : Block). y.is_open ≡ false → Tells y (take y.count xs)) same c.1 f)))
+  found_told (x ∷ bs) xs (suc at) start b c s h is =
+      let e : start ≡ x.count + total (take at bs) = s.1 in
+      let l = s.0 in
+      let m = c.0 in
+      let n = length-drop x.count xs in
+      let r = found_told bs (drop x.count xs) at (start - x.count) b c.2 (omega (arith, l), omega (arith, e)) (omega (arith, h)) is in
+      let k = r.0 in
+      let there : drop (start - x.count) (drop x.count xs) ≡ drop start xs = drop_twice xs x.count (start - x.count) ∙ ap (λ j. drop j xs) (let z : x.count + (start - x.count) ≡ start = omega (arith, e) in z) in
+      (omega (arith, k, n, e, m), (λ f. subst (λ ys. Tells b (take b.count ys)) there (r.1 f)))

@@ -1,0 +1,218 @@
+-- Blocks, one after another.
+use Rattle.std.proofs.Common.{◌≡◌, refl, ap, ◌∙◌, sym, subst, ℕ, zero, suc, ◌+◌, ◌-◌, ◌<◌, ◌≤◌, false, List, [], ◌∷◌, ◌++◌, length, take, drop, get_or, Option, None, Some, arith}
+use Rattle.std.specs.Prelude.{IfSome}
+use Rattle.std.proofs.lemmas.List.{length-append, length-take-le, length-drop, take-append-le, drop-append-le, take-append-drop, take_more}
+use Rattle.rd_geom.specs.Plane.{Rectangle, IsWithin}
+use Rattle.rd_item.specs.Items.{Made}
+use Rattle.rd_list.specs.Blocks.{IsHeld, AreHeld, AreWithin, IsListTold, IsTold, Tells, Covers, CoversAll, total, leaf_count, IsAt, IsLeafAt}
+use Rattle.rd_keys.specs.declared.entry.EntryKey.{EntryKey}
+use Rattle.rd_list.specs.Entries.{Entries, flat}
+use Rattle.rd_list.specs.Kept.{Ordered}
+use Rattle.rd_list.specs.Wrappers.{Wrapper}
+use Rattle.rd_list.specs.KeptView.{kept_entries}
+use Rattle.rd_list.specs.declared.kept.Group.{Group as GroupOf}
+use Rattle.rd_list.proofs.Levelling.{flat-join}
+use Rattle.rd_list.proofs.News.{kept-append}
+use Rattle.rd_list.specs.declared.blocks.Block.{Block}
+use Rattle.rd_list.specs.declared.blocks.Told.{Told}
+use Rattle.rd_list.specs.declared.kept.Entry.{Entry}
+use Rattle.rd_list.specs.declared.kept.Entry.TheVariants.{Leaf, Group}
+
+pub total_append : (bs cs : List Block) → total (bs ++ cs) ≡ total bs + total cs
+total_append [] cs = omega arith
+total_append (b ∷ bs) cs = let e = total_append bs cs in omega (arith, e)
+
+pub total_next : (bs : List Block) (i : ℕ) (b : Block) → i < length bs → b ≡ get_or bs i b → total (take (i + 1) bs) ≡ total (take i bs) + b.count
+total_next bs i b h is = ap total (take_more bs i b h ∙ ap (λ c. take i bs ++ c ∷ []) (sym is)) ∙ total_append (take i bs) (b ∷ []) ∙ (let e : total (take i bs) + (b.count + 0) ≡ total (take i bs) + b.count = omega arith in e)
+
+-- on to the next block
+pub at_next : (bs : List Block) (i start place n : ℕ) (b : Block) → i < length bs → b ≡ get_or bs i b → n ≡ b.count → IsAt bs i start → start ≤ place → n ≤ place - start → IsAt bs (i + 1) (start + n) × (start + n ≤ place)
+at_next bs i start place n b h is e at l c =
+    let s = at.1 in
+    let t = total_next bs i b h is in
+    ((omega (arith, h), omega (arith, s, t, e)), omega (arith, l, c))
+
+-- in a wider rectangle
+within_wider : (r s : Rectangle) (ms : List Made) → IsWithin r s → AreWithin r ms → AreWithin s ms
+within_wider r s [] w h = tt
+within_wider r s (m ∷ ms) w h = ((λ x y t. w x y (h.0 x y t)), within_wider r s ms w h.1)
+
+within_both : (r : Rectangle) (ms ns : List Made) → AreWithin r ms → AreWithin r ns → AreWithin r (ms ++ ns)
+within_both r [] ns h k = k
+within_both r (m ∷ ms) ns h k = (h.0, within_both r ms ns h.1 k)
+
+module _ {A : Type 0} where
+  -- ---- what is told of entries
+
+  held_wider : (r s : Rectangle) (e : Entry A) → IsWithin r s → IsHeld r e → IsHeld s e
+  held_wider r s (Leaf i) w h = λ x y t. w x y (h x y t)
+  held_wider r s (Group g) w h = within_wider r s (flat g.inner.entries) w h
+
+  all_wider : (r s : Rectangle) (es : List (Entry A)) → IsWithin r s → AreHeld r es → AreHeld s es
+  all_wider r s [] w h = tt
+  all_wider r s (e ∷ es) w h = (held_wider r s e w h.0, all_wider r s es w h.1)
+
+  all_held : (r : Rectangle) (xs ys : List (Entry A)) → AreHeld r xs → AreHeld r ys → AreHeld r (xs ++ ys)
+  all_held r [] ys h k = k
+  all_held r (x ∷ xs) ys h k = (h.0, all_held r xs ys h.1 k)
+
+  -- all leaves of entries that are held
+  pub held_leaves : (r : Rectangle) (es : List (Entry A)) → AreHeld r es → AreWithin r (flat (kept_entries es))
+  held_leaves r [] h = tt
+  held_leaves r (Leaf i ∷ es) h = (h.0, held_leaves r es h.1)
+  held_leaves r (Group g ∷ es) h = within_both r (flat g.inner.entries) (flat (kept_entries es)) h.0 (held_leaves r es h.1)
+
+  pub count_append : (xs ys : List (Entry A)) → leaf_count (xs ++ ys) ≡ leaf_count xs + leaf_count ys
+  count_append xs ys = ap (λ zs. length (flat zs)) (kept-append xs ys) ∙ ap length (flat-join (kept_entries xs) (kept_entries ys)) ∙ length-append (flat (kept_entries xs)) (flat (kept_entries ys))
+
+  -- what is told of some entries and of those after them
+  pub told_both : (r s t : Rectangle) (m n k : ℕ) (xs ys : List (Entry A)) → IsTold r m xs → IsTold s n ys → IsWithin r t → IsWithin s t → k ≡ m + n → IsTold t k (xs ++ ys)
+  told_both r s t m n k xs ys a b v w e =
+      let c = count_append xs ys in
+      let f = a.1 in
+      let g = b.1 in
+      (all_held t xs ys (all_wider r t xs v a.0) (all_wider s t ys w b.0), omega (arith, c, e, f, g))
+
+  -- an entry more
+  pub told_next : (r s t : Rectangle) (m n k : ℕ) (es : List (Entry A)) (i : ℕ) (x : Entry A) → i < length es → x ≡ get_or es i x → IsTold r m (take i es) → IsTold s n (x ∷ []) → IsWithin r t → IsWithin s t → k ≡ m + n → IsTold t k (take (i + 1) es)
+  told_next r s t m n k es i x h is a b v w e =
+      subst (IsTold t k) (sym (take_more es i x h ∙ ap (λ (y : Entry A). take i es ++ y ∷ []) (sym is))) (told_both r s t m n k (take i es) (x ∷ []) a b v w e)
+
+  -- what is told of some entries and of one more, if it can be told
+  pub told_if : (o : Option Told) (r s : Rectangle) (m n : ℕ) (es : List (Entry A)) (x : Entry A) → IfSome o (λ t. IsWithin r t.hull) → IfSome o (λ t. IsWithin s t.hull) → IfSome o (λ t. t.leaves ≡ m + n)
+      → IsTold r m es → IsTold s n (x ∷ []) → IfSome o (λ t. IsTold t.hull t.leaves (es ++ x ∷ []))
+  told_if None r s m n es x v w e a b = tt
+  told_if (Some t) r s m n es x v w e a b = told_both r s t.hull m n t.leaves es (x ∷ []) a b v w e
+
+  pub leaf_held : (r s : Rectangle) (e : Entry A) → IsLeafAt e r → IsWithin r s → IsHeld s e
+  leaf_held r s (Leaf i) e w = subst (λ (q : Rectangle). IsWithin q s) (sym e) w
+  leaf_held r s (Group g) e w = absurd e
+
+  -- a list, by what is told of its entries
+  pub told_list : (r : Rectangle) (n : ℕ) (es : List (Entry A)) (list : Entries (Ordered EntryKey Wrapper) Made) → kept_entries es ≡ list → IsTold r n es → IsListTold r n list
+  told_list r n es list e t = subst (IsListTold r n) e (held_leaves r es t.0, t.1)
+
+  -- a group, by what is told of its list
+  pub told_group : (r : Rectangle) (n : ℕ) (g : GroupOf A) (x : Entry A) → x ≡ Group g → IsListTold r n g.inner.entries → IsTold r n (x ∷ [])
+  told_group r n g x is t =
+      let count = t.1 in
+      let end = length-append (flat g.inner.entries) [] in
+      rw is ((t.0, tt), omega (arith, count, end))
+
+  -- ---- blocks one after another
+
+  pub covers_more : (bs : List Block) (xs ys : List (Entry A)) → Covers bs xs → Covers bs (xs ++ ys)
+  covers_more [] xs ys c = tt
+  covers_more (b ∷ bs) xs ys c =
+      let l = c.0 in
+      let n = length-append xs ys in
+      let u : b.count ≤ length (xs ++ ys) = omega (arith, l, n) in (
+        u,
+        (λ f. subst (Tells b) (sym (take-append-le b.count xs ys l)) (c.1 f)),
+        subst (Covers bs) (sym (drop-append-le b.count xs ys l)) (covers_more bs (drop b.count xs) ys c.2),
+      )
+
+  pub covers_append : (bs cs : List Block) (xs ys : List (Entry A)) → CoversAll bs xs → Covers cs ys → Covers (bs ++ cs) (xs ++ ys)
+  covers_append [] cs [] ys c d = d
+  covers_append [] cs (x ∷ xs) ys c d = absurd (let e = c.1 in omega (arith, e))
+  covers_append (b ∷ bs) cs xs ys c d =
+      let l = c.0.0 in
+      let n = length-append xs ys in
+      let u : b.count ≤ length (xs ++ ys) = omega (arith, l, n) in
+      let e = c.1 in
+      let m = length-drop b.count xs in
+      let t : total bs ≡ length (drop b.count xs) = omega (arith, e, m, l) in (
+        u,
+        (λ f. subst (Tells b) (sym (take-append-le b.count xs ys l)) (c.0.1 f)),
+        subst (Covers (bs ++ cs)) (sym (drop-append-le b.count xs ys l)) (covers_append bs cs (drop b.count xs) ys (c.0.2, t) d),
+      )
+
+  pub all_append : (bs cs : List Block) (xs ys : List (Entry A)) → CoversAll bs xs → CoversAll cs ys → CoversAll (bs ++ cs) (xs ++ ys)
+  all_append bs cs xs ys c d =
+      let e = c.1 in
+      let f = d.1 in
+      let m = total_append bs cs in
+      let n = length-append xs ys in
+      (covers_append bs cs xs ys c d.0, omega (arith, e, f, m, n))
+
+  -- one block of so many entries
+  pub one_covers : (b : Block) (es : List (Entry A)) → length es ≡ b.count → (b.is_open ≡ false → Tells b es) → CoversAll (b ∷ []) es
+  one_covers b es e h =
+      let l : b.count ≤ length es = omega (arith, e) in
+      let same : take b.count es ≡ es = subst (λ n. take n es ≡ es) e (take_whole es) in
+      ((l, (λ f. subst (Tells b) (sym same) (h f)), tt), omega (arith, e))
+    where
+      take_whole : (xs : List (Entry A)) → take (length xs) xs ≡ xs
+      take_whole [] = refl
+      take_whole (x ∷ xs) = ap (λ ys. x ∷ ys) (take_whole xs)
+
+  take_nil : (m : ℕ) → take {A = Entry A} m [] ≡ []
+  take_nil zero = refl
+  take_nil (suc m) = refl
+
+  pub take_on : (es : List (Entry A)) (p n : ℕ) → take (p + n) es ≡ take p es ++ take n (drop p es)
+  take_on es zero n = ap (λ m. take m es) (let e : 0 + n ≡ n = omega arith in e)
+  take_on [] (suc p) n = take_nil (suc p + n) ∙ sym (take_nil n)
+  take_on (e ∷ es) (suc p) n = ap (λ m. take m (e ∷ es)) (let s : suc p + n ≡ suc (p + n) = omega arith in s) ∙ ap (λ ys. e ∷ ys) (take_on es p n)
+
+  -- blocks of the entries before a place are some of all of them
+  pub covers_all : (bs : List Block) (p : ℕ) (es : List (Entry A)) → Covers bs (take p es) → Covers bs es
+  covers_all bs p es c = subst (Covers bs) (take-append-drop p es) (covers_more bs (take p es) (drop p es) c)
+
+  -- the next block, on top of those of the entries before it
+  pub next_covers : (bs : List Block) (b : Block) (es : List (Entry A)) (p : ℕ) → CoversAll bs (take p es) → b.count ≤ length es - p → (b.is_open ≡ false → Tells b (take b.count (drop p es))) → CoversAll (bs ++ b ∷ []) (take (p + b.count) es)
+  next_covers bs b es p c l h =
+      let n = length-drop p es in
+      let m : length (take b.count (drop p es)) ≡ b.count = length-take-le b.count (drop p es) (omega (arith, l, n)) in
+      subst (CoversAll (bs ++ b ∷ [])) (sym (take_on es p b.count)) (all_append bs (b ∷ []) (take p es) (take b.count (drop p es)) c (one_covers b (take b.count (drop p es)) m h))
+
+  -- ---- the loops
+
+  slice_length : (es : List (Entry A)) (p to : ℕ) → p ≤ to → to ≤ length es → length (take (to - p) (drop p es)) ≡ to - p
+  slice_length es p to l m = let n = length-drop p es in length-take-le (to - p) (drop p es) (omega (arith, n, l, m))
+
+  pub slice_within : (es : List (Entry A)) (p to n : ℕ) → p ≤ to → to ≤ length es → n ≤ length (take (to - p) (drop p es)) → p + n ≤ to
+  slice_within es p to n l m h = let e = slice_length es p to l m in omega (arith, e, h, l)
+
+  pub cover_next : (old new : List Block) (b : Block) (es : List (Entry A)) (p to : ℕ) → p ≤ to → to ≤ length es → CoversAll old (take p es) → b.count ≤ length (take (to - p) (drop p es))
+      → (b.is_open ≡ false → Tells b (take b.count (take (to - p) (drop p es)))) → new ≡ old ++ b ∷ [] → CoversAll new (take (p + b.count) es)
+  cover_next old new b es p to l m c w h is =
+      let e = slice_length es p to l m in
+      let n : b.count ≤ to - p = omega (arith, e, w) in
+      let same : take b.count (take (to - p) (drop p es)) ≡ take b.count (drop p es) = inner (drop p es) b.count (to - p) n in
+      subst (λ bs. CoversAll bs (take (p + b.count) es)) (sym is) (next_covers old b es p c (omega (arith, n, m)) (λ f. subst (Tells b) same (h f)))
+    where
+      inner : (xs : List (Entry A)) (i j : ℕ) → i ≤ j → take i (take j xs) ≡ take i xs
+      inner xs zero j h = refl
+      inner xs (suc i) zero h = absurd (omega (arith, h))
+      inner [] (suc i) (suc j) h = refl
+      inner (x ∷ xs) (suc i) (suc j) h = ap (λ ys. x ∷ ys) (inner xs i j (omega (arith, h)))
+
+  -- of blocks that are still ahead, the first one
+  pub ahead_first : (bs : List Block) (es : List (Entry A)) (i p : ℕ) (b : Block) → i < length bs → b ≡ get_or bs i b → p ≤ length es → Covers (drop i bs) (drop p es)
+      → (b.count ≤ length es - p) × (b.is_open ≡ false → Tells b (take b.count (drop p es))) × Covers (drop (i + 1) bs) (drop (p + b.count) es)
+  ahead_first bs es i p b h is l c =
+      let first : drop i bs ≡ b ∷ drop (i + 1) bs = drop_first bs i b h is in
+      let d : Covers (b ∷ drop (i + 1) bs) (drop p es) = subst (λ cs. Covers cs (drop p es)) first c in
+      let n = length-drop p es in
+      let m = d.0 in
+      (omega (arith, m, n), d.1, subst (Covers (drop (i + 1) bs)) (drop_on es p b.count) d.2)
+    where
+      drop_first : (xs : List Block) (j : ℕ) (x : Block) → j < length xs → x ≡ get_or xs j x → drop j xs ≡ x ∷ drop (j + 1) xs
+      drop_first [] j x k e = absurd (omega (arith, k))
+      drop_first (y ∷ ys) zero x k e = ap (λ z. z ∷ ys) (sym e)
+      drop_first (y ∷ ys) (suc j) x k e = drop_first ys j x (omega (arith, k)) e ∙ ap (λ n. x ∷ drop n (y ∷ ys)) (let s : suc (j + 1) ≡ suc j + 1 = omega arith in s)
+
+      drop_on : (xs : List (Entry A)) (j n : ℕ) → drop n (drop j xs) ≡ drop (j + n) xs
+      drop_on xs zero n = ap (λ m. drop m xs) (let e : n ≡ 0 + n = omega arith in e)
+      drop_on [] (suc j) n = drop_nil n ∙ sym (drop_nil (suc j + n))
+        where
+          drop_nil : (m : ℕ) → drop {A = Entry A} m [] ≡ []
+          drop_nil zero = refl
+          drop_nil (suc m) = refl
+      drop_on (x ∷ xs) (suc j) n = drop_on xs j n ∙ ap (λ m. drop m (x ∷ xs)) (let s : suc (j + n) ≡ suc j + n = omega arith in s)
+
+  -- a block that stays, on top of those of the entries before it
+  pub stay_next : (old new : List Block) (b : Block) (es : List (Entry A)) (p : ℕ) → CoversAll old (take p es) → b.count ≤ length es - p → (b.is_open ≡ false → Tells b (take b.count (drop p es)))
+      → new ≡ old ++ b ∷ [] → CoversAll new (take (p + b.count) es)
+  stay_next old new b es p c l h is = subst (λ bs. CoversAll bs (take (p + b.count) es)) (sym is) (next_covers old b es p c l h)

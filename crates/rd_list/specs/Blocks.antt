@@ -1,0 +1,86 @@
+-- Blocks of the entries of a level, each with where all that may be seen of its entries lies.
+-- All of it is this project's own choice.
+use Rattle.std.specs.Prelude.{◌≡◌, ℕ, ◌+◌, ◌≤◌, false, ◌<◌, ◌≢◌, IfSome, Option, List, [], ◌∷◌, length, take, drop, slice_index_or}
+use Rattle.rd_geom.specs.Plane.{Rectangle, IsWithin}
+use Rattle.rd_item.specs.Items.{Made}
+use Rattle.rd_keys.specs.declared.entry.EntryKey.{EntryKey}
+use Rattle.rd_list.specs.Entries.{Entries, flat}
+use Rattle.rd_list.specs.Kept.{Ordered}
+use Rattle.rd_list.specs.Wrappers.{Wrapper}
+use Rattle.rd_list.specs.KeptView.{kept_entries}
+use Rattle.rd_list.specs.declared.blocks.Block.{Block}
+use Rattle.rd_list.specs.declared.kept.Entry.{Entry}
+use Rattle.rd_list.specs.declared.kept.Entry.TheVariants.{Leaf, Group}
+
+-- how many entries blocks have
+abbrev pub total : List Block → ℕ
+total [] = 0
+total (b ∷ bs) = b.count + total bs
+
+-- so many blocks come before one, and so many entries before its own
+abbrev pub IsAt : List Block → ℕ → ℕ → Type 0
+IsAt bs at start = (at ≤ length bs) × (start ≡ total (take at bs))
+
+-- the place is one of the block's, where there is one
+abbrev pub IsFound : List Block → ℕ → ℕ → ℕ → Type 0
+IsFound bs at start place = (start ≤ place) × ((b : Block) → at < length bs → b ≡ slice_index_or bs at b → place < start + b.count)
+
+-- what may be seen of each of some leaves is in the rectangle
+abbrev pub AreWithin : Rectangle → List Made → Type 0
+AreWithin hull [] = Unit {0}
+AreWithin hull (m ∷ ms) = IsWithin m.leaf.visible hull × AreWithin hull ms
+
+-- where all that may be seen of a list lies, and how many leaves it has
+abbrev pub IsListTold : Rectangle → ℕ → Entries (Ordered EntryKey Wrapper) Made → Type 0
+IsListTold hull leaves list = AreWithin hull (flat list) × (length (flat list) ≡ leaves)
+
+module _ {A : Type 0} where
+  -- an entry is a leaf, and this rectangle may be seen of it
+  abbrev pub IsLeafAt : Entry A → Rectangle → Type 0
+  IsLeafAt (Leaf i) r = i.leaf.visible ≡ r
+  IsLeafAt (Group g) r = ⊥
+
+  abbrev pub IsGroup : Entry A → Type 0
+  IsGroup (Leaf i) = ⊥
+  IsGroup (Group g) = Unit {0}
+
+  -- all that may be seen of an entry is in the rectangle
+  abbrev pub IsHeld : Rectangle → Entry A → Type 0
+  IsHeld hull (Leaf i) = IsWithin i.leaf.visible hull
+  IsHeld hull (Group g) = AreWithin hull (flat g.inner.entries)
+
+  -- so is that of each of some entries
+  abbrev pub AreHeld : Rectangle → List (Entry A) → Type 0
+  AreHeld hull [] = Unit {0}
+  AreHeld hull (e ∷ es) = IsHeld hull e × AreHeld hull es
+
+  -- how many leaves entries are or hold
+  abbrev pub leaf_count : List (Entry A) → ℕ
+  leaf_count es = length (flat (kept_entries es))
+
+  -- where all that may be seen of entries lies, and how many leaves they are or hold
+  abbrev pub IsTold : Rectangle → ℕ → List (Entry A) → Type 0
+  IsTold hull leaves es = AreHeld hull es × (leaf_count es ≡ leaves)
+
+  -- What a block that is not open says of its entries.
+  abbrev pub Tells : Block → List (Entry A) → Type 0
+  Tells b es = IsTold b.hull b.leaves es
+
+  -- Blocks one after another are those of the first entries of a level.
+  abbrev pub Covers : List Block → List (Entry A) → Type 0
+  Covers [] es = Unit {0}
+  Covers (b ∷ bs) es = (b.count ≤ length es) × (b.is_open ≡ false → Tells b (take b.count es)) × Covers bs (drop b.count es)
+
+  -- They are those of all entries.
+  abbrev pub CoversAll : List Block → List (Entry A) → Type 0
+  CoversAll bs es = Covers bs es × (total bs ≡ length es)
+
+  abbrev pub IsLeaf : Entry A → Type 0
+  IsLeaf (Leaf i) = Unit {0}
+  IsLeaf (Group g) = ⊥
+
+  -- A level with another entry at a place: if a rectangle is told, one leaf for another, of which this may be seen.
+  pub record ChangesTo (place : ℕ) (rect : Option Rectangle) (old new : List (Entry A)) : Type 0 where
+    pub size : length new ≡ length old
+    pub others : (k : ℕ) (d : Entry A) → k ≢ place → slice_index_or new k d ≡ slice_index_or old k d
+    pub there : (x y : Entry A) → place < length new → x ≡ slice_index_or new place x → y ≡ slice_index_or old place y → IfSome rect (λ r. IsLeafAt x r × IsLeaf y)

@@ -1,0 +1,147 @@
+//! The blocks of a level through a merge: what is said of entries goes with them to their places. Nothing takes memory.
+ghost use Rattle.std.specs.Prelude.{◌≡◌, ℕ, ◌<◌, ◌≤◌, ◌+◌, ◌-◌, ◌++◌, ◌∷◌, [], IfNone, IfSome, List, length, take, drop, option_map, vec_len, vec_capacity};
+ghost use Rattle.rd_graph.specs.Gathered.{ArePlaces, IsLine, arranged, gathered};
+ghost use Rattle.rd_graph.specs.Runs.{places_of, up_from};
+ghost use Rattle.rd_list.specs.Blocks.{Covers, CoversAll, IsAt, IsLeaf, IsLeafAt};
+ghost use Rattle.rd_list.specs.declared.kept.Entry.{Entry as KeptEntry};
+ghost use Rattle.rd_list.specs.KeptView.{kept_entries};
+ghost use Rattle.rd_list.specs.Entries.{◌▷◌};
+ghost use Rattle.rd_merge.specs.Plans.{IsPlace, one_made, put_entry};
+ghost use Rattle.rd_merge.specs.Internal.Moving.{ChangesAt, PartsTo, PartsAll};
+
+use crate::moving::put;
+use rd_geom::Rect;
+use rd_graph::Run;
+use rd_list::{Block, Entry, FIRST, Seek, admit, leaf_rect, part_at, push_block};
+use std::sync::ledger::Ledger;
+
+/// Nothing is said any more of the block of a place, if one is given, since its entry goes.
+pub(crate) fn clear<A: Ledger>(blocks: &mut Vec<Block>, last: Seek, place: Option<usize>) -> Seek
+    requires { IsAt blocks.old.items last.at last.start }
+    ensures at { IsAt blocks.new.items result.at result.start }
+    ensures covers { (xs ys : List (KeptEntry A)) → Covers blocks.old.items xs → ChangesAt place xs ys → Covers blocks.new.items ys }
+{
+    match place {
+        Some(place) => admit::<A>(blocks, last, place, None),
+        None => last,
+    }
+}
+
+/// What may be seen of a new entry, where it is a leaf that comes for a leaf.
+#[inline(always)]
+fn leaf_for_leaf<A: Ledger>(old: &Entry<A>, new: &Entry<A>) -> Option<Rect>
+    ensures { IfSome result (λ r. IsLeafAt new.now r × IsLeaf old.now) }
+{
+    match old {
+        Entry::Leaf(_) => leaf_rect(new),
+        Entry::Group(_) => None,
+    }
+}
+
+/// Puts an entry at its place, or on top of the ones that are made, and into the block of the place.
+pub(crate) fn put_in_block<A: Ledger>(
+    blocks: &mut Vec<Block>,
+    last: Seek,
+    entries: &mut Vec<Entry<A>>,
+    made: &mut Vec<Entry<A>>,
+    place: Option<usize>,
+    entry: Entry<A>,
+) -> Seek
+    requires place { IsPlace place (vec_len entries.old) }
+    requires room { vec_len made.old + one_made place ≤ vec_capacity made.old }
+    requires at { IsAt blocks.old.items last.at last.start }
+    requires covers { Covers blocks.old.items entries.old.items }
+    ensures put { kept_entries entries.new.items ▷ kept_entries made.new.items
+        ≡ put_entry place (kept_entries (entry ∷ [])) (kept_entries entries.old.items ▷ kept_entries made.old.items) }
+    ensures entries { vec_len entries.new ≡ vec_len entries.old }
+    ensures made { vec_len made.new ≡ vec_len made.old + one_made place }
+    ensures room { vec_capacity made.old ≤ vec_capacity made.new }
+    ensures at { IsAt blocks.new.items result.at result.start }
+    ensures covers { Covers blocks.new.items entries.new.items }
+{
+    let seek = match place {
+        Some(place) => admit::<A>(blocks, last, place, leaf_for_leaf(&entries[place], &entry)),
+        None => last,
+    };
+    put(entries, made, place, entry);
+    seek
+}
+
+/// Puts what blocks say of the entries from one place up to another on top. None where there is no room for it.
+fn push_parts<A: Ledger>(
+    blocks: &mut Vec<Block>,
+    had: &[Block],
+    last: Seek,
+    entries: &[Entry<A>],
+    from: usize,
+    end: usize,
+) -> Option<Seek>
+    requires at { IsAt had.now last.at last.start }
+    requires had { Covers had.now entries.now }
+    requires places { from ≤ end }
+    ensures at { IfSome result (λ s. IsAt had.now s.at s.start) }
+    ensures parts { PartsTo blocks.old.items blocks.new.items entries.now from end }
+    ensures all { IfSome result (λ s. PartsAll blocks.old.items blocks.new.items entries.now from end) }
+{
+    let mut seek = last;
+    let mut place = from;
+    while place < end {
+        let part = part_at(had, seek, entries, place, end);
+        let count = part.block.count;
+        if !push_block(blocks, part.block) {
+            return None;
+        }
+        seek = part.seek;
+        place += count;
+    }
+    Some(seek)
+}
+
+/// What blocks say of the entries of a line of old and made ones, as far as there is room for it.
+fn push_line<A: Ledger>(
+    blocks: &mut Vec<Block>,
+    had: &[Block],
+    entries: &[Entry<A>],
+    made: &[Entry<A>],
+    runs: &[Run],
+)
+    requires none { blocks.old.items ≡ [] }
+    requires had { Covers had.now entries.now }
+    requires places { ArePlaces (places_of runs.now) (length entries.now + length made.now) }
+    ensures { Covers blocks.new.items (gathered (places_of runs.now) (entries.now ++ made.now)) }
+{
+    let mut seek = FIRST;
+    for run in runs {
+        let Some(end) = run.from.checked_add(run.count) else {
+            return;
+        };
+        if run.count > 0 {
+            match push_parts(blocks, had, seek, entries, run.from, end) {
+                Some(next) => seek = next,
+                None => return,
+            }
+        }
+    }
+}
+
+/// The blocks as they are, or what they say of the entries of a line. There is room for the parts in `room`.
+pub(crate) fn in_line_blocks<A: Ledger>(
+    had: Vec<Block>,
+    entries: &[Entry<A>],
+    made: &[Entry<A>],
+    line: Option<&[Run]>,
+    mut room: Vec<Block>,
+) -> Vec<Block>
+    requires none { room.items ≡ [] }
+    requires had { Covers had.items entries.now }
+    requires line { IsLine (option_map (λ l. places_of l.now) line) (length entries.now + length made.now) }
+    ensures { Covers result.items (arranged (option_map (λ l. places_of l.now) line.entry) (entries.now ++ made.now)) }
+{
+    match line {
+        None => had,
+        Some(runs) => {
+            push_line(&mut room, &had, entries, made, runs);
+            room
+        }
+    }
+}
