@@ -3,6 +3,7 @@ ghost use Rattle.std.specs.Prelude.{◌≡◌, ◌<◌};
 
 use super::planting::{box_of, id_of, put, rect_of, root_alone};
 use rd_geom::Steps;
+use rd_keys::KeyRange;
 use rd_style::{Style, fits_rect};
 use rd_tree::{BoxKey, BoxView, Id, IdFault, MAX_DEPTH, Tree};
 use std::alloc::Global;
@@ -166,6 +167,17 @@ fn gone<B: Ledger>(rt: &impl Abort, tree: &Tree<B>, looks: &mut Steps<B>, key: B
     assert!(rt; tree.look(key, looks).is_none());
 }
 
+/// The range of the root and A is quiet once the marks are cleared, until A is touched.
+fn quiet_two<B: Ledger>(rt: &impl Abort, tree: &mut Tree<B>, names: &Names, key: BoxKey) {
+    let keys = KeyRange::one(tree.root()).joined(KeyRange::one(key));
+    tree.settle();
+    assert!(rt; tree.are_quiet(keys));
+    lay(rt, tree, &names.a, [0, 0, 10, 10]);
+    assert!(rt; !tree.are_quiet(keys));
+    tree.settle();
+    assert!(rt; tree.are_quiet(keys));
+}
+
 /// Two boxes come below A and go again: their keys are dead then, and stay dead where an id comes back.
 fn remove_two<B: Ledger>(rt: &impl Abort, tree: &mut Tree<B>, looks: &mut Steps<B>, names: &Names) {
     let upper = put_plain(rt, tree, &names.a, &names.b);
@@ -260,6 +272,7 @@ fn all<B: Ledger>(rt: &impl Abort, alloc: Global, blank: Blank)
     let mut tree = planted(rt, alloc);
     let key = insert_one(rt, &mut tree, &names);
     settle_two(rt, &mut tree, &mut looks, key);
+    quiet_two(rt, &mut tree, &names, key);
     remove_two(rt, &mut tree, &mut looks, &names);
     move_two(rt, &mut tree, &mut looks, &names);
     near_three(rt, &mut tree, &mut looks, &names);

@@ -1,6 +1,7 @@
 -- The arena of nodes and the index of ids, as each call leaves them.
 pub mod Marks
 pub mod Glances
+pub mod Shared
 pub mod Grow
 pub mod Looking
 pub mod Seeking

@@ -1,9 +1,13 @@
-//! What walks read of all boxes. Beside each row stands one word that tells at once whether a key's box is live and untouched.
-ghost use Rattle.std.specs.Prelude.{◌≡◌, ◌<◌, ◌⊎◌, ◌||◌, ◌==◌, not, [], length, nat_le, slice_set, OnOk};
-ghost use Rattle.rd_tree.specs.Internal.Glances.{HasRoom, quiet_word, seen_at, with_glance};
+//! What walks read of all boxes. Beside each row stands one word that tells at once whether a key's box is live and untouched,
+//! and beside each block of rows one that tells so of all of them.
+ghost use Rattle.std.specs.Prelude.{◌≡◌, ◌<◌, ◌⊎◌, [], false, length, slice_set, IsTrue, OnOk};
+ghost use Rattle.rd_keys.specs.Keys.{BoxKey as Box};
+ghost use Rattle.rd_keys.specs.Ranges.{IsAmong};
+ghost use Rattle.rd_tree.specs.Internal.Glances.{HasRoom, quiet_word, seen_at, told_touched, with_glance};
 
 use crate::glance::Glance;
-use rd_keys::BoxKey;
+use crate::shared::{NOT_QUIET, all_share, extend, forget, renew};
+use rd_keys::{BoxKey, KeyRange};
 use std::alloc::{AllocError, Global};
 use std::marker::Model;
 
@@ -11,19 +15,26 @@ use std::marker::Model;
 #[derive(Drop)]
 pub(crate) struct Glances {
     rows: Vec<Glance>,
-    /// Of each row the generation, where its box is untouched, and otherwise a number that no generation is.
+    /// Of each row the generation, where its box is untouched, and otherwise `NOT_QUIET`.
     words: Vec<u64>,
+    /// Of each block of rows the word that all of them have, or `NOT_QUIET`.
+    shared: Vec<u64>,
 }
 
 impl Model for Glances {
-    ghost use Rattle.std.specs.Prelude.{◌≡◌, map, vec_capacity};
-    ghost use Rattle.rd_tree.specs.Internal.Glances.{Rows, quiet_word};
+    ghost use Rattle.std.specs.Prelude.{vec_capacity};
+    ghost use Rattle.rd_tree.specs.Internal.Glances.{AreWords, Rows};
 
     ghost Value = { Rows };
 
-    ghost view = { λ g. record { rows = g.rows.items; room = vec_capacity g.rows; word_room = vec_capacity g.words } };
+    ghost view = { λ g. record {
+      rows = g.rows.items;
+      room = vec_capacity g.rows;
+      word_room = vec_capacity g.words;
+      block_room = vec_capacity g.shared;
+    } };
 
-    ghost invariant = { λ g. g.words.items ≡ map quiet_word g.rows.items };
+    ghost invariant = { λ g. AreWords g.rows.items g.words.items g.shared.items };
 }
 
 /// The word of a row.
@@ -31,7 +42,7 @@ fn word_of(glance: &Glance) -> u64
     ensures { result ≡ quiet_word glance.now }
 {
     if glance.touched {
-        4294967296
+        NOT_QUIET
     } else {
         u64::from(glance.generation)
     }
@@ -45,6 +56,7 @@ impl Glances {
         Glances {
             rows: Vec::new(alloc),
             words: Vec::new(alloc),
+            shared: Vec::new(alloc),
         }
     }
 
@@ -68,12 +80,28 @@ impl Glances {
     /// Is a key not the one of its row, or its box touched?
     #[inline(always)]
     pub(crate) fn tells_touched(&self, key: BoxKey) -> bool
-        ensures { result ≡ (nat_le (length self.now.rows) key.slot
-            || (seen_at self.now.rows key.slot).touched
-            || not ((seen_at self.now.rows key.slot).generation == key.generation)) }
+        ensures { result ≡ told_touched self.now.rows key }
     {
         let at = key.slot() as usize;
         at >= self.words.len() || self.words[at] != u64::from(key.generation())
+    }
+
+    /// Is each key of a range that of its row, and its box untouched? It is said only of a range of one generation, where all
+    /// rows of the few blocks that it meets are known to share that; where it is not said, nothing is known.
+    #[inline(always)]
+    pub(crate) fn are_quiet(&self, keys: KeyRange) -> bool
+        ensures { IsTrue result → (k : Box) → IsAmong keys k → told_touched self.now.rows k
+            ≡ false }
+    {
+        let last = keys.last_slot as usize;
+        keys.oldest == keys.newest
+            && last < self.words.len()
+            && all_share(
+                &self.shared,
+                keys.first_slot as usize,
+                last,
+                u64::from(keys.oldest),
+            )
     }
 
     /// Room for a row more. After a refusal nothing but room has changed.
@@ -83,6 +111,7 @@ impl Glances {
     {
         self.rows.reserve(1)?;
         self.words.reserve(1)?;
+        self.shared.reserve(1)?;
         Ok(())
     }
 
@@ -91,6 +120,7 @@ impl Glances {
         requires { slot < length self.old.rows }
         ensures { self.new.rows ≡ slice_set self.old.rows slot glance }
     {
+        forget(&self.words, &mut self.shared, slot as usize);
         self.words[slot as usize] = word_of(&glance);
         self.rows[slot as usize] = glance;
     }
@@ -103,8 +133,16 @@ impl Glances {
         if (slot as usize) < self.rows.len() {
             self.write(slot, glance);
         } else {
+            extend(&self.words, &mut self.shared);
             self.words.push_reserved(word_of(&glance));
             self.rows.push_reserved(glance);
         }
+    }
+
+    /// Works out anew which blocks of rows share a word, where that is not known.
+    pub(crate) fn renew(&mut self)
+        ensures { self.new.rows ≡ self.old.rows }
+    {
+        renew(&self.words, &mut self.shared);
     }
 }

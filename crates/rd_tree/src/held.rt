@@ -1,9 +1,10 @@
 //! The nodes of a tree. Beside each stands what a walk reads of its box, in a table by slot, so that a walk opens only the
 //! nodes of boxes with which it has something to do.
-ghost use Rattle.std.specs.Prelude.{◌≡◌, ◌+◌, ◌<◌, ◌≤◌, IfOk, IfNone, OnErr, OnSome, option_copied, option_map, Some, is_some, true};
+ghost use Rattle.std.specs.Prelude.{◌≡◌, ◌+◌, ◌<◌, ◌≤◌, IfOk, IfNone, IsTrue, OnErr, OnSome, option_copied, option_map, Some, is_some, true, false};
 ghost use Rattle.std.specs.Option.{option_map_or};
 ghost use Rattle.rd_keys.specs.Arena.{empty_arena, live, occupied, retired, value, without_value, Enters};
-ghost use Rattle.rd_keys.specs.Keys.{same_key};
+ghost use Rattle.rd_keys.specs.Keys.{BoxKey as Box, same_key};
+ghost use Rattle.rd_keys.specs.Ranges.{IsAmong};
 ghost use Rattle.rd_tree.specs.Changes as changes;
 ghost use Rattle.rd_tree.specs.Internal.Glances.{glance_of};
 ghost use Rattle.rd_tree.specs.Internal.Linked.{linked, Relinks};
@@ -17,7 +18,7 @@ use crate::links::walk::{Work, do_work};
 use crate::node::Node;
 use crate::reach::{Reach, rect_reach, style_reach};
 use rd_geom::{NoMemory, Rect};
-use rd_keys::{Arena, BoxKey, BoxMark, Refused};
+use rd_keys::{Arena, BoxKey, BoxMark, KeyRange, Refused};
 use rd_style::{StyleChange, changed};
 use std::alloc::Global;
 use std::marker::Model;
@@ -120,6 +121,24 @@ impl Nodes {
         ensures { result ≡ option_map_or (λ n. n.item.touched) (value self.now key.slot key.generation) true }
     {
         self.glances.tells_touched(key)
+    }
+
+    /// Is no box under a key of a range touched? It is said only of a range of one generation, where the few blocks of 64 slots
+    /// that it meets are known to hold untouched boxes of that generation alone; where it is not said, nothing is known.
+    #[inline(always)]
+    pub(crate) fn are_quiet(&self, keys: KeyRange) -> bool
+        ensures { IsTrue result → (k : Box) → IsAmong keys k
+            → option_map_or (λ n. n.item.touched) (value self.now k.slot k.generation) true
+            ≡ false }
+    {
+        self.glances.are_quiet(keys)
+    }
+
+    /// Works out anew of which blocks of slots `are_quiet` can say so. No node changes.
+    pub(crate) fn note_quiet(&mut self)
+        ensures { self.new ≡ self.old }
+    {
+        self.glances.renew();
     }
 
     /// Stores a node under a key that was never given. After a refusal nothing has changed.

@@ -1,8 +1,10 @@
 -- What a walk reads of a box, without opening its node.
-use Rattle.std.specs.Prelude.{◌≡◌, ℕ, ◌<◌, true, false, if◌then◌else◌, List, [], ◌∷◌, ◌++◌, length, nat_lt, slice_index_or, slice_set, Option, Some, None}
+use Rattle.std.specs.Prelude.{◌≡◌, ◌≢◌, ℕ, ◌+◌, ◌-◌, ◌/◌, ◌<◌, ◌==◌, ◌||◌, Bool, true, false, not, if◌then◌else◌, List, [], ◌∷◌, ◌++◌, length, map, nat_le, nat_lt, slice_index, slice_index_or, slice_set, Option, Some, None}
 use Rattle.rd_keys.specs.Arena.{Arena, slot_at}
+use Rattle.rd_keys.specs.Keys.{BoxKey}
 use Rattle.rd_tree.specs.declared.node.Node as inner
 use Rattle.rd_tree.specs.declared.glance.Glance.{Glance}
+use Rattle.rd_tree.specs.declared.shared.TheConstants.{NOT_QUIET, BLOCK}
 
 -- of a slot without a live key: whatever key is asked for counts as touched
 abbrev pub unseen : Glance
@@ -35,20 +37,43 @@ seen_at gs s = slice_index_or gs s unseen
 abbrev pub with_glance : List Glance → ℕ → Glance → List Glance
 with_glance gs s y = if nat_lt s (length gs) then slice_set gs s y else gs ++ y ∷ []
 
--- the rows of slots, and for how many rows and words there is room
+-- how many blocks so many rows are: the last may be shorter
+abbrev pub blocks : ℕ → ℕ
+blocks n = (n + BLOCK - 1) / BLOCK
+
+-- the rows of slots, and for how many rows, words and blocks there is room
 pub record Rows : Type 0 where
   pub rows : List Glance
   pub room : ℕ
   pub word_room : ℕ
+  pub block_room : ℕ
 
 -- there is room for a row more
 pub record HasRoom (r : Rows) : Type 0 where
   pub row : length r.rows < r.room
   pub word : length r.rows < r.word_room
+  pub block : blocks (length r.rows) < r.block_room
 
 -- the word of a row: the generation where its box is untouched, and otherwise a number that no generation is
 abbrev pub quiet_word : Glance → ℕ
-quiet_word y = if y.touched then 4294967296 else y.generation
+quiet_word y = if y.touched then NOT_QUIET else y.generation
+
+-- Is a key not the one of its row, or its box touched?
+abbrev pub told_touched : List Glance → BoxKey → Bool
+told_touched gs k =
+    nat_le (length gs) k.slot || (seen_at gs k.slot).touched
+    || not ((seen_at gs k.slot).generation == k.generation)
+
+-- Each block of rows has a word, and where that is a generation, each of its rows has it.
+pub record AreShared (words shared : List ℕ) : Type 0 where
+  pub all : length shared ≡ blocks (length words)
+  pub right : (s : ℕ) → s < length words → slice_index shared (s / BLOCK) ≢ NOT_QUIET
+      → slice_index words s ≡ slice_index shared (s / BLOCK)
+
+-- What stands beside rows: the word of each, and what those of a block share.
+pub record AreWords (gs : List Glance) (ws sh : List ℕ) : Type 0 where
+  pub words : ws ≡ map quiet_word gs
+  pub shared : AreShared ws sh
 
 -- Of each slot that is read which it holds.
 pub record AreGlances (a : Arena inner.Node) (gs : List Glance) : Type 0 where

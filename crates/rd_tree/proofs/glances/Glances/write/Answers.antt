@@ -1,8 +1,19 @@
-use Rattle.std.proofs.Common.{◌∙◌, sym, ap}
+use Rattle.std.proofs.Common.{◌≡◌, sym, subst, drop, length, arith}
 use Rattle.std.specs.Prelude.{slice_set}
 use Rattle.std.proofs.lemmas.List.{map-set}
-use Rattle.rd_tree.specs.Internal.Glances.{quiet_word}
+use Rattle.std.proofs.Math.Seq.{take-append_seam}
+use Rattle.rd_tree.specs.Internal.Glances.{quiet_word, AreShared}
 use Rattle.rd_tree.proofs.glances.Glances.write.Goals as goal
 
 pub invariant_of-self : goal.invariant_of-self
-invariant_of-self c = rw (c.self.invariant, c.word_of.ensures) (sym (map-set quiet_word c.self.inside.rows.items c.args.slot c.args.glance))
+invariant_of-self c =
+    let sh = c.forget.new.shared in
+    let rest = drop (length c.forget.new.shared) c.self.inside.shared.items in
+    let ws = slice_set c.self.inside.words.items c.args.slot c.word_of.result in
+    let all : c.self.inside.shared.len ≡ length c.forget.new.shared = omega arith in
+    let forgotten : AreShared ws sh = subst (λ us. AreShared (slice_set us c.args.slot c.word_of.result) c.forget.new.shared) c.deref.ensures.value
+    (c.forget.ensures c.word_of.result) in
+    record {
+      words = rw (c.self.invariant.words, c.word_of.ensures) (sym (map-set quiet_word c.self.inside.rows.items c.args.slot c.args.glance));
+      shared = rw (all, take-append_seam sh rest) forgotten;
+    }

@@ -43,7 +43,7 @@ pub invariant_of-self : goal.invariant_of-self
 invariant_of-self g c =
     let s = settled_sound c.self.inside.nodes c.settle_from.new.nodes c.self.inside.root c.self.inside.ids c.self.invariant.sound
     c.settle_from.ensures.settled in
-    record {
+    rw c.note_quiet.ensures (record {
       sound = s.0;
       shallow = shallow_items (λ j. true) settled (seen c.self.inside.nodes c.self.inside.root) (seen c.settle_from.new.nodes c.self.inside.root) s.1
           c.self.invariant.shallow;
@@ -52,7 +52,7 @@ invariant_of-self g c =
           (is_live c.self.inside.nodes c.self.inside.root (seen c.self.inside.nodes c.self.inside.root) (seen_stands c.self.inside.nodes c.self.inside.root
           c.self.invariant.sound.tree))
           c.settle_from.ensures.rows c.settle_from.ensures.same_length c.self.invariant.table;
-    }
+    })
 
 pub returns : goal.returns
 returns g c =
@@ -60,4 +60,4 @@ returns g c =
     (λ j. true) settled (seen c.self.inside.nodes c.self.inside.root)) = settled_sound c.self.inside.nodes c.settle_from.new.nodes c.self.inside.root
     c.self.inside.ids c.self.invariant.sound c.settle_from.ensures.settled in
     let k : marks c.settle_from.new.nodes ≡ marks c.self.inside.nodes = c.settle_from.ensures.settled.same_slots in
-    rw (← c.self.view_is, s.1, k) refl
+    rw (← c.self.view_is, c.note_quiet.ensures, s.1, k) refl
