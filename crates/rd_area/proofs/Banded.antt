@@ -366,3 +366,39 @@ band_before_next es y i h e =
     sym (band_is es y i h
     (λ k l. let n = e.before k l in omega (arith, n))
     (λ l. let n = e.rest i (omega arith) l in omega (arith, n)))
+
+-- ---- the bands of rows, looked at one after another
+
+-- so many ends are before a row that comes after another one
+ends_up_to : (es : List ℕ) (to : ℕ) → AreRising es → 0 < to → EndsBefore es to (band_of es (to - 1))
+ends_up_to es to r some = record {
+  before = λ k l. (let t = ends_to es (to - 1) k l in omega (arith, t, some));
+  rest = λ k l h. (let t = ends_after es (to - 1) (omega (arith, l, h)) in let n = never_falling es r (band_of es (to - 1)) k l h in omega (arith, t, n));
+}
+
+module _ (es : List ℕ) (from to k : ℕ) (r : AreRising es) (o : from < to) (all : CoverRows to es) (ahead : (j : ℕ) → j < k → get_or es j 0 < to) where
+  -- a band that none ends before, of those up to an end
+  pub row_here : band_of es from ≤ k → k < length es → HasRow es from to k
+  row_here f h =
+      let e = ends_up_to es to r (omega (arith, o)) in
+      let i = band_of es (to - 1) in
+      let l = end_in es to i (omega (arith, o)) all e in
+      band_has_row es from to i k r o l e f
+      (⊎_elim (λ a. (let t = ahead i a in let u = e.rest i (omega arith) l in absurd (omega (arith, t, u)))) (λ a. omega (arith, a)) (order i k))
+
+  -- the band of a row is none after the one that reaches the end
+  pub no_later : (y : ℕ) → from ≤ y → y < to → (length es ≤ k) ⊎ (to ≤ get_or es k 0) → band_of es y ≤ k
+  no_later y f l last =
+      let e = ends_up_to es to r (omega (arith, o)) in
+      let i = band_of es (to - 1) in
+      let h = end_in es to i (omega (arith, o)) all e in
+      let w = (bands_within es from to i y h e f l).1 in
+      ⊎_elim (λ a. omega (arith, a, w, h))
+      (λ a. ⊎_elim (λ b. (let t = e.before k b in absurd (omega (arith, a, t)))) (λ b. omega (arith, w, b)) (order k i)) last
+
+  -- and none before that of the first row
+  pub no_earlier : (y : ℕ) → from ≤ y → y < to → band_of es from ≤ band_of es y
+  no_earlier y f l =
+      let e = ends_up_to es to r (omega (arith, o)) in
+      let i = band_of es (to - 1) in
+      (bands_within es from to i y (end_in es to i (omega (arith, o)) all e) e f l).0

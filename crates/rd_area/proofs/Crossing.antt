@@ -1,10 +1,10 @@
 -- Rectangles have a common pixel exactly where their edges say so.
-use Rattle.std.proofs.Common.{◌≡◌, refl, true, false, ℤ, arith, not, ◌&&◌, ◌||◌, Bool}
-use Rattle.std.specs.Prelude.{IsTrue, int_lt, int_le}
-use Rattle.std.specs.Int.{int_max, int_min}
+use Rattle.std.proofs.Common.{◌≡◌, refl, true, false, arith, not, ◌&&◌, ◌||◌, Bool}
+use Rattle.std.specs.Prelude.{IsTrue, int_lt}
+use Rattle.std.specs.Int.{int_max}
 use Rattle.std.proofs.lemmas.Int.{ints, clamps}
-use Rattle.rd_geom.specs.Plane.{Rectangle, SharesPixel, right, bottom, holds_pixel, has_none, meets}
-use Rattle.rd_geom.proofs.Pixels.{At, at_holds, holds_at, same_test, meets_shares, shares_meets}
+use Rattle.rd_geom.specs.Plane.{Rectangle, SharesPixel, right, bottom, has_none, meets}
+use Rattle.rd_geom.proofs.Pixels.{At, holds_at, same_test, meets_shares, shares_meets}
 use Rattle.rd_area.specs.Internal.Crossing.{crosses, overlap}
 
 -- the first column and the first row that both have

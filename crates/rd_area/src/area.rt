@@ -195,8 +195,7 @@ impl Area {
             return false;
         }
         let (from, to) = rows_of(seen);
-        let (first, last) = bands::between(&self.ends, from, to);
-        rows::meets(&self.bands, first, last, columns(seen))
+        bands::meets(&self.ends, &self.bands, from, to, columns(seen))
     }
 
     /// Is the pixel in column `x` and row `y` in the area?

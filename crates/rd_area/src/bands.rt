@@ -1,12 +1,13 @@
 //! The bands of an area: neighbouring rows that have the same spans.
 
-ghost use Rattle.std.specs.Prelude.{◌≡◌, ℕ, ◌+◌, ◌<◌, ◌≤◌, List, [], get_or, length, vec_len, IfOk, OnOk, is_ok, if◌then◌else◌};
+ghost use Rattle.std.specs.Prelude.{◌≡◌, ℕ, ◌+◌, ◌<◌, ◌≤◌, List, [], get_or, length, vec_len, IfOk, IsFalse, IsTrue, OnOk, is_ok, if◌then◌else◌};
 ghost use Rattle.rd_area.specs.Internal.Bands.{band_of, row_at, AreBetween, AreRising, CoverRows, HasRow, BeginsBand, IsBanded};
 ghost use Rattle.std.specs.List.{insert};
+ghost use Rattle.rd_area.specs.Internal.Joining.{row_meets};
 ghost use Rattle.rd_area.specs.Internal.Room.{room_at};
 ghost use Rattle.rd_area.specs.Internal.Normal.{spans_of};
 
-use crate::rows;
+use crate::{row, rows};
 use rd_geom::{NoMemory, Span};
 
 /// As many ends as this are looked at in order.
@@ -83,6 +84,36 @@ pub(crate) fn between(ends: &[usize], from: usize, to: usize) -> (usize, usize)
 {
     let first = ends_before(ends, from + 1);
     (first, ends_before_from(ends, first, to) + 1)
+}
+
+/// Has the band of one of the rows from `from` up to `to` a column of the span?
+pub(crate) fn meets(
+    ends: &[usize],
+    bands: &Vec<Vec<Span>>,
+    from: usize,
+    to: usize,
+    span: Span,
+) -> bool
+    requires count { length ends.now ≡ vec_len bands.now }
+    requires rising { AreRising ends.now }
+    requires order { from < to }
+    requires all { CoverRows to ends.now }
+    ensures found { IsTrue result → (k : ℕ) × HasRow ends.now from to k
+        × IsTrue (row_meets (get_or (spans_of bands.now.items) k []) span) }
+    ensures none { IsFalse result → (y : ℕ) → from ≤ y → y < to
+        → IsFalse (row_meets (get_or (spans_of bands.now.items) (band_of ends.now y) []) span) }
+{
+    let mut k = ends_before(ends, from + 1);
+    while k < ends.len() {
+        if row::meets(&bands[k], span) {
+            return true;
+        }
+        if to <= ends[k] {
+            return false;
+        }
+        k += 1;
+    }
+    false
 }
 
 /// Parts the band of row `y` before that row, if need be, and tells which band begins there.

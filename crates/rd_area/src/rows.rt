@@ -44,22 +44,6 @@ pub(crate) fn join(rows: &mut Vec<Vec<Span>>, from: usize, to: usize, span: Span
     }
 }
 
-/// Has one of the bands `from` up to `to` a column of the span?
-pub(crate) fn meets(rows: &Vec<Vec<Span>>, from: usize, to: usize, span: Span) -> bool
-    requires { to ≤ vec_len rows.now }
-    ensures found { IsTrue result → (y : ℕ) × (from ≤ y) × (y < to)
-        × IsTrue (row_meets (get_or (spans_of rows.now.items) y []) span) }
-    ensures none { IsFalse result → (y : ℕ) → from ≤ y → y < to
-        → IsFalse (row_meets (get_or (spans_of rows.now.items) y []) span) }
-{
-    for y in from..to {
-        if row::meets(&rows[y], span) {
-            return true;
-        }
-    }
-    false
-}
-
 /// Has each of the bands `from` up to `to` all columns of the span?
 pub(crate) fn have(rows: &Vec<Vec<Span>>, from: usize, to: usize, span: Span) -> bool
     requires { to ≤ vec_len rows.now }

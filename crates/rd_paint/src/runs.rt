@@ -111,6 +111,9 @@ fn both_same_until(out: &[Px], row: &[Px], from: usize) -> usize
     let px = out[from];
     let above = row[from];
     let mut end = from + 1;
+    while out.len() - end >= 8 && eight_same(out, end, px) && eight_same(row, end, above) {
+        end += 8;
+    }
     while end < out.len() && same(out[end], px) && same(row[end], above) {
         end += 1;
     }

@@ -1,4 +1,4 @@
-use Rattle.std.proofs.Common.{◌≡◌, true, false, refl, subst, ◌∙◌, sym, ◌&&◌}
+use Rattle.std.proofs.Common.{◌≡◌, false, refl, subst, ◌∙◌, ◌&&◌}
 use Rattle.rd_geom.specs.Plane.{right, bottom, has_none}
 use Rattle.rd_area.specs.Internal.Crossing.{crosses, overlap}
 use Rattle.rd_area.proofs.Crossing.{both_tell}

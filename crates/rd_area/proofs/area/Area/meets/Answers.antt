@@ -1,6 +1,5 @@
-use Rattle.std.proofs.Common.{◌≡◌, true, false, not, arith}
+use Rattle.std.proofs.Common.{◌≡◌, true, false, arith}
 use Rattle.rd_geom.specs.Plane.{Rectangle, meet, meets, has_none}
-use Rattle.rd_geom.specs.Areas.{meets_area}
 use Rattle.rd_geom.proofs.Areas.{meets_area-shares, shares-meets_area}
 use Rattle.rd_geom.proofs.Pixels.{same_test}
 use Rattle.rd_area.specs.Internal.Normal.{IsOn, spans_of}

@@ -4,7 +4,7 @@ use Rattle.rd_geom.proofs.Areas.{meets_area-shares, shares-meets_area}
 use Rattle.rd_geom.proofs.Pixels.{same_test}
 use Rattle.rd_area.specs.Internal.Normal.{IsOn, spans_of}
 use Rattle.std.specs.Prelude.{unsigned_abs}
-use Rattle.rd_area.specs.Internal.Bands.{band_of, row_at, rows_of, HasRow}
+use Rattle.rd_area.specs.Internal.Bands.{row_at, rows_of, HasRow}
 use Rattle.rd_area.proofs.Banded.{table_at}
 use Rattle.rd_area.proofs.Pixels.{IsBlock, common_on_left, apart_shares, block_top, row_of_band, found_shares, none_shares, true_unless}
 use Rattle.rd_area.proofs.area.Area.meets_bands.Goals as goal
@@ -13,8 +13,8 @@ pub rows_of-from-requires : goal.rows_of-from-requires
 rows_of-from-requires c =
     rw c.meet-seen.ensures.value (common_on_left c.self.inside.used c.args.r c.self.inside.size c.self.invariant.0.canvas c.self.invariant.0.on).top
 
-pub between-first-requires-clause-all : goal.between-first-requires-clause-all
-between-first-requires-clause-all c = λ z l.
+pub meets-requires-clause-all : goal.meets-requires-clause-all
+meets-requires-clause-all c = λ z l.
     let o : IsOn c.meet-seen.result c.self.inside.size =
     rw c.meet-seen.ensures.value (common_on_left c.self.inside.used c.args.r c.self.inside.size c.self.invariant.0.canvas c.self.invariant.0.on) in
     let k : IsBlock c.meet-seen.result c.rows_of-from.result.0 c.rows_of-from.result.1 (record { x0 = c.meet-seen.result.x; x1 = right c.meet-seen.result }) =
@@ -44,18 +44,17 @@ returns c =
     let k : IsBlock (meet c.self.inside.used c.args.r) from to c.columns.result =
     rw (← c.meet-seen.ensures.value) (record { first = c.rows_of-from.ensures.first; last = c.rows_of-from.ensures.last; columns = c.columns.ensures }) in
     let top : to ≤ height = block_top (meet c.self.inside.used c.args.r) from to c.columns.result c.self.inside.size k c.self.invariant.0.canvas o in
-    let has = rw c.deref.ensures.value at c.between-first.ensures.rows in
-    let within = rw c.deref.ensures.value at c.between-first.ensures.bands in
+    let found = rw c.deref.ensures.value at c.meets.ensures.found in
+    let none = rw c.deref.ensures.value at c.meets.ensures.none in
     rw (← c.self.view_is) (same_test c.meets.result _
-    (λ h. let f = c.meets.ensures.found h in
-    let r : HasRow ends from to f.0 = has f.0 f.1 f.2 in
+    (λ h. let f = found h in
+    let r : HasRow ends from to f.0 = f.1 in
     shares-meets_area _ c.args.r (found_shares c.self.inside.size c.self.inside.used c.args.r rows from to c.columns.result r.y k r.first r.last
-    (rw (row_of_band height ends bands from to f.0 r top) f.3)))
+    (rw (row_of_band height ends bands from to f.0 r top) f.2)))
     (λ h. true_unless c.meets.result (λ no_row.
     none_shares c.self.inside.size c.self.inside.used c.args.r rows from to c.columns.result c.self.invariant.0 k
-    (λ n a l. let b = within n a l in
-    rw (table_at height (row_at ends bands) n (omega (arith, l, top))) (c.meets.ensures.none no_row (band_of ends n) b.0 b.1))
+    (λ n a l. rw (table_at height (row_at ends bands) n (omega (arith, l, top))) (none no_row n a l))
     (meets_area-shares _ c.args.r h))))
 
-pub between-first-requires-clause-rising : goal.between-first-requires-clause-rising
-between-first-requires-clause-rising c = rw c.deref.ensures.value c.self.invariant.1.rising
+pub meets-requires-clause-rising : goal.meets-requires-clause-rising
+meets-requires-clause-rising c = rw c.deref.ensures.value c.self.invariant.1.rising
