@@ -24,6 +24,7 @@ use Rattle.rd_list.specs.Lists.{hit, is_hit, is_outline, last}
 use Rattle.rd_list.specs.Internal.LastHit.{last_owner}
 use Rattle.rd_list.proofs.Displaying.{shown-append, shown_from}
 use Rattle.rd_list.proofs.Joins.{flat-join}
+use Rattle.rd_list.proofs.Parting.{within_left, within_right}
 use Rattle.rd_list.proofs.LastOwner.{last_owner-append, last_owner-last}
 
 -- the first where it is one, else the other
@@ -98,14 +99,6 @@ unseen_missed x y l h =
 
 -- ---- block by block
 
-within_left : (r : Rectangle) (ms ns : List Made) → AreWithin r (ms ++ ns) → AreWithin r ms
-within_left r [] ns h = tt
-within_left r (m ∷ ms) ns h = (h.0, within_left r ms ns h.1)
-
-within_right : (r : Rectangle) (ms ns : List Made) → AreWithin r (ms ++ ns) → AreWithin r ns
-within_right r [] ns h = h
-within_right r (m ∷ ms) ns h = within_right r ms ns h.1
-
 -- no leaf that lies in a rectangle is hit outside of it
 outside : (x y : ℤ) (r : Rectangle) (l : item.Leaf) → IsWithin l.visible r → holds_pixel r x y ≡ false → holds_pixel l.visible x y ≡ false
 outside x y r l w f = by (holds_pixel l.visible x y) refl
@@ -140,22 +133,6 @@ module _ {A : Type 0} where
       ∙ hit-join x y (shown (take (end - start) (drop start es))) (shown (drop end es))
       ∙ ap (λ g. or_else g (hit (shown (take (end - start) (drop start es))) x y)) n ∙ sym f
 
-  -- a part of a level is no larger
-  pub drop_size : (es : List (Entry A)) (p : ℕ) → list_size (kept_entries (drop p es)) ≤ list_size (kept_entries es)
-  drop_size es zero = omega arith
-  drop_size [] (suc p) = omega arith
-  drop_size (kept.Leaf i ∷ es) (suc p) = let r = drop_size es p in omega (arith, r)
-  drop_size (kept.Group g ∷ es) (suc p) = let r = drop_size es p in omega (arith, r)
-
-  take_size : (es : List (Entry A)) (n : ℕ) → list_size (kept_entries (take n es)) ≤ list_size (kept_entries es)
-  take_size es zero = omega arith
-  take_size [] (suc n) = omega arith
-  take_size (kept.Leaf i ∷ es) (suc n) = let r = take_size es n in omega (arith, r)
-  take_size (kept.Group g ∷ es) (suc n) = let r = take_size es n in omega (arith, r)
-
-  pub part_size : (es : List (Entry A)) (p n : ℕ) → list_size (kept_entries (take n (drop p es))) ≤ list_size (kept_entries es)
-  part_size es p n = let a = take_size (drop p es) n in let b = drop_size es p in omega (arith, a, b)
-
   -- the block below a number of blocks
   pub block_below : (bs : List Block) (es : List (Entry A)) (number end : ℕ) (b : Block) → Covers bs es → 0 < number → number ≤ length bs → end ≡ total (take number bs) → b ≡ get_or bs (number - 1) b
       → (b.count ≤ end) × (end - b.count ≡ total (take (number - 1) bs)) × (b.is_open ≡ false → Tells b (take (end - (end - b.count)) (drop (end - b.count) es)))
@@ -167,10 +144,6 @@ module _ {A : Type 0} where
       let start : end - b.count ≡ total (take i bs) = omega (arith, e, whole) in
       let t = found_told bs es i (end - b.count) b c (omega (arith, few), start) (omega (arith, some, few)) is in
       (omega (arith, e, whole), start, (λ f. subst (λ k. Tells b (take k (drop (end - b.count) es))) (let q : b.count ≡ end - (end - b.count) = omega (arith, e, whole) in q) (t.1 f)))
-
-  -- the part from a place on
-  pub rest_is : (es : List (Entry A)) (p : ℕ) → take (length es - p) (drop p es) ≡ drop p es
-  rest_is es p = let n = length-drop p es in take_all (length es - p) (drop p es) (omega (arith, n))
 
 pub is_not : (b : Bool) → not b ≡ true → b ≡ false
 is_not true e = cc

@@ -160,7 +160,7 @@ fn topmost_in_block<A: Ledger>(block: Block, entries: &[Entry<A>], x: i32, y: i3
     requires { block.is_open ≡ false → Tells block entries.now }
     ensures { result ≡ lists.hit (shown entries.now) x y }
 {
-    if !block.is_open && misses(block.hull, x, y) {
+    if !block.is_open && misses(block.told.hull, x, y) {
         return None;
     }
     topmost(entries, x, y)

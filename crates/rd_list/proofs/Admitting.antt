@@ -1,27 +1,20 @@
 -- An entry comes to a place of a level with blocks.
-use Rattle.std.proofs.Common.{◌≡◌, refl, ap, ◌∙◌, sym, subst, ℕ, zero, suc, ◌+◌, ◌-◌, ◌<◌, ◌≤◌, Bool, true, false, List, [], ◌∷◌, length, take, drop, get_or, set, int_eq, ◌&&◌, Option, Some, None, inl, inr, ◌⊎◌, arith}
+use Rattle.std.proofs.Common.{◌≡◌, refl, ap, ◌∙◌, sym, subst, ℕ, zero, suc, ◌+◌, ◌-◌, ◌<◌, ◌≤◌, Bool, false, List, [], ◌∷◌, length, take, drop, get_or, set, Option, Some, None, inl, inr, ◌⊎◌, arith}
 use Rattle.std.specs.Prelude.{IfSome, IsTrue, MatchOption, ◌≢◌}
 use Rattle.std.proofs.lemmas.Bool.{cases_lt}
-use Rattle.std.proofs.lemmas.Int.{ints}
 use Rattle.std.proofs.lemmas.List.{length-take-le, length-drop, get_or-take, get_or-drop}
-use Rattle.rd_geom.specs.Plane.{Rectangle, IsWithin}
-use Rattle.rd_list.specs.Blocks.{IsHeld, AreHeld, Tells, Covers, total, leaf_count, ChangesTo, IsAt, IsFound, IsLeaf, IsLeafAt}
-use Rattle.rd_list.proofs.Covering.{leaf_held, count_append}
+use Rattle.rd_geom.specs.Plane.{Rectangle}
+use Rattle.rd_keys.specs.declared.range.KeyRange.{KeyRange}
+use Rattle.rd_list.specs.Blocks.{IsHeld, AreHeld, AreNamed, IsTold, IsWider, Tells, Covers, total, leaf_count, ChangesTo, IsAt, IsFound, IsLeaf}
+use Rattle.rd_list.specs.KeptView.{kept_entries}
+use Rattle.rd_list.proofs.Covering.{count_append, held_wider, named_on}
 use Rattle.rd_list.specs.declared.blocks.Block.{Block}
+use Rattle.rd_list.specs.declared.told.Told.{Told}
 use Rattle.rd_list.specs.declared.kept.Entry.{Entry}
 use Rattle.rd_list.specs.declared.kept.Entry.TheVariants.{Leaf, Group}
 
 clash : (b : Bool) → b ≡ false → IsTrue b → ⊥
 clash b f t = cc
-
--- rectangles that the program finds the same are the same
-pub same_rect : (a b : Rectangle) → (int_eq a.x b.x && (int_eq a.y b.y && (int_eq a.w b.w && int_eq a.h b.h))) ≡ true → a ≡ b
-same_rect a b e =
-    let left : a.x ≡ b.x = grind (arith, ints) in
-    let top : a.y ≡ b.y = grind (arith, ints) in
-    let wide : a.w ≡ b.w = grind (arith, ints) in
-    let high : a.h ≡ b.h = grind (arith, ints) in
-    λ i. record { x = left i; y = top i; w = wide i; h = high i }
 
 -- what stands at a place of a list, whatever is read where there is none
 pub read_any : {X : Type 0} (xs : List X) (i : ℕ) (x y : X) → i < length xs → x ≡ get_or xs i x → y ≡ get_or xs i y → x ≡ y
@@ -40,6 +33,22 @@ module _ {A : Type 0} where
   pub held_by : (r : Rectangle) (es : List (Entry A)) → ((k : ℕ) (x : Entry A) → k < length es → x ≡ get_or es k x → IsHeld r x) → AreHeld r es
   held_by r [] f = tt
   held_by r (y ∷ es) f = (f 0 y (omega arith) refl, held_by r es (λ k x l e. f (suc k) x (omega (arith, l)) e))
+
+  -- the names of one entry are among these
+  abbrev IsNamed : KeyRange → Entry A → Type 0
+  IsNamed r e = AreNamed r (kept_entries (e ∷ []))
+
+  pub named_at : (r : KeyRange) (es : List (Entry A)) → AreNamed r (kept_entries es) → (k : ℕ) (x : Entry A) → k < length es → x ≡ get_or es k x → IsNamed r x
+  named_at r [] h k x l e = absurd (omega (arith, l))
+  named_at r (Leaf i ∷ es) h zero x l e = subst (IsNamed r) (sym e) (h.0, tt)
+  named_at r (Group g ∷ es) h zero x l e = subst (IsNamed r) (sym e) (h.0, h.1, h.2, tt)
+  named_at r (Leaf i ∷ es) h (suc k) x l e = named_at r es h.1 k x (omega (arith, l)) e
+  named_at r (Group g ∷ es) h (suc k) x l e = named_at r es h.3 k x (omega (arith, l)) e
+
+  named_by : (r : KeyRange) (es : List (Entry A)) → ((k : ℕ) (x : Entry A) → k < length es → x ≡ get_or es k x → IsNamed r x) → AreNamed r (kept_entries es)
+  named_by r [] f = tt
+  named_by r (Leaf i ∷ es) f = ((f 0 (Leaf i) (omega arith) refl).0, named_by r es (λ k x l e. f (suc k) x (omega (arith, l)) e))
+  named_by r (Group g ∷ es) f = let h = f 0 (Group g) (omega arith) refl in (h.0, h.1, h.2, named_by r es (λ k x l e. f (suc k) x (omega (arith, l)) e))
 
   same_lists : (xs ys : List (Entry A)) → length xs ≡ length ys → ((k : ℕ) (d : Entry A) → k < length xs → get_or xs k d ≡ get_or ys k d) → xs ≡ ys
   same_lists [] [] e f = refl
@@ -88,18 +97,19 @@ module _ {A : Type 0} where
 
   -- ---- an entry comes to a place
 
-  held_put : (r : Rectangle) (n place : ℕ) (xs ys : List (Entry A)) → n ≤ length xs → length xs ≡ length ys → ((k : ℕ) (d : Entry A) → k ≢ place → get_or ys k d ≡ get_or xs k d)
-      → ((x : Entry A) → place < length ys → x ≡ get_or ys place x → IsHeld r x) → AreHeld r (take n xs) → AreHeld r (take n ys)
-  held_put r n place xs ys l e f g h =
+  -- what holds of each of the first entries, and of the one that comes
+  put_all : (P : Entry A → Type 0) (n place : ℕ) (xs ys : List (Entry A)) → n ≤ length xs → length xs ≡ length ys → ((k : ℕ) (d : Entry A) → k ≢ place → get_or ys k d ≡ get_or xs k d)
+      → ((x : Entry A) → place < length ys → x ≡ get_or ys place x → P x) → ((k : ℕ) (x : Entry A) → k < length (take n xs) → x ≡ get_or (take n xs) k x → P x)
+      → (k : ℕ) (x : Entry A) → k < length (take n ys) → x ≡ get_or (take n ys) k x → P x
+  put_all P n place xs ys l e f g h k x m is =
       let a = length-take-le n xs l in
       let b = length-take-le n ys (omega (arith, l, e)) in
-      held_by r (take n ys) (λ k x m is.
       let j : k < n = omega (arith, m, b) in
       let at : x ≡ get_or ys k x = is ∙ get_or-take n ys k x j in
       elim (sides k) [
         | inl same ↦ g x (omega (arith, same, j, l, e)) (at ∙ ap (λ p. get_or ys p x) same)
-        | inr other ↦ held_at r (take n xs) h k x (omega (arith, j, a)) (at ∙ f k x other ∙ sym (get_or-take n xs k x j))
-      ])
+        | inr other ↦ h k x (omega (arith, j, a)) (at ∙ f k x other ∙ sym (get_or-take n xs k x j))
+      ]
     where
       sides : (k : ℕ) → (k ≡ place) ⊎ (k ≢ place)
       sides k = elim (cases_lt k place) [
@@ -110,10 +120,6 @@ module _ {A : Type 0} where
   leaf_one : (x : Entry A) → IsLeaf x → leaf_count (x ∷ []) ≡ 1
   leaf_one (Leaf i) l = refl
   leaf_one (Group g) l = absurd l
-
-  is_leaf : (x : Entry A) (r : Rectangle) → IsLeafAt x r → IsLeaf x
-  is_leaf (Leaf i) r l = tt
-  is_leaf (Group g) r l = l
 
   count_cons : (x : Entry A) (xs : List (Entry A)) → leaf_count (x ∷ xs) ≡ leaf_count (x ∷ []) + leaf_count xs
   count_cons x xs = count_append (x ∷ []) xs
@@ -135,9 +141,9 @@ module _ {A : Type 0} where
   -- what a block must be that stands in place of another
   pub record Serves (b new : Block) (x y : Entry A) : Type 0 where
     pub count : new.count ≡ b.count
-    pub closed : new.is_open ≡ false → (b ≡ new) × IsHeld new.hull x × IsLeaf x × IsLeaf y
+    pub closed : new.is_open ≡ false → (b ≡ new) × IsHeld new.told.hull x × IsLeaf x × IsLeaf y × IsNamed new.told.keys x
 
-  read_some : (zs : List (Entry A)) (i : ℕ) → i < length zs → (x : Entry A) × (x ≡ get_or zs i x)
+  pub read_some : (zs : List (Entry A)) (i : ℕ) → i < length zs → (x : Entry A) × (x ≡ get_or zs i x)
   read_some [] i q = absurd (omega (arith, q))
   read_some (u ∷ us) zero q = (u, refl)
   read_some (u ∷ us) (suc i) q = read_some us i (omega (arith, q))
@@ -165,8 +171,11 @@ module _ {A : Type 0} where
           let old = read_some xs place (omega (arith, there, e)) in
           let all = (serves some.0 old.0 there some.1 old.1).closed o in
           let was : Tells new (take b.count xs) = subst (λ z. Tells z (take b.count xs)) all.0 (c.1 (ap (λ z. z.is_open) all.0 ∙ o)) in (
-            held_put new.hull b.count place xs ys m e f (λ x q is. ((serves x old.0 q is old.1).closed o).1) was.0,
+            held_by new.told.hull (take b.count ys)
+                (put_all (IsHeld new.told.hull) b.count place xs ys m e f (λ x q is. ((serves x old.0 q is old.1).closed o).1) (held_at new.told.hull (take b.count xs) was.0)),
             count_put b.count place xs ys inside m e f (λ y is. ((serves some.0 y there some.1 is).closed o).3) (λ x is. ((serves x old.0 there is old.1).closed o).2) ∙ was.1,
+            named_by new.told.keys (take b.count ys)
+                (put_all (IsNamed new.told.keys) b.count place xs ys m e f (λ x q is. ((serves x old.0 q is old.1).closed o).4) (named_at new.told.keys (take b.count xs) was.2)),
           )
   covers_put (b ∷ bs) xs ys (suc at) start place new c s l h w e f =
       let m = c.0 in
@@ -192,23 +201,26 @@ module _ {A : Type 0} where
   pub opened_serves : (b new : Block) (x y : Entry A) → new.count ≡ b.count → IsTrue new.is_open → Serves b new x y
   opened_serves b new x y e t = record { count = e; closed = λ f. absurd (clash new.is_open f t) }
 
-  -- one with the leaf in its hull stays, where another leaf was
-  pub same_serves : (b : Block) (rect : Option Rectangle) (x y : Entry A) → MatchOption rect ⊥ (λ r. IsWithin r b.hull) → IfSome rect (λ r. IsLeafAt x r × IsLeaf y) → Serves b b x y
+  -- one that says of the leaf all that is told of it stays, where another leaf was
+  pub same_serves : (b : Block) (told : Option Told) (x y : Entry A) → MatchOption told ⊥ (λ t. IsWider t b.told) → IfSome told (λ t. IsTold t (x ∷ []) × IsLeaf x × IsLeaf y) → Serves b b x y
   same_serves b None x y a h = absurd a
-  same_serves b (Some r) x y a h = record { count = refl; closed = λ f. (refl, leaf_held r b.hull x h.0 a, is_leaf x r h.0, h.1) }
+  same_serves b (Some t) x y a h = record {
+    count = refl;
+    closed = λ f. (refl, held_wider t.hull b.told.hull x a.hull h.0.0.0, h.1, h.2, named_on t.keys b.told.keys (x ∷ []) a.keys h.0.2);
+  }
 
   -- an entry comes to a place of a block, which is another one then, or the same
-  pub put_found : (bs : List Block) (at start place : ℕ) (rect : Option Rectangle) (new : Block) → at < length bs → IsAt bs at start → IsFound bs at start place
-      → ((b : Block) → b ≡ get_or bs at b → (x y : Entry A) → IfSome rect (λ r. IsLeafAt x r × IsLeaf y) → Serves b new x y) → ((b : Block) → b ≡ get_or bs at b → new.count ≡ b.count)
-      → (xs ys : List (Entry A)) → Covers bs xs → ChangesTo place rect xs ys → Covers (set bs at new) ys
-  put_found bs at start place rect new h a found serves count xs ys c to =
+  pub put_found : (bs : List Block) (at start place : ℕ) (told : Option Told) (new : Block) → at < length bs → IsAt bs at start → IsFound bs at start place
+      → ((b : Block) → b ≡ get_or bs at b → (x y : Entry A) → IfSome told (λ t. IsTold t (x ∷ []) × IsLeaf x × IsLeaf y) → Serves b new x y) → ((b : Block) → b ≡ get_or bs at b → new.count ≡ b.count)
+      → (xs ys : List (Entry A)) → Covers bs xs → ChangesTo place told xs ys → Covers (set bs at new) ys
+  put_found bs at start place told new h a found serves count xs ys c to =
       covers_put bs xs ys at start place new c a.1 found.0 h
       (λ b is. (found.1 b h is, (λ x y l e d. serves b is x y (to.there x y l e d)), count b is))
       (sym to.size) to.others
 
   -- no block has the place
-  pub put_past : (bs : List Block) (at start place : ℕ) (rect : Option Rectangle) → length bs ≤ at → IsAt bs at start → IsFound bs at start place → (xs ys : List (Entry A)) → Covers bs xs → ChangesTo place rect xs ys → Covers bs ys
-  put_past bs at start place rect h a found xs ys c to =
+  pub put_past : (bs : List Block) (at start place : ℕ) (told : Option Told) → length bs ≤ at → IsAt bs at start → IsFound bs at start place → (xs ys : List (Entry A)) → Covers bs xs → ChangesTo place told xs ys → Covers bs ys
+  put_past bs at start place told h a found xs ys c to =
       let s = a.1 in
       let l = found.0 in
       let whole : total (take at bs) ≡ total bs = ap total (take_whole bs at h) in

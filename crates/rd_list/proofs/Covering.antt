@@ -1,12 +1,17 @@
 -- Blocks, one after another.
-use Rattle.std.proofs.Common.{◌≡◌, refl, ap, ◌∙◌, sym, subst, ℕ, zero, suc, ◌+◌, ◌-◌, ◌<◌, ◌≤◌, false, List, [], ◌∷◌, ◌++◌, length, take, drop, get_or, Option, None, Some, arith}
-use Rattle.std.specs.Prelude.{IfSome}
+use Rattle.std.proofs.Common.{◌≡◌, refl, ap, ◌∙◌, sym, subst, ℕ, ℤ, zero, suc, ◌+◌, ◌+ℤ◌, ◌-◌, ◌<◌, ◌==◌, ◌≤◌, ◌≤ℤ◌, Bool, true, false, ◌&&◌, List, [], ◌∷◌, ◌++◌, length, take, drop, get_or, Option, None, Some, arith, rules}
+use Rattle.std.specs.Prelude.{IfSome, IsTrue}
+use Rattle.std.proofs.lemmas.Int.{ints}
 use Rattle.std.proofs.lemmas.List.{length-append, length-take-le, length-drop, take-append-le, drop-append-le, take-append-drop, take_more}
-use Rattle.rd_geom.specs.Plane.{Rectangle, IsWithin}
+use Rattle.rd_geom.specs.Plane.{Rectangle, IsWithin, is_among}
 use Rattle.rd_item.specs.Items.{Made}
-use Rattle.rd_list.specs.Blocks.{IsHeld, AreHeld, AreWithin, IsListTold, IsTold, Tells, Covers, CoversAll, total, leaf_count, IsAt, IsLeafAt}
+use Rattle.rd_list.specs.Blocks.{IsHeld, AreHeld, AreNamed, AreWithin, IsGroupTold, IsListTold, IsTold, Tells, Covers, CoversAll, total, leaf_count, IsAt}
+use Rattle.rd_list.specs.Internal.Telling.{IsBoth}
+use Rattle.rd_keys.specs.Keys.{BoxKey}
+use Rattle.rd_keys.specs.Ranges.{IsAmong}
 use Rattle.rd_keys.specs.declared.entry.EntryKey.{EntryKey}
-use Rattle.rd_list.specs.Entries.{Entries, flat}
+use Rattle.rd_keys.specs.declared.range.KeyRange.{KeyRange}
+use Rattle.rd_list.specs.Entries.{Entries, nil, leaf, group, flat, is_empty, ◌▷◌}
 use Rattle.rd_list.specs.Kept.{Ordered}
 use Rattle.rd_list.specs.Wrappers.{Wrapper}
 use Rattle.rd_list.specs.KeptView.{kept_entries}
@@ -14,7 +19,7 @@ use Rattle.rd_list.specs.declared.kept.Group.{Group as GroupOf}
 use Rattle.rd_list.proofs.Levelling.{flat-join}
 use Rattle.rd_list.proofs.News.{kept-append}
 use Rattle.rd_list.specs.declared.blocks.Block.{Block}
-use Rattle.rd_list.specs.declared.blocks.Told.{Told}
+use Rattle.rd_list.specs.declared.told.Told.{Told}
 use Rattle.rd_list.specs.declared.kept.Entry.{Entry}
 use Rattle.rd_list.specs.declared.kept.Entry.TheVariants.{Leaf, Group}
 
@@ -32,6 +37,27 @@ at_next bs i start place n b h is e at l c =
     let t = total_next bs i b h is in
     ((omega (arith, h), omega (arith, s, t, e)), omega (arith, l, c))
 
+not_none : (n : ℕ) → (suc n == 0) ≡ false
+not_none n = search rules
+
+parts_true : (p q : Bool) → IsTrue (p && q) → IsTrue p × IsTrue q
+parts_true true true t = (t, t)
+parts_true true false t = absurd (let no : false ≡ true = t in cc)
+parts_true false q t = absurd (let no : false ≡ true = t in cc)
+
+all_true : (p q : Bool) → IsTrue p → IsTrue q → IsTrue (p && q)
+all_true true q t u = u
+all_true false q t u = t
+
+among_wider : (l n m k v : ℤ) → m ≤ℤ l → (l +ℤ n) ≤ℤ (m +ℤ k) → IsTrue (is_among l n v) → IsTrue (is_among m k v)
+among_wider l n m k v a b t = grind (arith, ints)
+
+-- a rectangle in another, by their edges
+pub edges_within : (a b : Rectangle) → b.x ≤ℤ a.x → b.y ≤ℤ a.y → (a.x +ℤ a.w) ≤ℤ (b.x +ℤ b.w) → (a.y +ℤ a.h) ≤ℤ (b.y +ℤ b.h) → IsWithin a b
+edges_within a b left top wide high x y t =
+    let both = parts_true (is_among a.x a.w x) (is_among a.y a.h y) t in
+    all_true (is_among b.x b.w x) (is_among b.y b.h y) (among_wider a.x a.w b.x b.w x left wide both.0) (among_wider a.y a.h b.y b.h y top high both.1)
+
 -- in a wider rectangle
 within_wider : (r s : Rectangle) (ms : List Made) → IsWithin r s → AreWithin r ms → AreWithin s ms
 within_wider r s [] w h = tt
@@ -41,10 +67,26 @@ within_both : (r : Rectangle) (ms ns : List Made) → AreWithin r ms → AreWith
 within_both r [] ns h k = k
 within_both r (m ∷ ms) ns h k = (h.0, within_both r ms ns h.1 k)
 
+-- among more names
+named_wider : (r s : KeyRange) (xs : Entries (Ordered EntryKey Wrapper) Made) → ((k : BoxKey) → IsAmong r k → IsAmong s k) → AreNamed r xs → AreNamed s xs
+named_wider r s nil w h = tt
+named_wider r s (leaf m rest) w h = (w m.leaf.owner h.0, named_wider r s rest w h.1)
+named_wider r s (group g inner rest) w h = (w g.of.key h.0, h.1, named_wider r s inner w h.2, named_wider r s rest w h.3)
+
+named_both : (r : KeyRange) (xs ys : Entries (Ordered EntryKey Wrapper) Made) → AreNamed r xs → AreNamed r ys → AreNamed r (xs ▷ ys)
+named_both r nil ys h k = k
+named_both r (leaf m rest) ys h k = (h.0, named_both r rest ys h.1 k)
+named_both r (group g inner rest) ys h k = (h.0, h.1, h.2, named_both r rest ys h.3 k)
+
+-- what is told of a list, and the key of its group beside
+pub with_key : (t : Told) (keys : KeyRange) (key : BoxKey) (list : Entries (Ordered EntryKey Wrapper) Made) → ((k : BoxKey) → IsAmong t.keys k → IsAmong keys k) → IsAmong keys key → is_empty list ≡ false → IsListTold t list
+    → IsGroupTold (record { hull = t.hull; leaves = t.leaves; keys = keys }) key list
+with_key t keys key list w k e h = ((h.0, h.1, named_wider t.keys keys list w h.2), k, e)
+
 module _ {A : Type 0} where
   -- ---- what is told of entries
 
-  held_wider : (r s : Rectangle) (e : Entry A) → IsWithin r s → IsHeld r e → IsHeld s e
+  pub held_wider : (r s : Rectangle) (e : Entry A) → IsWithin r s → IsHeld r e → IsHeld s e
   held_wider r s (Leaf i) w h = λ x y t. w x y (h x y t)
   held_wider r s (Group g) w h = within_wider r s (flat g.inner.entries) w h
 
@@ -65,39 +107,43 @@ module _ {A : Type 0} where
   pub count_append : (xs ys : List (Entry A)) → leaf_count (xs ++ ys) ≡ leaf_count xs + leaf_count ys
   count_append xs ys = ap (λ zs. length (flat zs)) (kept-append xs ys) ∙ ap length (flat-join (kept_entries xs) (kept_entries ys)) ∙ length-append (flat (kept_entries xs)) (flat (kept_entries ys))
 
-  -- what is told of some entries and of those after them
-  pub told_both : (r s t : Rectangle) (m n k : ℕ) (xs ys : List (Entry A)) → IsTold r m xs → IsTold s n ys → IsWithin r t → IsWithin s t → k ≡ m + n → IsTold t k (xs ++ ys)
-  told_both r s t m n k xs ys a b v w e =
-      let c = count_append xs ys in
-      let f = a.1 in
-      let g = b.1 in
-      (all_held t xs ys (all_wider r t xs v a.0) (all_wider s t ys w b.0), omega (arith, c, e, f, g))
+  -- of names that more are among, one entry after another
+  pub named_on : (r s : KeyRange) (es : List (Entry A)) → ((k : BoxKey) → IsAmong r k → IsAmong s k) → AreNamed r (kept_entries es) → AreNamed s (kept_entries es)
+  named_on r s es w h = named_wider r s (kept_entries es) w h
 
-  -- an entry more
-  pub told_next : (r s t : Rectangle) (m n k : ℕ) (es : List (Entry A)) (i : ℕ) (x : Entry A) → i < length es → x ≡ get_or es i x → IsTold r m (take i es) → IsTold s n (x ∷ []) → IsWithin r t → IsWithin s t → k ≡ m + n → IsTold t k (take (i + 1) es)
-  told_next r s t m n k es i x h is a b v w e =
-      subst (IsTold t k) (sym (take_more es i x h ∙ ap (λ (y : Entry A). take i es ++ y ∷ []) (sym is))) (told_both r s t m n k (take i es) (x ∷ []) a b v w e)
+  -- what is told of some entries and of those after them
+  pub told_both : (a b t : Told) (xs ys : List (Entry A)) → IsTold a xs → IsTold b ys → IsBoth a b t → IsTold t (xs ++ ys)
+  told_both a b t xs ys h k j =
+      let c = count_append xs ys in
+      let f = h.1 in
+      let g = k.1 in
+      let e = j.leaves in (
+        all_held t.hull xs ys (all_wider a.hull t.hull xs j.left.hull h.0) (all_wider b.hull t.hull ys j.right.hull k.0),
+        omega (arith, c, e, f, g),
+        subst (AreNamed t.keys) (sym (kept-append xs ys)) (named_both t.keys (kept_entries xs) (kept_entries ys) (named_on a.keys t.keys xs j.left.keys h.2) (named_on b.keys t.keys ys j.right.keys k.2)),
+      )
 
   -- what is told of some entries and of one more, if it can be told
-  pub told_if : (o : Option Told) (r s : Rectangle) (m n : ℕ) (es : List (Entry A)) (x : Entry A) → IfSome o (λ t. IsWithin r t.hull) → IfSome o (λ t. IsWithin s t.hull) → IfSome o (λ t. t.leaves ≡ m + n)
-      → IsTold r m es → IsTold s n (x ∷ []) → IfSome o (λ t. IsTold t.hull t.leaves (es ++ x ∷ []))
-  told_if None r s m n es x v w e a b = tt
-  told_if (Some t) r s m n es x v w e a b = told_both r s t.hull m n t.leaves es (x ∷ []) a b v w e
-
-  pub leaf_held : (r s : Rectangle) (e : Entry A) → IsLeafAt e r → IsWithin r s → IsHeld s e
-  leaf_held r s (Leaf i) e w = subst (λ (q : Rectangle). IsWithin q s) (sym e) w
-  leaf_held r s (Group g) e w = absurd e
+  pub told_if : (o : Option Told) (a b : Told) (es : List (Entry A)) (x : Entry A) → IfSome o (IsBoth a b) → IsTold a es → IsTold b (x ∷ []) → IfSome o (λ t. IsTold t (es ++ x ∷ []))
+  told_if None a b es x j h k = tt
+  told_if (Some t) a b es x j h k = told_both a b t es (x ∷ []) h k j
 
   -- a list, by what is told of its entries
-  pub told_list : (r : Rectangle) (n : ℕ) (es : List (Entry A)) (list : Entries (Ordered EntryKey Wrapper) Made) → kept_entries es ≡ list → IsTold r n es → IsListTold r n list
-  told_list r n es list e t = subst (IsListTold r n) e (held_leaves r es t.0, t.1)
+  pub told_list : (t : Told) (es : List (Entry A)) (list : Entries (Ordered EntryKey Wrapper) Made) → kept_entries es ≡ list → IsTold t es → IsListTold t list
+  told_list t es list e h = subst (IsListTold t) e (held_leaves t.hull es h.0, h.1, h.2)
+
+  -- a level without entries
+  pub none_is_empty : (es : List (Entry A)) → (length es == 0) ≡ is_empty (kept_entries es)
+  none_is_empty [] = refl
+  none_is_empty (Leaf i ∷ es) = not_none (length es)
+  none_is_empty (Group g ∷ es) = not_none (length es)
 
   -- a group, by what is told of its list
-  pub told_group : (r : Rectangle) (n : ℕ) (g : GroupOf A) (x : Entry A) → x ≡ Group g → IsListTold r n g.inner.entries → IsTold r n (x ∷ [])
-  told_group r n g x is t =
-      let count = t.1 in
+  pub told_group : (t : Told) (g : GroupOf A) (x : Entry A) → x ≡ Group g → IsGroupTold t g.key g.inner.entries → IsTold t (x ∷ [])
+  told_group t g x is h =
+      let count = h.0.1 in
       let end = length-append (flat g.inner.entries) [] in
-      rw is ((t.0, tt), omega (arith, count, end))
+      rw is ((h.0.0, tt), omega (arith, count, end), (h.1, h.2, h.0.2, tt))
 
   -- ---- blocks one after another
 

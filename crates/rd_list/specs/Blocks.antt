@@ -1,14 +1,18 @@
--- Blocks of the entries of a level, each with where all that may be seen of its entries lies.
+-- Blocks of the entries of a level, and what each tells of its entries.
 -- All of it is this project's own choice.
 use Rattle.std.specs.Prelude.{◌≡◌, ℕ, ◌+◌, ◌≤◌, false, ◌<◌, ◌≢◌, IfSome, Option, List, [], ◌∷◌, length, take, drop, slice_index_or}
 use Rattle.rd_geom.specs.Plane.{Rectangle, IsWithin}
 use Rattle.rd_item.specs.Items.{Made}
+use Rattle.rd_keys.specs.Keys.{BoxKey}
+use Rattle.rd_keys.specs.Ranges.{IsAmong}
 use Rattle.rd_keys.specs.declared.entry.EntryKey.{EntryKey}
-use Rattle.rd_list.specs.Entries.{Entries, flat}
+use Rattle.rd_keys.specs.declared.range.KeyRange.{KeyRange}
+use Rattle.rd_list.specs.Entries.{Entries, nil, leaf, group, flat, is_empty}
 use Rattle.rd_list.specs.Kept.{Ordered}
 use Rattle.rd_list.specs.Wrappers.{Wrapper}
 use Rattle.rd_list.specs.KeptView.{kept_entries}
 use Rattle.rd_list.specs.declared.blocks.Block.{Block}
+use Rattle.rd_list.specs.declared.told.Told.{Told}
 use Rattle.rd_list.specs.declared.kept.Entry.{Entry}
 use Rattle.rd_list.specs.declared.kept.Entry.TheVariants.{Leaf, Group}
 
@@ -30,20 +34,26 @@ abbrev pub AreWithin : Rectangle → List Made → Type 0
 AreWithin hull [] = Unit {0}
 AreWithin hull (m ∷ ms) = IsWithin m.leaf.visible hull × AreWithin hull ms
 
--- where all that may be seen of a list lies, and how many leaves it has
-abbrev pub IsListTold : Rectangle → ℕ → Entries (Ordered EntryKey Wrapper) Made → Type 0
-IsListTold hull leaves list = AreWithin hull (flat list) × (length (flat list) ≡ leaves)
+-- the boxes of some leaves and of the groups round them are among these, and no group is empty
+abbrev pub AreNamed : KeyRange → Entries (Ordered EntryKey Wrapper) Made → Type 0
+AreNamed keys nil = Unit {0}
+AreNamed keys (leaf m rest) = IsAmong keys m.leaf.owner × AreNamed keys rest
+AreNamed keys (group g inner rest) = IsAmong keys g.of.key × (is_empty inner ≡ false) × AreNamed keys inner × AreNamed keys rest
+
+-- what is told of a list
+abbrev pub IsListTold : Told → Entries (Ordered EntryKey Wrapper) Made → Type 0
+IsListTold t list = AreWithin t.hull (flat list) × (length (flat list) ≡ t.leaves) × AreNamed t.keys list
+
+-- what is told of the group of a box with a list
+abbrev pub IsGroupTold : Told → BoxKey → Entries (Ordered EntryKey Wrapper) Made → Type 0
+IsGroupTold t key list = IsListTold t list × IsAmong t.keys key × (is_empty list ≡ false)
+
+-- the second says of other entries all that the first does
+pub record IsWider (told wider : Told) : Type 0 where
+  pub hull : IsWithin told.hull wider.hull
+  pub keys : (k : BoxKey) → IsAmong told.keys k → IsAmong wider.keys k
 
 module _ {A : Type 0} where
-  -- an entry is a leaf, and this rectangle may be seen of it
-  abbrev pub IsLeafAt : Entry A → Rectangle → Type 0
-  IsLeafAt (Leaf i) r = i.leaf.visible ≡ r
-  IsLeafAt (Group g) r = ⊥
-
-  abbrev pub IsGroup : Entry A → Type 0
-  IsGroup (Leaf i) = ⊥
-  IsGroup (Group g) = Unit {0}
-
   -- all that may be seen of an entry is in the rectangle
   abbrev pub IsHeld : Rectangle → Entry A → Type 0
   IsHeld hull (Leaf i) = IsWithin i.leaf.visible hull
@@ -58,13 +68,13 @@ module _ {A : Type 0} where
   abbrev pub leaf_count : List (Entry A) → ℕ
   leaf_count es = length (flat (kept_entries es))
 
-  -- where all that may be seen of entries lies, and how many leaves they are or hold
-  abbrev pub IsTold : Rectangle → ℕ → List (Entry A) → Type 0
-  IsTold hull leaves es = AreHeld hull es × (leaf_count es ≡ leaves)
+  -- what is told of entries
+  abbrev pub IsTold : Told → List (Entry A) → Type 0
+  IsTold t es = AreHeld t.hull es × (leaf_count es ≡ t.leaves) × AreNamed t.keys (kept_entries es)
 
   -- What a block that is not open says of its entries.
   abbrev pub Tells : Block → List (Entry A) → Type 0
-  Tells b es = IsTold b.hull b.leaves es
+  Tells b es = IsTold b.told es
 
   -- Blocks one after another are those of the first entries of a level.
   abbrev pub Covers : List Block → List (Entry A) → Type 0
@@ -79,8 +89,8 @@ module _ {A : Type 0} where
   IsLeaf (Leaf i) = Unit {0}
   IsLeaf (Group g) = ⊥
 
-  -- A level with another entry at a place: if a rectangle is told, one leaf for another, of which this may be seen.
-  pub record ChangesTo (place : ℕ) (rect : Option Rectangle) (old new : List (Entry A)) : Type 0 where
+  -- A level with another entry at a place: if something is told, one leaf for another, of which it is told.
+  pub record ChangesTo (place : ℕ) (told : Option Told) (old new : List (Entry A)) : Type 0 where
     pub size : length new ≡ length old
     pub others : (k : ℕ) (d : Entry A) → k ≢ place → slice_index_or new k d ≡ slice_index_or old k d
-    pub there : (x y : Entry A) → place < length new → x ≡ slice_index_or new place x → y ≡ slice_index_or old place y → IfSome rect (λ r. IsLeafAt x r × IsLeaf y)
+    pub there : (x y : Entry A) → place < length new → x ≡ slice_index_or new place x → y ≡ slice_index_or old place y → IfSome told (λ t. IsTold t (x ∷ []) × IsLeaf x × IsLeaf y)

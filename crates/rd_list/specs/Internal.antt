@@ -9,3 +9,4 @@ pub mod NewFalls
 pub mod Piled
 pub mod NestedCode
 pub mod PileFalls
+pub mod Telling

@@ -1,12 +1,11 @@
 //! The block of a place. It is sought from the one that was found last, since places mostly rise.
 ghost use Rattle.std.specs.Prelude.{◌≡◌, ◌<◌, ◌≤◌, ◌+◌, IsTrue, MatchOption, List, length, take, drop, false};
-ghost use Rattle.rd_geom.specs.Plane.{IsWithin};
-ghost use Rattle.rd_list.specs.Blocks.{ChangesTo, Covers, IsAt, IsFound, Tells};
+ghost use Rattle.rd_list.specs.Blocks.{ChangesTo, Covers, IsAt, IsFound, IsWider, Tells};
 ghost use Rattle.rd_list.specs.declared.kept.Entry.{Entry};
 
 use crate::blocks::{Block, open_block};
 use crate::kept::Entry;
-use rd_geom::{Rect, hull};
+use crate::told::{Told, is_wider};
 use std::sync::ledger::Ledger;
 
 /// How many blocks stand before the one that was found last, and how many entries they have.
@@ -50,34 +49,35 @@ fn find_block(blocks: &[Block], last: Seek, place: usize) -> Seek
     now
 }
 
-/// Is another leaf in the hull of the block, of which this rectangle may be seen?
+/// Does the block say of another leaf all that is told of it?
 #[inline(always)]
-fn admits(block: &Block, rect: Option<Rect>) -> bool
-    ensures { IsTrue result → MatchOption rect ⊥ (λ r. IsWithin r block.now.hull) }
+fn admits(block: &Block, told: Option<Told>) -> bool
+    ensures { IsTrue result → MatchOption told ⊥ (λ t. IsWider t block.now.told) }
 {
-    match rect {
-        Some(rect) => hull(block.hull, rect) == block.hull,
+    match told {
+        Some(told) => is_wider(told, block.told),
         None => false,
     }
 }
 
-/// Another entry comes to a place: one leaf for another if a rectangle is told, which may be seen of it. The block of the place
-/// stays as it is if that is in its hull, and otherwise it is open.
+/// Another entry comes to a place: one leaf for another, if something is told of it. The block of the place stays as it is if it
+/// says so of the new leaf too, and otherwise it is open.
+#[inline(always)]
 pub fn admit<A: Ledger>(
     blocks: &mut Vec<Block>,
     last: Seek,
     place: usize,
-    rect: Option<Rect>,
+    told: Option<Told>,
 ) -> Seek
     requires { IsAt blocks.old.items last.at last.start }
     ensures at { IsAt blocks.new.items result.at result.start }
-    ensures covers { (xs ys : List (Entry A)) → Covers blocks.old.items xs → ChangesTo place rect xs ys
+    ensures covers { (xs ys : List (Entry A)) → Covers blocks.old.items xs → ChangesTo place told xs ys
         → Covers blocks.new.items ys }
 {
     let found = find_block(blocks, last, place);
     if found.at < blocks.len() {
         let block = blocks[found.at];
-        if !admits(&block, rect) {
+        if !admits(&block, told) {
             blocks[found.at] = open_block(block.count);
         }
     }

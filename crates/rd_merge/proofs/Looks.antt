@@ -18,8 +18,8 @@ use Rattle.rd_list.specs.declared.kept.Entry.TheVariants as kept
 use Rattle.rd_merge.specs.Going.{any_stays, is_untouched}
 use Rattle.rd_merge.specs.Looking.{any_goes, gone_places, inner_places, kept_names}
 use Rattle.rd_merge.specs.Internal.Looks.{NothingNoted, gone_at, goes_inside, inner_at, is_passed, name_of, noted}
-use Rattle.rd_merge.specs.Internal.Marks.{AreMarked, box_mark}
-use Rattle.rd_merge.proofs.Marked.{unmarked}
+use Rattle.rd_merge.specs.Internal.Marks.{AreMarked, box_mark, box_marks}
+use Rattle.rd_merge.proofs.Marked.{mark_small, unmarked}
 
 -- what is found entry by entry
 module _ {A B : Type 0} (all : ℕ → List A → List B) (none : (i : ℕ) → all i [] ≡ []) (step : (i : ℕ) (x : A) (xs : List A) → all i (x ∷ xs) ≡ all i (x ∷ []) ++ all (suc i) xs) where
@@ -45,7 +45,7 @@ placed-in (x ∷ xs) k = elim (same_entry x k) as (λ b. is_some (cond b (Some 0
     further None = refl
     further (Some n) = refl
 
-ends : (a b : Bool) → (a && b && false) ≡ false
+pub ends : (a b : Bool) → (a && b && false) ≡ false
 ends true true = refl
 ends true false = refl
 ends false b = refl
@@ -173,7 +173,7 @@ both true true e = (refl, refl)
 both true false e = absurd (cc)
 both false b e = absurd (cc)
 
-add_none : {B : Type 0} (xs ys : List B) → ys ≡ [] → xs ≡ xs ++ ys
+pub add_none : {B : Type 0} (xs ys : List B) → ys ≡ [] → xs ≡ xs ++ ys
 add_none xs ys e = sym (append-nil xs) ∙ ap (λ zs. xs ++ zs) (sym e)
 
 unset : (b : Bool) → not b ≡ true → b ≡ false
@@ -188,7 +188,7 @@ module _ {A : Type 0} (touched : BoxKey → Bool) (wide : Bool) (names : List En
   passed_found : (x : Entry A) (i : ℕ) (now : List (Option ℕ)) → is_passed touched wide marks x ≡ true → now ≡ noted (place_of same_entry names (name_of x)) i now
   passed_found (kept.Leaf m) i now p =
       let f = unset (get_or marks (box_mark wide m.leaf.owner) false) (both (not (get_or marks (box_mark wide m.leaf.owner) false)) (is_untouched touched m.leaf) p).0 in
-      ap (λ o. noted o i now) (sym (unmarked wide names marks are (name_of {A = A} (kept.Leaf m)) f))
+      ap (λ o. noted o i now) (sym (unmarked (box_mark wide) (box_marks wide) (mark_small wide) names marks are (name_of {A = A} (kept.Leaf m)) f))
   passed_found (kept.Group g) i now p = absurd (let no : false ≡ true = p in cc)
 
   passed_inner : (x : Entry A) (i : ℕ) (now : List ℕ) → is_passed touched wide marks x ≡ true → now ≡ now ++ inner_at touched names i x

@@ -7,40 +7,43 @@ use Rattle.rd_graph.specs.Names.{place_of, same_entry}
 use Rattle.rd_graph.proofs.Entries.{place_some, same_entry-sound, same_entry-refl}
 use Rattle.rd_graph.proofs.Listing.{cases, never}
 use Rattle.rd_graph.proofs.ListsAt.{same_place, other_place}
-use Rattle.rd_merge.specs.Internal.Marks.{AreMarked, box_mark, box_marks, box_of, name_marks}
+use Rattle.rd_merge.specs.Internal.Marks.{AreMarkedBy, box_mark, box_marks, box_of, name_marks, run_mark}
 
 pub mark_small : (wide : Bool) (k : BoxKey) → box_mark wide k < box_marks wide
 mark_small true k = omega arith
 mark_small false k = omega arith
 
-module _ (wide : Bool) (names : List EntryKey) where
-  mark_at : (i : ℕ) (d : EntryKey) → i < length names → get_or (name_marks wide names) i 0 ≡ box_mark wide (box_of (get_or names i d))
-  mark_at i d l = get_or-map (λ k. box_mark wide (box_of k)) names i d 0 l
+pub run_small : (k : BoxKey) → run_mark k < 512
+run_small k = omega arith
+
+module _ (at : BoxKey → ℕ) (count : ℕ) (small : (k : BoxKey) → at k < count) (names : List EntryKey) where
+  mark_at : (i : ℕ) (d : EntryKey) → i < length names → get_or (name_marks at names) i 0 ≡ at (box_of (get_or names i d))
+  mark_at i d l = get_or-map (λ k. at (box_of k)) names i d 0 l
 
   -- the mark of one more name is set
-  module _ (i : ℕ) (d : EntryKey) (mark : ℕ) (marks : List Bool) (l : i < length names) (is : mark ≡ box_mark wide (box_of (get_or names i d))) (size : length marks ≡ box_marks wide) where
+  module _ (i : ℕ) (d : EntryKey) (mark : ℕ) (marks : List Bool) (l : i < length names) (is : mark ≡ at (box_of (get_or names i d))) (size : length marks ≡ count) where
     pub mark_within : mark < length marks
-    mark_within = let s = mark_small wide (box_of (get_or names i d)) in omega (arith, s, is, size)
+    mark_within = let s = small (box_of (get_or names i d)) in omega (arith, s, is, size)
 
-    pub mark_next : ((j : ℕ) → j < i → get_or marks (get_or (name_marks wide names) j 0) false ≡ true) → (j : ℕ) → j < i + 1
-        → get_or (set marks mark true) (get_or (name_marks wide names) j 0) false ≡ true
-    mark_next was j b = elim (cases (mark == get_or (name_marks wide names) j 0)) [
-      | inl t ↦ subst (λ (m : ℕ). get_or (set marks mark true) m false ≡ true) (same_place mark (get_or (name_marks wide names) j 0) t) (get_or-set_same marks mark true false mark_within)
+    pub mark_next : ((j : ℕ) → j < i → get_or marks (get_or (name_marks at names) j 0) false ≡ true) → (j : ℕ) → j < i + 1
+        → get_or (set marks mark true) (get_or (name_marks at names) j 0) false ≡ true
+    mark_next was j b = elim (cases (mark == get_or (name_marks at names) j 0)) [
+      | inl t ↦ subst (λ (m : ℕ). get_or (set marks mark true) m false ≡ true) (same_place mark (get_or (name_marks at names) j 0) t) (get_or-set_same marks mark true false mark_within)
       | inr f ↦
-          let other = other_place mark (get_or (name_marks wide names) j 0) f in
-          let away : j ≡ i → ⊥ = λ q. other (is ∙ sym (mark_at i d l) ∙ ap (λ n. get_or (name_marks wide names) n 0) (sym q)) in
-          get_or-set_other marks mark (get_or (name_marks wide names) j 0) true false (λ q. other (sym q)) ∙ was j (less away)
+          let other = other_place mark (get_or (name_marks at names) j 0) f in
+          let away : j ≡ i → ⊥ = λ q. other (is ∙ sym (mark_at i d l) ∙ ap (λ n. get_or (name_marks at names) n 0) (sym q)) in
+          get_or-set_other marks mark (get_or (name_marks at names) j 0) true false (λ q. other (sym q)) ∙ was j (less away)
     ]
       where
         less : (j ≡ i → ⊥) → j < i
         less away = grind (arith, away, b)
 
-  pub unmarked : (marks : List Bool) → AreMarked wide names marks → (k : EntryKey) → get_or marks (box_mark wide (box_of k)) false ≡ false → place_of same_entry names k ≡ None
+  pub unmarked : (marks : List Bool) → AreMarkedBy at count names marks → (k : EntryKey) → get_or marks (at (box_of k)) false ≡ false → place_of same_entry names k ≡ None
   unmarked marks are k f = elim (place_of same_entry names k) as (λ o. place_of same_entry names k ≡ o → o ≡ None) [
     | None ↦ λ e. refl
     | Some p ↦ λ e.
         let r = place_some same_entry same_entry-sound same_entry-refl names k p e in
-        let m : get_or (name_marks wide names) p 0 ≡ box_mark wide (box_of k) = mark_at p k r.0 ∙ ap (λ z. box_mark wide (box_of z)) (r.1 k) in
-        let t : get_or marks (box_mark wide (box_of k)) false ≡ true = ap (λ z. get_or marks z false) (sym m) ∙ are.marked p r.0 in
-        absurd (never (get_or marks (box_mark wide (box_of k)) false) t f)
+        let m : get_or (name_marks at names) p 0 ≡ at (box_of k) = mark_at p k r.0 ∙ ap (λ z. at (box_of z)) (r.1 k) in
+        let t : get_or marks (at (box_of k)) false ≡ true = ap (λ z. get_or marks z false) (sym m) ∙ are.marked p r.0 in
+        absurd (never (get_or marks (at (box_of k)) false) t f)
   ] refl

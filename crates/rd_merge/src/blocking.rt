@@ -2,7 +2,7 @@
 ghost use Rattle.std.specs.Prelude.{◌≡◌, ℕ, ◌<◌, ◌≤◌, ◌+◌, ◌-◌, ◌++◌, ◌∷◌, [], IfNone, IfSome, List, length, take, drop, option_map, vec_len, vec_capacity};
 ghost use Rattle.rd_graph.specs.Gathered.{ArePlaces, IsLine, arranged, gathered};
 ghost use Rattle.rd_graph.specs.Runs.{places_of, up_from};
-ghost use Rattle.rd_list.specs.Blocks.{Covers, CoversAll, IsAt, IsLeaf, IsLeafAt};
+ghost use Rattle.rd_list.specs.Blocks.{Covers, CoversAll, IsAt, IsLeaf, IsTold};
 ghost use Rattle.rd_list.specs.declared.kept.Entry.{Entry as KeptEntry};
 ghost use Rattle.rd_list.specs.KeptView.{kept_entries};
 ghost use Rattle.rd_list.specs.Entries.{◌▷◌};
@@ -10,9 +10,8 @@ ghost use Rattle.rd_merge.specs.Plans.{IsPlace, one_made, put_entry};
 ghost use Rattle.rd_merge.specs.Internal.Moving.{ChangesAt, PartsTo, PartsAll};
 
 use crate::moving::put;
-use rd_geom::Rect;
 use rd_graph::Run;
-use rd_list::{Block, Entry, FIRST, Seek, admit, leaf_rect, part_at, push_block};
+use rd_list::{Block, Entry, FIRST, Seek, Told, admit, leaf_told, part_at, push_block};
 use std::sync::ledger::Ledger;
 
 /// Nothing is said any more of the block of a place, if one is given, since its entry goes.
@@ -27,18 +26,19 @@ pub(crate) fn clear<A: Ledger>(blocks: &mut Vec<Block>, last: Seek, place: Optio
     }
 }
 
-/// What may be seen of a new entry, where it is a leaf that comes for a leaf.
+/// What is told of a new entry, where it is a leaf that comes for a leaf.
 #[inline(always)]
-fn leaf_for_leaf<A: Ledger>(old: &Entry<A>, new: &Entry<A>) -> Option<Rect>
-    ensures { IfSome result (λ r. IsLeafAt new.now r × IsLeaf old.now) }
+fn leaf_for_leaf<A: Ledger>(old: &Entry<A>, new: &Entry<A>) -> Option<Told>
+    ensures { IfSome result (λ t. IsTold t (new.now ∷ []) × IsLeaf new.now × IsLeaf old.now) }
 {
     match old {
-        Entry::Leaf(_) => leaf_rect(new),
+        Entry::Leaf(_) => leaf_told(new),
         Entry::Group(_) => None,
     }
 }
 
 /// Puts an entry at its place, or on top of the ones that are made, and into the block of the place.
+#[inline(always)]
 pub(crate) fn put_in_block<A: Ledger>(
     blocks: &mut Vec<Block>,
     last: Seek,

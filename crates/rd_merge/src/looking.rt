@@ -2,19 +2,20 @@
 ghost use Rattle.std.specs.Prelude.{◌≡◌, ◌<◌, ◌≤◌, ◌+◌, ◌&&◌, not, true, if◌then◌else◌, [], ◌∷◌, ◌++◌, length, map, None, IfOk, IfSome, OnOk};
 ghost use Rattle.rd_graph.specs.Names.{place_of, same_entry};
 ghost use Rattle.rd_graph.specs.Orders.{Once};
+ghost use Rattle.rd_list.specs.Blocks.{Covers};
 ghost use Rattle.rd_list.specs.Entries.{is_empty};
 ghost use Rattle.rd_list.specs.EntryNames.{kept_leaves};
 ghost use Rattle.rd_list.specs.KeptView.{kept_entries};
-ghost use Rattle.rd_merge.specs.Internal.Looks.{NothingNoted, gone_at, goes_inside, has_touched, inner_at, is_passed, name_of, noted};
-ghost use Rattle.rd_merge.specs.Internal.Marks.{AreMarked, box_marks};
+ghost use Rattle.rd_merge.specs.Internal.Looks.{gone_at, goes_inside, has_touched, inner_at, name_of, noted};
 ghost use Rattle.rd_merge.specs.Internal.Sought.{AreChained};
 ghost use Rattle.rd_merge.specs.Looking.{IsLooked, kept_names};
 
 use crate::going::{Touches, key_of, stays_at};
-use crate::marks::{Marks, has_mark};
+use crate::marks::Marks;
+use crate::passing::next_noted;
 use crate::sought::Sought;
 use rd_keys::EntryKey;
-use rd_list::Entry;
+use rd_list::{Block, Entry, FIRST};
 use std::alloc::{AllocError, Global};
 use std::sync::ledger::Ledger;
 
@@ -97,106 +98,6 @@ fn push_if(places: &mut Vec<usize>, is_wanted: bool, place: usize) -> Result<(),
     Ok(())
 }
 
-/// Is it a leaf of an untouched box whose mark is not set? Nothing is noted of it.
-#[inline(always)]
-fn is_passed<A: Ledger, T: Touches>(
-    entry: &Entry<A>,
-    is_wide: bool,
-    marks: &[bool],
-    tree: &T,
-) -> bool
-    requires { length marks.now ≡ box_marks is_wide }
-    ensures { result ≡ is_passed (T.is_touched tree.now) is_wide marks.now entry.now }
-{
-    match entry {
-        Entry::Leaf(item) => !has_mark(is_wide, marks, item.owner()) && !tree.touches(item.owner()),
-        Entry::Group(_) => false,
-    }
-}
-
-/// Is the entry at a place passed over?
-#[inline(always)]
-fn passes<A: Ledger, T: Touches>(
-    entries: &[Entry<A>],
-    place: usize,
-    is_wide: bool,
-    marks: &[bool],
-    names: &[EntryKey],
-    tree: &T,
-) -> bool
-    requires marks { AreMarked is_wide names.now marks.now }
-    requires names { Once names.now }
-    requires entries { Once (kept_names (kept_entries entries.now)) }
-    requires within { place < length entries.now }
-    ensures { result ≡ true → NothingNoted (T.is_touched tree.now) entries.now names.now place (place + 1) }
-{
-    is_passed(&entries[place], is_wide, marks, tree)
-}
-
-/// How many of the four entries from a place on are passed over, one after the other.
-#[inline(always)]
-fn passed_of_four<A: Ledger, T: Touches>(
-    entries: &[Entry<A>],
-    place: usize,
-    is_wide: bool,
-    marks: &[bool],
-    names: &[EntryKey],
-    tree: &T,
-) -> usize
-    requires marks { AreMarked is_wide names.now marks.now }
-    requires names { Once names.now }
-    requires entries { Once (kept_names (kept_entries entries.now)) }
-    requires within { place + 4 ≤ length entries.now }
-    ensures within { result ≤ 4 }
-    ensures nothing { NothingNoted (T.is_touched tree.now) entries.now names.now place (place + result) }
-{
-    if !passes(entries, place, is_wide, marks, names, tree) {
-        return 0;
-    }
-    if !passes(entries, place + 1, is_wide, marks, names, tree) {
-        return 1;
-    }
-    if !passes(entries, place + 2, is_wide, marks, names, tree) {
-        return 2;
-    }
-    if !passes(entries, place + 3, is_wide, marks, names, tree) {
-        return 3;
-    }
-    4
-}
-
-/// The first place, from this one on, of which something may be noted. No place where there is none.
-#[inline(never)]
-fn next_noted<A: Ledger, T: Touches>(
-    entries: &[Entry<A>],
-    from: usize,
-    is_wide: bool,
-    marks: &[bool],
-    names: &[EntryKey],
-    tree: &T,
-) -> usize
-    requires marks { AreMarked is_wide names.now marks.now }
-    requires names { Once names.now }
-    requires entries { Once (kept_names (kept_entries entries.now)) }
-    requires within { from ≤ length entries.now }
-    ensures after { from ≤ result }
-    ensures within { result ≤ length entries.now }
-    ensures nothing { NothingNoted (T.is_touched tree.now) entries.now names.now from result }
-{
-    let mut place = from;
-    while entries.len() - place >= 4 {
-        let passed = passed_of_four(entries, place, is_wide, marks, names, tree);
-        place += passed;
-        if passed < 4 {
-            return place;
-        }
-    }
-    while place < entries.len() && passes(entries, place, is_wide, marks, names, tree) {
-        place += 1;
-    }
-    place
-}
-
 /// Notes what is found at one entry.
 fn look_at<A: Ledger, T: Touches>(
     looked: &mut Looked,
@@ -246,11 +147,13 @@ fn nothing(alloc: Global, names: &[EntryKey]) -> Result<Looked, AllocError>
 pub(crate) fn look<A: Ledger, T: Touches>(
     alloc: Global,
     entries: &[Entry<A>],
+    blocks: &[Block],
     names: &[EntryKey],
     tree: &T,
 ) -> Result<Looked, AllocError>
     requires names { Once names.now }
     requires entries { Once (kept_names (kept_entries entries.now)) }
+    requires covers { Covers blocks.now entries.now }
     ensures { IfOk result (λ l. IsLooked (T.is_touched tree.now) (kept_entries entries.now) names.now
         l.gone.items l.found.items l.inner.items) }
 {
@@ -261,10 +164,11 @@ pub(crate) fn look<A: Ledger, T: Touches>(
     let is_wide = names.len() > 128 && entries.len() > 4096;
     let marks = Marks::new(alloc, is_wide, names)?;
     let sought = Sought::new(alloc, names)?;
-    let mut place = next_noted(entries, 0, marks.is_wide, &marks.marks, names, tree);
+    let mut seek = FIRST;
+    let mut place = next_noted(entries, blocks, &mut seek, 0, &marks, names, tree);
     while place < entries.len() {
         look_at(&mut looked, &sought, names, place, &entries[place], tree)?;
-        place = next_noted(entries, place + 1, marks.is_wide, &marks.marks, names, tree);
+        place = next_noted(entries, blocks, &mut seek, place + 1, &marks, names, tree);
     }
     Ok(looked)
 }

@@ -1,15 +1,25 @@
 //! Marks of the boxes of which something is sought in a kept level.
-ghost use Rattle.std.specs.Prelude.{◌≡◌, ◌<◌, length, IfOk, false, slice_index_or};
-ghost use Rattle.rd_merge.specs.Internal.Marks.{AreMarked, box_mark, box_marks, box_of};
+ghost use Rattle.std.specs.Prelude.{◌≡◌, ℕ, ◌<◌, ◌≤◌, ◌%◌, length, IfOk, IsTrue, false, slice_index_or};
+ghost use Rattle.rd_keys.specs.Keys.{BoxKey as Box};
+ghost use Rattle.rd_keys.specs.Ranges.{IsAmong};
+ghost use Rattle.rd_merge.specs.Internal.Marks.{AreMarked, AreRunsMarked, box_mark, box_marks, box_of, run_mark};
 
-use rd_keys::{BoxKey, EntryKey};
+use rd_keys::{BoxKey, EntryKey, KeyRange};
 use std::alloc::{AllocError, Global};
 
-/// Marks of boxes by their slots, of which there are more for many names and a long level. Boxes may share a mark.
+/// How many marks of 64 slots there are.
+const RUNS: usize = 512;
+
+/// Over how many times 64 slots a range may go that is looked at.
+const MOST_RUNS: u32 = 64;
+
+/// Marks of boxes by their slots, of which there are more for many names and a long level, and marks of 64 slots each. Boxes may share
+/// a mark.
 #[derive(Drop)]
 pub(crate) struct Marks {
     pub(crate) is_wide: bool,
     pub(crate) marks: Vec<bool>,
+    pub(crate) runs: Vec<bool>,
 }
 
 /// How many marks there are.
@@ -29,6 +39,15 @@ fn mark_of(is_wide: bool, owner: BoxKey) -> usize
     if is_wide { slot % 16384 } else { slot % 2048 }
 }
 
+/// Where the 64 slots of a box have their mark.
+#[inline(always)]
+fn run_of(owner: BoxKey) -> usize
+    ensures value { result ≡ run_mark owner }
+    ensures within { result < 512 }
+{
+    (owner.slot() / 64) as usize % RUNS
+}
+
 /// The box of a name.
 fn box_of(name: EntryKey) -> BoxKey
     ensures { result ≡ box_of name }
@@ -42,14 +61,23 @@ fn box_of(name: EntryKey) -> BoxKey
 impl Marks {
     /// The marks of the boxes of these names, many or few.
     pub(crate) fn new(alloc: Global, is_wide: bool, names: &[EntryKey]) -> Result<Marks, AllocError>
-        ensures { IfOk result (λ m. AreMarked m.is_wide names.now m.marks.items) }
+        ensures boxes { IfOk result (λ m. AreMarked m.is_wide names.now m.marks.items) }
+        ensures runs { IfOk result (λ m. AreRunsMarked names.now m.runs.items) }
     {
         let mut marks = vec![in alloc; false; mark_count(is_wide)]?;
+        let mut runs = vec![in alloc; false; RUNS]?;
         for name in names {
-            let mark = mark_of(is_wide, box_of(*name));
+            let owner = box_of(*name);
+            let mark = mark_of(is_wide, owner);
+            let run = run_of(owner);
             marks[mark] = true;
+            runs[run] = true;
         }
-        Ok(Marks { is_wide, marks })
+        Ok(Marks {
+            is_wide,
+            marks,
+            runs,
+        })
     }
 }
 
@@ -60,4 +88,32 @@ pub(crate) fn has_mark(is_wide: bool, marks: &[bool], owner: BoxKey) -> bool
     ensures { result ≡ slice_index_or marks.now (box_mark is_wide owner) false }
 {
     marks[mark_of(is_wide, owner)]
+}
+
+/// Is the mark of none of these 64 slots set, from the first of them up to the last?
+fn are_unset(runs: &[bool], first: u32, last: u32) -> bool
+    requires size { length runs.now ≡ 512 }
+    ensures { IsTrue result → (n : ℕ) → first ≤ n → n ≤ last → slice_index_or runs.now (n % 512) false ≡ false }
+{
+    let mut run = first;
+    while run < last {
+        if runs[run as usize % RUNS] {
+            return false;
+        }
+        run += 1;
+    }
+    !runs[last as usize % RUNS]
+}
+
+/// Is the box of no name among these keys? Where it is not said, nothing is known.
+pub(crate) fn are_unnamed(runs: &[bool], keys: KeyRange) -> bool
+    requires { length runs.now ≡ 512 }
+    ensures { IsTrue result → (k : Box) → IsAmong keys k → slice_index_or runs.now (run_mark k) false ≡ false }
+{
+    let first = keys.first_slot / 64;
+    let last = keys.last_slot / 64;
+    if last < first || last - first >= MOST_RUNS {
+        return false;
+    }
+    are_unset(runs, first, last)
 }

@@ -4,6 +4,7 @@ ghost use Rattle.rd_graph.specs.Patches.{line_of};
 ghost use Rattle.rd_list.specs.Entries as list;
 ghost use Rattle.rd_list.specs.EntryNames.{new_names};
 ghost use Rattle.rd_list.specs.NewView.{new_entries, in_runs};
+ghost use Rattle.rd_list.specs.Wrappers.{wrapper};
 ghost use Rattle.rd_merge.specs.Going.{is_untouched};
 ghost use Rattle.rd_merge.specs.Fitting.{FitsFor};
 ghost use Rattle.rd_merge.specs.Merging.{CanBeMerged, IsPlan, MergedInto, StandsAfter};
@@ -16,6 +17,7 @@ use crate::going::Touches;
 use crate::looking::look;
 use crate::plan::{Plan, Step};
 use rd_graph::{Patch, count_aside, count_of};
+use rd_keys::BoxKey;
 use rd_list::{Block, Entry, Kept, NewEntry, NewList, new_keys};
 use std::alloc::{AllocError, Global};
 use std::sync::ledger::Ledger;
@@ -77,7 +79,7 @@ fn part_room(alloc: Global, patch: &Patch, had: usize) -> Result<Vec<Block>, All
 
 /// How many blocks new entries may need.
 fn new_blocks<A: Ledger>(steps: &[Step<A>]) -> usize {
-    let mut count = steps.len() / 32;
+    let mut count = steps.len() / 16;
     for step in steps {
         match step {
             Step::Leaf(_) => {}
@@ -112,7 +114,7 @@ fn plan_level<A: Ledger, T: Touches>(
     ensures { IfOk result (IsPlan (T.is_touched tree.now) kept.now new.now) }
 {
     let names = new_keys(alloc, new)?;
-    let looked = look(alloc, &kept.entries, &names, tree)?;
+    let looked = look(alloc, &kept.entries, &kept.blocks, &names, tree)?;
     let patch = kept
         .graph
         .patch(alloc, &looked.gone, &names, &looked.found)?;
@@ -203,15 +205,38 @@ fn plan_entry<A: Ledger, T: Touches>(
 {
     match entry {
         NewEntry::Leaf(_) => Ok(Step::Leaf(place)),
-        NewEntry::Group { inner, .. } => {
-            let plan = Box::new(alloc, plan_new_group(alloc, kept, place, inner, tree)?)?;
-            Ok(Step::Group {
-                old: place,
-                is_new: true,
-                plan,
-            })
-        }
+        NewEntry::Group {
+            key,
+            opacity,
+            inner,
+        } => plan_group_step(alloc, kept, *key, *opacity, inner, place, tree),
     }
+}
+
+/// The step of a new group with this list, which has this place in the kept level.
+#[cycle(planning)]
+#[inline(never)]
+fn plan_group_step<A: Ledger, T: Touches>(
+    alloc: Global,
+    kept: &Kept<A>,
+    key: BoxKey,
+    opacity: u8,
+    inner: &NewList<A>,
+    place: Option<usize>,
+    tree: &T,
+) -> Result<Step<A>, AllocError>
+    requires fit { EntriesFit (T.is_touched tree.now) kept.now.entries (list.group (wrapper key opacity) inner.now list.nil) }
+    requires place { place ∷ [] ≡ map (λ k. place_in (T.is_touched tree.now) kept.now.entries k)
+        (new_names (list.group (wrapper key opacity) inner.now list.nil)) }
+    ensures { IfOk result (λ s. NewSteps (T.is_touched tree.now) kept.now.entries
+        (list.group (wrapper key opacity) inner.now list.nil) (steps_seen (s ∷ []))) }
+{
+    let plan = Box::new(alloc, plan_new_group(alloc, kept, place, inner, tree)?)?;
+    Ok(Step::Group {
+        old: place,
+        is_new: true,
+        plan,
+    })
 }
 
 /// The plan of the merge of a group's new list with the group at a place of the kept level, if there is one.

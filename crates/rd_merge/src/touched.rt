@@ -3,7 +3,7 @@ ghost use Rattle.std.specs.Prelude.{◌≡◌};
 ghost use Rattle.rd_tree.specs.Document as document;
 
 use crate::going::Touches;
-use rd_keys::BoxKey;
+use rd_keys::{BoxKey, KeyRange};
 use rd_tree::Tree;
 use std::sync::ledger::Ledger;
 
@@ -12,5 +12,9 @@ impl<B: Ledger> Touches for Tree<B> {
 
     fn touches(&self, key: BoxKey) -> bool {
         self.touched(key)
+    }
+
+    fn are_quiet(&self, keys: KeyRange) -> bool {
+        self.are_quiet(keys)
     }
 }

@@ -8,6 +8,7 @@ pub mod Picking
 pub mod Choosing
 pub mod Showing
 pub mod Passing
+pub mod OffBlocks
 pub mod Hiding
 pub mod Banding
 pub mod Framing

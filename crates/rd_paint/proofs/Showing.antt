@@ -125,7 +125,7 @@ module _ (p : ℤ → ℤ → Type 0) where
       let w = written_more p es whole one rest left room mid count more n h k e c d s t in
       (w.0, serves_less p (picked (take (count + more) (take count room ++ (mid ++ drop n (drop count room)))) es) less rest whole u w.1)
 
-last_false : (a b v : Bool) → v ≡ false → (a && b && v) ≡ false
+pub last_false : (a b v : Bool) → v ≡ false → (a && b && v) ≡ false
 last_false true true v h = h
 last_false true false v h = refl
 last_false false b v h = refl

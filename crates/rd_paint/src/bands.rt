@@ -3,7 +3,9 @@
 ghost use Rattle.std.specs.Prelude.{◌≡◌, ℕ, ℤ, pos, ◌+◌, ◌-◌, ◌*◌, ◌^◌, ◌≤◌, ◌<◌, ◌+ℤ◌, ◌≤ℤ◌, ◌<ℤ◌, ◌∷◌, [], IsTrue, IsFalse, length, get_or, unsigned_abs, vec_capacity};
 ghost use Rattle.rd_geom.specs.Areas.{spans_at};
 ghost use Rattle.rd_area.specs.Rows.{IsRising};
+ghost use Rattle.rd_list.specs.Blocks.{Covers};
 ghost use Rattle.rd_list.specs.Displayed.{shown};
+ghost use Rattle.rd_list.specs.EntryNames.{kept_leaves};
 ghost use Rattle.rd_list.specs.KeptView.{kept_entries};
 ghost use Rattle.rd_list.specs.Lists.{pixel};
 ghost use Rattle.rd_list.specs.Views.{levels};
@@ -23,7 +25,7 @@ use crate::narrowing::narrow;
 use crate::picks::Pick;
 use rd_area::Area;
 use rd_geom::{Px, Span};
-use rd_list::Entry;
+use rd_list::{Block, Entry, Kept};
 use std::sync::ledger::Ledger;
 
 /// Paints the entries that picks name, on white, in the columns of the span of the rows `y0` up to `y1`.
@@ -211,10 +213,11 @@ fn paint_half<A: Ledger>(
     paint_band(canvas, entries, own, area, y0, y1, rows, rest);
 }
 
-/// Paints all rows. False where the room is too small for picks of all entries that may show: then nothing is painted.
-pub(crate) fn paint_all<A: Ledger>(
+/// Paints all rows of the entries of a level. False where the room is too small for picks of all entries that may show: then nothing is painted.
+fn paint_all<A: Ledger>(
     canvas: &mut Canvas,
     entries: &[Entry<A>],
+    blocks: &[Block],
     area: &Area,
     rows: &mut Vec<Px>,
     room: &mut [Pick],
@@ -224,13 +227,14 @@ pub(crate) fn paint_all<A: Ledger>(
     requires area { area.now.size ≡ size_of canvas.old }
     requires rows { canvas.old.width * (levels (kept_entries entries.now) - 1) ≤ vec_capacity rows.old }
     requires few { length room.old < 2 ^ 32 }
+    requires covers { Covers blocks.now entries.now }
     ensures rows { vec_capacity rows.old ≤ vec_capacity rows.new }
     ensures painted { IsTrue result → IsRepainted (shown entries.now) area.now canvas.old canvas.new }
     ensures same { IsFalse result → canvas.new ≡ canvas.old }
 {
     let size = canvas.size();
     let frame = frame_of(area, size.w as usize, size.h as usize);
-    let Some(count) = gather(entries, area, frame.columns(), frame.rows(), room) else {
+    let Some(count) = gather(entries, blocks, area, frame.columns(), frame.rows(), room) else {
         return false;
     };
     let (own, rest) = room.split_at_mut(count);
@@ -246,4 +250,24 @@ pub(crate) fn paint_all<A: Ledger>(
         rest,
     );
     true
+}
+
+/// The same of a kept list.
+pub(crate) fn paint_kept<A: Ledger>(
+    canvas: &mut Canvas,
+    list: &Kept<A>,
+    area: &Area,
+    rows: &mut Vec<Px>,
+    room: &mut [Pick],
+) -> bool
+    requires wide { canvas.old.width ≤ 4096 }
+    requires high { canvas.old.height ≤ 4096 }
+    requires area { area.now.size ≡ size_of canvas.old }
+    requires rows { canvas.old.width * (levels list.now.entries - 1) ≤ vec_capacity rows.old }
+    requires few { length room.old < 2 ^ 32 }
+    ensures rows { vec_capacity rows.old ≤ vec_capacity rows.new }
+    ensures painted { IsTrue result → IsRepainted (kept_leaves list.now.entries) area.now canvas.old canvas.new }
+    ensures same { IsFalse result → canvas.new ≡ canvas.old }
+{
+    paint_all(canvas, &list.entries, &list.blocks, area, rows, room)
 }

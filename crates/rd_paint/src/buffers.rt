@@ -14,7 +14,7 @@ ghost use Rattle.rd_paint.specs.Parts.{entry_count, entries_from};
 ghost use Rattle.rd_paint.specs.Pictures.{size_of};
 ghost use Rattle.rd_paint.specs.Repainted.{IsRepainted};
 
-use crate::bands::paint_all;
+use crate::bands::paint_kept;
 use crate::canvas::Canvas;
 use crate::picks::{MOST, Pick, depth_of};
 use crate::plain::repaint_plainly;
@@ -175,10 +175,9 @@ pub fn repaint<A: Ledger>(
     ensures painted { IsRepainted (kept_leaves list.entry.list.now.entries) area.now canvas.old canvas.new }
     ensures same { buffers.new ≡ buffers.old }
 {
-    let entries = list.entries();
     let rows = &mut buffers.pixels;
     let room = &mut buffers.room;
-    if paint_all(canvas, entries, area, rows, room) {
+    if paint_kept(canvas, list.list(), area, rows, room) {
         return;
     }
     repaint_plainly(canvas, list, area, buffers);

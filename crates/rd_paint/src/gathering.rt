@@ -1,32 +1,35 @@
 //! Picks of all entries of a list that may show in an area.
 
-ghost use Rattle.std.specs.Prelude.{◌≡◌, ℤ, ◌+◌, ◌^◌, ◌≤◌, ◌<◌, ◌∷◌, [], IfSome, IsTrue, false, length, take, drop};
-ghost use Rattle.rd_geom.specs.Plane.{holds_pixel};
+ghost use Rattle.std.specs.Prelude.{◌^◌, ◌≤◌, ◌<◌, ◌∷◌, [], IfSome, length, take};
+ghost use Rattle.rd_list.specs.Blocks.{Covers};
 ghost use Rattle.rd_list.specs.Displayed.{shown};
 ghost use Rattle.rd_list.specs.Entries as list;
 ghost use Rattle.rd_list.specs.EntryNames.{kept_leaves};
 ghost use Rattle.rd_list.specs.Views.{levels};
 ghost use Rattle.rd_list.specs.Wrappers.{Wrapper};
-ghost use Rattle.rd_paint.specs.Internal.Picks.{InAreaWithin, InSpans, IsClosed, SameWhere, ServesWhere, ShowsFor, picked};
+ghost use Rattle.rd_paint.specs.Internal.Picks.{InAreaWithin, IsClosed, SameWhere, ShowsFor, picked};
 
 use crate::picks::{MOST, Pick, put};
+use crate::skipping::next_within;
 use rd_area::Area;
-use rd_geom::{Rect, Span};
+use rd_geom::Span;
 use rd_item::Item;
-use rd_list::{Entry, Kept};
+use rd_list::{Block, Entry, FIRST, Kept};
 use std::sync::ledger::Ledger;
 
 /// Writes picks of the entries that may show in the area, as far as it is in these columns of these rows, and says how
-/// many; None where there is too little room. A leaf outside of them costs no more than to see that.
+/// many; None where there is too little room. A block or a leaf outside of them costs no more than to see that.
 #[cycle(gathering)]
 pub(crate) fn gather<A: Ledger>(
     entries: &[Entry<A>],
+    blocks: &[Block],
     area: &Area,
     columns: Span,
     rows: Span,
     room: &mut [Pick],
 ) -> Option<usize>
     requires few { length room.old < 2 ^ 32 }
+    requires covers { Covers blocks.now entries.now }
     ensures within { IfSome result (λ n. n ≤ length room.old) }
     ensures same { IfSome result (λ n. SameWhere (InAreaWithin area.now columns rows)
         (picked (take n room.new) (shown entries.now)) (shown entries.now)) }
@@ -34,78 +37,14 @@ pub(crate) fn gather<A: Ledger>(
         ≤ levels (shown entries.now)) }
 {
     let mut count = 0;
-    let mut i = next_within(entries, 0, columns, rows);
+    let mut seek = FIRST;
+    let mut i = next_within(entries, blocks, area, &mut seek, 0, columns, rows);
     while i < entries.len() {
         let more = gather_one(&entries[i], i, area, columns, rows, &mut room[count..])?;
         count += more;
-        i = next_within(entries, i + 1, columns, rows);
+        i = next_within(entries, blocks, area, &mut seek, i + 1, columns, rows);
     }
     Some(count)
-}
-
-/// Has the rectangle no pixel in these columns of these rows?
-#[inline(always)]
-fn misses(r: Rect, columns: Span, rows: Span) -> bool
-    ensures { IsTrue result → (x y : ℤ) → InSpans columns rows x y → holds_pixel r x y ≡ false }
-{
-    if columns.x1 <= r.x() {
-        return true;
-    }
-    if rows.x1 <= r.y() {
-        return true;
-    }
-    if r.right() <= columns.x0 {
-        return true;
-    }
-    r.bottom() <= rows.x0
-}
-
-/// Is the entry a leaf that has no pixel in these columns of these rows?
-#[inline(always)]
-fn lies_outside<A: Ledger>(entry: &Entry<A>, columns: Span, rows: Span) -> bool
-    ensures { IsTrue result → SameWhere (InSpans columns rows) list.nil (shown (entry.now ∷ [])) }
-{
-    match entry {
-        Entry::Leaf(item) => misses(item.visible(), columns, rows),
-        Entry::Group(_) => false,
-    }
-}
-
-/// Are the four entries from a place on such leaves?
-#[inline(always)]
-fn four_outside<A: Ledger>(entries: &[Entry<A>], i: usize, columns: Span, rows: Span) -> bool
-    requires { i + 4 ≤ length entries.now }
-    ensures { IsTrue result → ServesWhere (InSpans columns rows)
-        (shown (drop (i + 4) entries.now)) (shown (drop i entries.now)) }
-{
-    if !lies_outside(&entries[i], columns, rows) {
-        return false;
-    }
-    if !lies_outside(&entries[i + 1], columns, rows) {
-        return false;
-    }
-    if !lies_outside(&entries[i + 2], columns, rows) {
-        return false;
-    }
-    lies_outside(&entries[i + 3], columns, rows)
-}
-
-/// The place of the next entry that is no such leaf, or how many entries there are.
-fn next_within<A: Ledger>(entries: &[Entry<A>], from: usize, columns: Span, rows: Span) -> usize
-    requires { from ≤ length entries.now }
-    ensures from { from ≤ result }
-    ensures within { result ≤ length entries.now }
-    ensures same { ServesWhere (InSpans columns rows)
-        (shown (drop result entries.now)) (shown (drop from entries.now)) }
-{
-    let mut i = from;
-    while entries.len() - i >= 4 && four_outside(entries, i, columns, rows) {
-        i += 4;
-    }
-    while i < entries.len() && lies_outside(&entries[i], columns, rows) {
-        i += 1;
-    }
-    i
 }
 
 /// Writes picks of the entry at a place.
@@ -174,7 +113,14 @@ fn gather_group<A: Ledger>(
     if room.is_empty() || place > MOST {
         return None;
     }
-    let inside = gather(&inner.entries, area, columns, rows, &mut room[1..])?;
+    let inside = gather(
+        &inner.entries,
+        &inner.blocks,
+        area,
+        columns,
+        rows,
+        &mut room[1..],
+    )?;
     if inside == 0 {
         return Some(0);
     }

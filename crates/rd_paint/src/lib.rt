@@ -16,6 +16,7 @@ mod picks;
 mod plain;
 mod reaching;
 mod runs;
+mod skipping;
 mod spans;
 
 pub use buffers::{Buffers, paint_span, repaint};

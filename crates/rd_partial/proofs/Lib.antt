@@ -26,6 +26,7 @@ pub mod Top
 pub mod Everything
 pub mod Adding
 pub mod Listing
+pub mod Parted
 pub mod Touching
 pub mod Searching
 pub mod Framed

@@ -25,7 +25,7 @@ leaves-join (leaf m xs) ys = ap (leaf m.leaf) (leaves-join xs ys)
 leaves-join (group g inner xs) ys = ap (group g.of (kept_leaves inner)) (leaves-join xs ys)
 
 module _ (t : Document) where
-  shows-join : (xs ys : Entries (Ordered EntryKey Wrapper) Made) (x y : ℤ) → any_shows t (kept_leaves (xs ▷ ys)) x y ≡ (any_shows t (kept_leaves xs) x y || any_shows t (kept_leaves ys) x y)
+  pub shows-join : (xs ys : Entries (Ordered EntryKey Wrapper) Made) (x y : ℤ) → any_shows t (kept_leaves (xs ▷ ys)) x y ≡ (any_shows t (kept_leaves xs) x y || any_shows t (kept_leaves ys) x y)
   shows-join xs ys x y =
       let p = shows_touched (λ k. is_touched k t.boxes) x y in
       ap (λ z. list_any p (flat z)) (leaves-join xs ys)

@@ -7,6 +7,7 @@ mod bands;
 mod built;
 mod give;
 pub mod laws;
+mod listed;
 mod look;
 mod order;
 mod seeking;

@@ -1,24 +1,24 @@
 //! The area that touched boxes invalidate.
-ghost use Rattle.std.specs.Prelude.{◌≡◌, ◌≤◌, ◌+◌, ◌∷◌, [], ℤ, Some, IfOk, OnOk};
+ghost use Rattle.std.specs.Prelude.{◌≡◌, ◌≤◌, ◌+◌, ℤ, Some, IfOk, OnOk};
 ghost use Rattle.rd_geom.specs.Areas.{in_area};
 ghost use Rattle.rd_list.specs.EntryNames.{kept_leaves};
-ghost use Rattle.rd_list.specs.KeptView.{kept_entries};
 ghost use Rattle.rd_tree.specs.Document.{IsRooted};
 ghost use Rattle.rd_stack.specs.Internal.Looks.{IsFirst};
 ghost use Rattle.rd_stack.specs.Paths.{OutlineFits};
 ghost use Rattle.rd_partial.specs.Looks.{holds_touched, looks_bound};
-ghost use Rattle.rd_partial.specs.Invalid.{any_shows, is_invalid};
+ghost use Rattle.rd_partial.specs.Invalid.{is_invalid};
 ghost use Rattle.rd_partial.specs.Internal.Standing.{leaf_in};
 ghost use Rattle.rd_partial.specs.Internal.Looked.{here_of};
 ghost use Rattle.rd_partial.specs.Internal.Touched.{Joins, leaf_shows, box_shows, own_shows, shows_below, shows_from, marks_from, touched_looks, looks_under};
 
+use crate::listed::add_list;
 use crate::look::{Looked, look_at};
 use crate::seeking::next_marked;
 use crate::standing::Standing;
 use rd_area::Area;
 use rd_geom::{NoMemory, Steps};
 use rd_keys::{BoxKey, Part};
-use rd_list::{Entry, ListView};
+use rd_list::ListView;
 use rd_stack::BoxData;
 use rd_tree::Tree;
 use std::alloc::Global;
@@ -144,43 +144,8 @@ fn add_root<B: Ledger>(
     Ok(())
 }
 
-/// Adds what may be seen of the leaves of touched boxes in a level of a list, and in its groups.
-#[cycle(listing)]
-fn add_entries<A: Ledger, B: Ledger>(
-    tree: &Tree<B>,
-    area: &mut Area,
-    entries: &[Entry<A>],
-) -> Result<(), NoMemory>
-    ensures { OnOk result (Joins (any_shows tree.now (kept_leaves (kept_entries entries.now))) area.old area.new) }
-{
-    for entry in entries {
-        add_entry(tree, area, entry)?;
-    }
-    Ok(())
-}
-
-#[cycle(listing)]
-#[inline(always)]
-fn add_entry<A: Ledger, B: Ledger>(
-    tree: &Tree<B>,
-    area: &mut Area,
-    entry: &Entry<A>,
-) -> Result<(), NoMemory>
-    ensures { OnOk result (Joins (any_shows tree.now (kept_leaves (kept_entries (entry.now ∷ [])))) area.old area.new) }
-{
-    match entry {
-        Entry::Leaf(item) => {
-            if tree.touched(item.owner()) {
-                area.add(item.visible())?;
-            }
-            Ok(())
-        }
-        Entry::Group(group) => add_entries(tree, area, &group.inner.entries),
-    }
-}
-
 /// The pixels of the canvas in the visible rectangle of a leaf of a touched box, in a list that was painted before or in
-/// the fresh list of the tree. The list is read once, and no box of the tree is entered that is not touched and has no
+/// the fresh list of the tree. The list is read once, but for blocks of untouched boxes, and no box of the tree is entered that is not touched and has no
 /// touched box below it. Looks are counted in `looks`, also where memory is wanting.
 pub fn touched_area<A: Ledger, B: Ledger>(
     alloc: Global,
@@ -194,7 +159,7 @@ pub fn touched_area<A: Ledger, B: Ledger>(
     ensures looks { looks.new ≤ looks.old + looks_bound holds_touched tree.now.boxes }
 {
     let mut area = Area::none(alloc, tree.canvas())?;
-    add_entries(tree, &mut area, list.entries())?;
+    add_list(tree, &mut area, list.list())?;
     let s = Standing::at_root(tree.canvas());
     add_root(tree, &mut area, &s, tree.root(), looks)?;
     Ok(area)

@@ -16,7 +16,7 @@ use super::planting::rect_of;
 use drawn::compare;
 use rd_geom::{Color, Rect, Steps};
 use rd_item::{Item, Shape};
-use rd_keys::{Arena, BoxKey, BoxMark, Part};
+use rd_keys::{Arena, BoxKey, BoxMark, KeyRange, Part};
 use rd_list::{Entry, Kept, NewEntry, NewList};
 use rd_merge::{Touches, merge};
 use std::alloc::{AllocError, Global};
@@ -43,6 +43,10 @@ impl Touches for Only {
 
     fn touches(&self, key: BoxKey) -> bool {
         self.all || self.key.is(key)
+    }
+
+    fn are_quiet(&self, _keys: KeyRange) -> bool {
+        false
     }
 }
 

@@ -3,7 +3,8 @@ use Rattle.std.proofs.lemmas.Int.{to_z-of_z}
 use Rattle.rd_list.specs.Lists.{hit}
 use Rattle.rd_list.specs.Displayed.{shown}
 use Rattle.rd_list.proofs.Viewing.{size_at}
-use Rattle.rd_hit.proofs.Downward.{hit_down, found_above, not_some, block_down, block_below, block_missed, part_size, rest_is, is_not}
+use Rattle.rd_list.proofs.Parting.{part_size, rest_is}
+use Rattle.rd_hit.proofs.Downward.{hit_down, found_above, not_some, block_down, block_below, block_missed, is_not}
 use Rattle.rd_hit.proofs.+hitting.Goals as goal
 
 pub topmost-topmost_in-found-requires : goal.topmost-topmost_in-found-requires
@@ -91,4 +92,4 @@ topmost_in_block-returns-then-misses g t c =
     let fx : FitsSigned w32 c.args.x = search rules in
     let fy : FitsSigned w32 c.args.y = search rules in
     let e = simp to_z-of_z at c.misses.ensures in
-    block_missed c.args.x c.args.y c.args.block.hull c.args.entries.now (c.requires (is_not c.args.block.is_open c.if-not-block.true)).0 (e c.if-misses.true)
+    block_missed c.args.x c.args.y c.args.block.told.hull c.args.entries.now (c.requires (is_not c.args.block.is_open c.if-not-block.true)).0 (e c.if-misses.true)

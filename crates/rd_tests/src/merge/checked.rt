@@ -12,7 +12,7 @@ ghost use Rattle.rd_tests.specs.DrawnLevels.{AreApart, IsCovering, IsHeld, IsSpo
 use super::drawing::Draws;
 use super::{INK, leaf};
 use rd_geom::{Rect, Steps, meets};
-use rd_keys::{BoxKey, Part};
+use rd_keys::{BoxKey, KeyRange, Part};
 use rd_list::{Kept, NewEntry, NewList};
 use rd_merge::{Touches, merge};
 use std::alloc::{AllocError, Global};
@@ -29,6 +29,10 @@ impl Touches for TouchedBoxes {
 
     fn touches(&self, key: BoxKey) -> bool {
         is_among(&self.keys, key)
+    }
+
+    fn are_quiet(&self, _keys: KeyRange) -> bool {
+        false
     }
 }
 

@@ -10,5 +10,5 @@ loop-count-preserved g c =
     let x = c.index-entries-count.result in
     record {
       within = omega (arith, c.if-count-entries.true);
-      told = subst (IsTold c.in-Some.told.hull c.in-Some.told.leaves) (sym (take_more es i x c.if-count-entries.true ∙ ap (λ y. take i es ++ y ∷ []) (sym c.index-entries-count.is))) (c.in-Some.ensures (take i es) c.loop-count.invariant.told);
+      told = subst (IsTold c.in-Some.more) (sym (take_more es i x c.if-count-entries.true ∙ ap (λ y. take i es ++ y ∷ []) (sym c.index-entries-count.is))) (c.in-Some.ensures (take i es) c.loop-count.invariant.told);
     }

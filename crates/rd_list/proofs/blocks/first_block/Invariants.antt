@@ -3,7 +3,7 @@ use Rattle.rd_list.specs.Blocks.{IsTold}
 use Rattle.rd_list.proofs.blocks.first_block.Given as goal
 
 abbrev pub invariant-loop-count : goal.invariant-loop-count
-invariant-loop-count g l = record { within : l.count ≤ length l.entries; told : IsTold l.around l.leaves (take l.count l.entries) }
+invariant-loop-count g l = record { within : l.count ≤ length l.entries; told : IsTold l.told (take l.count l.entries) }
 
 abbrev pub decreases-loop-count : goal.decreases-loop-count
-decreases-loop-count g l = 64 - l.count
+decreases-loop-count g l = 32 - l.count

@@ -14,7 +14,7 @@ returns-then-not-admits-clause-covers g c = λ xs ys.
     let e = c.len.ensures in
     let h : at < length bs = omega (arith, l, e) in
     let same : (b : Block) → b ≡ get_or bs at b → c.open_block.result.count ≡ b.count = λ b is. c.open_block.ensures.count ∙ ap (λ (x : Block). x.count) (read_any bs at c.index.result.now b h c.index.ensures is) in
-    put_found bs at start c.args.place c.args.rect c.open_block.result h (subst (λ cs. IsAt cs at start) c.deref.ensures.value c.find_block-found.ensures.at)
+    put_found bs at start c.args.place c.args.told c.open_block.result h (subst (λ cs. IsAt cs at start) c.deref.ensures.value c.find_block-found.ensures.at)
     (subst (λ cs. IsFound cs at start c.args.place) c.deref.ensures.value c.find_block-found.ensures.found) (λ b is x y i. opened_serves b c.open_block.result x y (same b is) c.open_block.ensures.open) same xs ys
 
 pub returns-else-not-admits-clause-covers : goal.returns-else-not-admits-clause-covers
@@ -28,13 +28,13 @@ returns-else-not-admits-clause-covers g c = λ xs ys had to.
     let h : at < length bs = omega (arith, l, e) in
     let same : (b : Block) → b ≡ get_or bs at b → now ≡ b = λ b is. read_any bs at now b h c.index.ensures is in
     subst (λ cs. Covers cs ys) (ap (set bs at) c.index.ensures ∙ set-get_or bs at now)
-    (put_found bs at start c.args.place c.args.rect now h (subst (λ cs. IsAt cs at start) c.deref.ensures.value c.find_block-found.ensures.at)
+    (put_found bs at start c.args.place c.args.told now h (subst (λ cs. IsAt cs at start) c.deref.ensures.value c.find_block-found.ensures.at)
     (subst (λ cs. IsFound cs at start c.args.place) c.deref.ensures.value c.find_block-found.ensures.found)
-    (λ b is x y i. subst (λ (d : Block). Serves d now x y) (same b is) (same_serves now c.args.rect x y (c.admits.ensures c.if-not-admits.false) i)) (λ b is. ap (λ (x : Block). x.count) (same b is)) xs ys had to)
+    (λ b is x y i. subst (λ (d : Block). Serves d now x y) (same b is) (same_serves now c.args.told x y (c.admits.ensures c.if-not-admits.false) i)) (λ b is. ap (λ (x : Block). x.count) (same b is)) xs ys had to)
 
 pub returns-else-found-len-clause-covers : goal.returns-else-found-len-clause-covers
 returns-else-found-len-clause-covers g c =
     let at = c.find_block-found.result.at in
     let start = c.find_block-found.result.start in
-    put_past c.args.blocks.now.items at start c.args.place c.args.rect (let l = c.if-found-len.false in let e = c.len.ensures in omega (arith, l, e)) (subst (λ cs. IsAt cs at start) c.deref.ensures.value c.find_block-found.ensures.at)
+    put_past c.args.blocks.now.items at start c.args.place c.args.told (let l = c.if-found-len.false in let e = c.len.ensures in omega (arith, l, e)) (subst (λ cs. IsAt cs at start) c.deref.ensures.value c.find_block-found.ensures.at)
     (subst (λ cs. IsFound cs at start c.args.place) c.deref.ensures.value c.find_block-found.ensures.found)

@@ -19,6 +19,7 @@ loop-place-preserved g c =
     let next = c.next_noted-place-in-loop-place.ensures in
     record {
       within = next.within;
+      at = next.at;
       gone = gone_next t es i x c.loop-place.looked.gone.items _ c.loop-place-test.true c.index-entries-place.is inv.gone c.in_ok-look_at.ensures.gone ∙ sym next.nothing.gone;
       found = named_next es ns i x c.loop-place.looked.found.items _ c.requires.names c.requires.entries c.loop-place-test.true c.index-entries-place.is inv.found c.in_ok-look_at.ensures.found ∙ sym next.nothing.found;
       inner = inner_next t ns es i x c.loop-place.looked.inner.items _ c.loop-place-test.true c.index-entries-place.is inv.inner c.in_ok-look_at.ensures.inner ∙ sym next.nothing.inner;

@@ -1,11 +1,13 @@
-use Rattle.std.proofs.Common.{arith, ap, ◌∙◌, sym, subst, refl, length, [], Some}
+use Rattle.std.proofs.Common.{arith, ap, ◌∙◌, sym, subst, refl, length, List, [], Some}
 use Rattle.std.specs.Prelude.{IfOk, map}
 use Rattle.rd_graph.specs.Orders.{Once}
 use Rattle.rd_graph.specs.Patches.{FitsPatch}
+use Rattle.rd_list.specs.Blocks.{Covers}
 use Rattle.rd_list.specs.Entries.{list_size, nil}
 use Rattle.rd_list.specs.EntryNames.{new_names}
 use Rattle.rd_list.specs.KeptView.{kept_entries}
 use Rattle.rd_list.specs.NewView.{new_entries, in_runs}
+use Rattle.rd_list.specs.declared.blocks.Block.{Block}
 use Rattle.rd_merge.specs.Going.{is_untouched}
 use Rattle.rd_merge.specs.Fitting.{FitsFor}
 use Rattle.rd_merge.specs.Looking.{kept_names}
@@ -204,7 +206,7 @@ plan_new_group-returns g t c =
 
 pub plan_level-look-requires-clause-names : goal.plan_level-look-requires-clause-names
 plan_level-look-requires-clause-names g t c =
-    let names = c.deref-2.ensures.value ∙ c.in_ok-names.ensures in
+    let names = c.deref-3.ensures.value ∙ c.in_ok-names.ensures in
     subst (λ ks. Once ks) (sym names) (c.requires.fits.once_new [])
 
 pub plan_level-look-requires-clause-entries : goal.plan_level-look-requires-clause-entries
@@ -212,14 +214,19 @@ plan_level-look-requires-clause-entries g t c =
     let entries = ap kept_entries c.deref.ensures.value ∙ ap (λ k. k.entries) c.kept.view_is in
     subst (λ ys. Once (kept_names ys)) (sym entries) (c.requires.fits.once_kept [])
 
+pub plan_level-look-requires-clause-covers : goal.plan_level-look-requires-clause-covers
+plan_level-look-requires-clause-covers g t c =
+    subst (λ (bs : List Block). Covers bs c.deref.result.now) (sym c.deref-2.ensures.value)
+    (subst (λ es. Covers c.kept.inside.blocks.items es) (sym c.deref.ensures.value) c.kept.invariant)
+
 pub plan_level-patch-requires : goal.plan_level-patch-requires
 plan_level-patch-requires g t c =
     let touched = g.T.Touches.is_touched c.args.tree.now in
     let keys = c.in_ok-names.ensures in
     let entries = ap kept_entries c.deref.ensures.value ∙ ap (λ k. k.entries) c.kept.view_is in
     let l = c.in_ok-looked.looked in
-    let looked = looked_as touched c.args.kept.now.entries _ _ (new_names c.args.new.now) l.gone.items l.found.items l.inner.items entries (c.deref-2.ensures.value ∙ keys) c.in_ok-looked.ensures in
-    can_patch_as l.gone.items _ (new_names c.args.new.now) _ l.found.items _ c.args.kept.now.graph _ c.deref-3.ensures.value (c.deref-4.ensures.value ∙ keys) c.deref-5.ensures.value (ap (λ k. k.graph) c.kept.view_is)
+    let looked = looked_as touched c.args.kept.now.entries _ _ (new_names c.args.new.now) l.gone.items l.found.items l.inner.items entries (c.deref-3.ensures.value ∙ keys) c.in_ok-looked.ensures in
+    can_patch_as l.gone.items _ (new_names c.args.new.now) _ l.found.items _ c.args.kept.now.graph _ c.deref-4.ensures.value (c.deref-5.ensures.value ∙ keys) c.deref-6.ensures.value (ap (λ k. k.graph) c.kept.view_is)
     (can_patch touched c.args.kept.now c.args.new.now c.requires l.gone.items l.found.items l.inner.items looked)
 
 pub plan_level-plan_entries-requires : goal.plan_level-plan_entries-requires
@@ -229,8 +236,8 @@ plan_level-plan_entries-requires g t c κs within =
     let keys = c.in_ok-names.ensures in
     let entries = ap kept_entries c.deref.ensures.value ∙ ap (λ k. k.entries) c.kept.view_is in
     let l = c.in_ok-looked.looked in
-    let looked = looked_as touched xs _ _ (new_names c.args.new.now) l.gone.items l.found.items l.inner.items entries (c.deref-2.ensures.value ∙ keys) c.in_ok-looked.ensures in
-    let new_is = ap in_runs c.deref-6.ensures.value ∙ c.new.view_is in
+    let looked = looked_as touched xs _ _ (new_names c.args.new.now) l.gone.items l.found.items l.inner.items entries (c.deref-3.ensures.value ∙ keys) c.in_ok-looked.ensures in
+    let new_is = ap in_runs c.deref-7.ensures.value ∙ c.new.view_is in
     let size = ap list_size new_is in (
       omega (arith, size, c.decreases),
       (
@@ -239,7 +246,7 @@ plan_level-plan_entries-requires g t c κs within =
           within.1,
           (
             subst (λ z. EntriesFit touched xs z) (sym new_is) (entries_fit touched c.args.kept.now c.args.new.now c.requires),
-            c.deref-7.ensures.value ∙ looked.found_are ∙ ap (λ z. map (λ k. place_in touched xs k) (new_names z)) (sym new_is),
+            c.deref-8.ensures.value ∙ looked.found_are ∙ ap (λ z. map (λ k. place_in touched xs k) (new_names z)) (sym new_is),
           ),
         ),
       ),
@@ -252,9 +259,9 @@ plan_level-plan_groups-requires g t c κs within =
     let keys = c.in_ok-names.ensures in
     let entries = ap kept_entries c.deref.ensures.value ∙ ap (λ k. k.entries) c.kept.view_is in
     let l = c.in_ok-looked.looked in
-    let looked = looked_as touched xs _ _ (new_names c.args.new.now) l.gone.items l.found.items l.inner.items entries (c.deref-2.ensures.value ∙ keys) c.in_ok-looked.ensures in (
+    let looked = looked_as touched xs _ _ (new_names c.args.new.now) l.gone.items l.found.items l.inner.items entries (c.deref-3.ensures.value ∙ keys) c.in_ok-looked.ensures in (
       omega (arith, c.decreases),
-      (within.0, (within.1, subst (λ z. GroupsFit touched xs z) (sym c.deref-8.ensures.value) (groups_fit touched c.args.kept.now c.args.new.now c.requires l.gone.items l.found.items l.inner.items looked))),
+      (within.0, (within.1, subst (λ z. GroupsFit touched xs z) (sym c.deref-9.ensures.value) (groups_fit touched c.args.kept.now c.args.new.now c.requires l.gone.items l.found.items l.inner.items looked))),
     )
 
 pub plan_level-same-patch : goal.plan_level-same-patch
@@ -268,12 +275,12 @@ plan_level-invariant_of-result g t c =
     let entries = ap kept_entries c.deref.ensures.value ∙ ap (λ k. k.entries) c.kept.view_is in
     let graph = ap (λ k. k.graph) c.kept.view_is in
     let l = c.in_ok-looked.looked in
-    let looked = looked_as touched xs _ _ (new_names c.args.new.now) l.gone.items l.found.items l.inner.items entries (c.deref-2.ensures.value ∙ keys) c.in_ok-looked.ensures in
+    let looked = looked_as touched xs _ _ (new_names c.args.new.now) l.gone.items l.found.items l.inner.items entries (c.deref-3.ensures.value ∙ keys) c.in_ok-looked.ensures in
     let fits = subst (λ z. FitsPatch c.in_ok-patch.patch z) graph c.in_ok-patch.ensures.fits in
-    let patched = is_patched_as l.gone.items _ (new_names c.args.new.now) _ l.found.items _ c.args.kept.now.graph _ c.deref-3.ensures.value (c.deref-4.ensures.value ∙ keys) c.deref-5.ensures.value graph c.in_ok-patch.patch c.in_ok-patch.ensures.patched in
-    let new_is = ap in_runs c.deref-6.ensures.value ∙ c.new.view_is in
+    let patched = is_patched_as l.gone.items _ (new_names c.args.new.now) _ l.found.items _ c.args.kept.now.graph _ c.deref-4.ensures.value (c.deref-5.ensures.value ∙ keys) c.deref-6.ensures.value graph c.in_ok-patch.patch c.in_ok-patch.ensures.patched in
+    let new_is = ap in_runs c.deref-7.ensures.value ∙ c.new.view_is in
     let firsts = subst (λ z. NewSteps touched xs z (steps_seen c.in_ok-steps.steps.items)) new_is c.in_ok-steps.ensures in
-    let lasts = subst (λ z. InnerSteps touched xs z (steps_seen c.in_ok-inner.inner.items)) c.deref-8.ensures.value c.in_ok-inner.ensures in
+    let lasts = subst (λ z. InnerSteps touched xs z (steps_seen c.in_ok-inner.inner.items)) c.deref-9.ensures.value c.in_ok-inner.ensures in
     let few = few_made touched c.args.kept.now c.args.new.now c.requires l.gone.items l.found.items l.inner.items looked c.in_ok-patch.patch fits patched (steps_seen c.in_ok-steps.steps.items) (steps_seen c.in_ok-inner.inner.items) firsts lasts in
     let all = ap made_count (ap steps_seen c.in_ok-append.ensures.items ∙ steps_append c.in_ok-steps.steps.items c.in_ok-inner.inner.items) in
     let many = ap length keys in
@@ -290,11 +297,11 @@ plan_level-returns g t c =
     let entries = ap kept_entries c.deref.ensures.value ∙ ap (λ k. k.entries) c.kept.view_is in
     let graph = ap (λ k. k.graph) c.kept.view_is in
     let l = c.in_ok-looked.looked in
-    let looked = looked_as touched xs _ _ (new_names c.args.new.now) l.gone.items l.found.items l.inner.items entries (c.deref-2.ensures.value ∙ keys) c.in_ok-looked.ensures in
+    let looked = looked_as touched xs _ _ (new_names c.args.new.now) l.gone.items l.found.items l.inner.items entries (c.deref-3.ensures.value ∙ keys) c.in_ok-looked.ensures in
     let fits = subst (λ z. FitsPatch c.in_ok-patch.patch z) graph c.in_ok-patch.ensures.fits in
-    let patched = is_patched_as l.gone.items _ (new_names c.args.new.now) _ l.found.items _ c.args.kept.now.graph _ c.deref-3.ensures.value (c.deref-4.ensures.value ∙ keys) c.deref-5.ensures.value graph c.in_ok-patch.patch c.in_ok-patch.ensures.patched in
-    let new_is = ap in_runs c.deref-6.ensures.value ∙ c.new.view_is in
+    let patched = is_patched_as l.gone.items _ (new_names c.args.new.now) _ l.found.items _ c.args.kept.now.graph _ c.deref-4.ensures.value (c.deref-5.ensures.value ∙ keys) c.deref-6.ensures.value graph c.in_ok-patch.patch c.in_ok-patch.ensures.patched in
+    let new_is = ap in_runs c.deref-7.ensures.value ∙ c.new.view_is in
     let firsts = subst (λ z. NewSteps touched xs z (steps_seen c.in_ok-steps.steps.items)) new_is c.in_ok-steps.ensures in
-    let lasts = subst (λ z. InnerSteps touched xs z (steps_seen c.in_ok-inner.inner.items)) c.deref-8.ensures.value c.in_ok-inner.ensures in
+    let lasts = subst (λ z. InnerSteps touched xs z (steps_seen c.in_ok-inner.inner.items)) c.deref-9.ensures.value c.in_ok-inner.ensures in
     subst (λ z. IsPlan touched c.args.kept.now c.args.new.now (record { patch = c.in_ok-patch.patch; steps = z })) (sym (ap steps_seen c.in_ok-append.ensures.items ∙ steps_append c.in_ok-steps.steps.items c.in_ok-inner.inner.items))
     (planned touched c.args.kept.now c.args.new.now c.requires l.gone.items l.found.items l.inner.items looked c.in_ok-patch.patch fits patched (steps_seen c.in_ok-steps.steps.items) (steps_seen c.in_ok-inner.inner.items) firsts lasts)

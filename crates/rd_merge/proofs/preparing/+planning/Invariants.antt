@@ -1,8 +1,9 @@
 use Rattle.std.proofs.Common.{◌≡◌, ◌+◌, ◌*◌, ◌∷◌, [], take, drop}
 use Rattle.std.specs.Prelude.{map}
 use Rattle.rd_list.specs.EntryNames.{new_names}
-use Rattle.rd_list.specs.Entries.{list_size}
+use Rattle.rd_list.specs.Entries.{group, list_size, nil}
 use Rattle.rd_list.specs.NewView.{new_entries, in_runs}
+use Rattle.rd_list.specs.Wrappers.{wrapper}
 use Rattle.rd_merge.specs.PlanView.{steps_seen}
 use Rattle.rd_merge.specs.Internal.Planning.{NewSteps, InnerSteps, place_in}
 use Rattle.rd_merge.proofs.preparing.+planning.Given as goal
@@ -18,6 +19,9 @@ decreases-plan_run g l = 6 * (list_size l.kept.now.entries + list_size (new_entr
 
 abbrev pub decreases-plan_entry : goal.decreases-plan_entry
 decreases-plan_entry g l = 6 * (list_size l.kept.now.entries + list_size (new_entries (l.entry.now ∷ []))) + 1
+
+abbrev pub decreases-plan_group_step : goal.decreases-plan_group_step
+decreases-plan_group_step g l = 6 * (list_size l.kept.now.entries + list_size (group (wrapper l.key l.opacity) l.inner.now nil))
 
 abbrev pub decreases-plan_new_group : goal.decreases-plan_new_group
 decreases-plan_new_group g l = 6 * (list_size l.kept.now.entries + list_size l.new.now) + 5

@@ -25,11 +25,12 @@ gather-loop-i-init g t c =
     let past = c.next_within-i.ensures.same in
     record {
       at = c.next_within-i.ensures.within;
+      block = c.next_within-i.ensures.at;
       within = omega arith;
       closed = closed_none;
       same =
           serves_less (InAreaWithin c.args.area.now c.args.columns c.args.rows) (picked (take 0 c.args.room.now) (shown c.args.entries.now)) (shown (drop c.next_within-i.result c.args.entries.now)) (shown c.args.entries.now) (shown c.args.entries.now)
-          ((λ x y d h. past.0 x y d h.1), past.1)
+          past
           (serves_by (InAreaWithin c.args.area.now c.args.columns c.args.rows) _ _ (ap (λ (xs : Entries Wrapper item.Leaf). xs ▷ shown c.args.entries.now) (picked-none (shown c.args.entries.now))));
     }
 
@@ -47,9 +48,10 @@ gather-loop-i-preserved g t c =
     let past = c.next_within-i-in-loop-i.ensures.same in
     let written = written_past (InAreaWithin c.args.area.now c.args.columns c.args.rows) (shown c.args.entries.now) (shown c.args.entries.now) (shown (c.index-entries-i.result ∷ [])) (shown (drop (c.loop-i.i + 1) c.args.entries.now)) (shown (drop c.loop-i.i c.args.entries.now)) (shown (drop c.next_within-i-in-loop-i.result c.args.entries.now))
     c.loop-i.room c.gather_one.new.room c.loop-i.count c.in_ok-more.more (length c.loop-i.room - c.loop-i.count) c.loop-i.invariant.within fits (shown_from c.args.entries.now c.loop-i.i c.index-entries-i.result c.loop-i-test.true c.index-entries-i.is)
-    c.loop-i.invariant.closed c.in_ok-more.ensures.closed c.loop-i.invariant.same (c.in_ok-more.ensures.same (shown c.args.entries.now) at) ((λ x y d h. past.0 x y d h.1), past.1) in
+    c.loop-i.invariant.closed c.in_ok-more.ensures.closed c.loop-i.invariant.same (c.in_ok-more.ensures.same (shown c.args.entries.now) at) past in
     record {
       at = c.next_within-i-in-loop-i.ensures.within;
+      block = c.next_within-i-in-loop-i.ensures.at;
       within = put_fits c.loop-i.count (length c.loop-i.room - c.loop-i.count) c.in_ok-more.more c.loop-i.room c.gather_one.new.room c.loop-i.invariant.within fits;
       closed = written.0;
       same = written.1;

@@ -16,5 +16,5 @@ returns-clause-looks g c = looks_are c.args.tree.now c.root.ensures.rooted c.roo
 pub returns-clause-area : goal.returns-clause-area
 returns-clause-area g c =
     invalid_is c.args.tree.now c.root.ensures.rooted c.root.ensures.apart c.root.result c.root.ensures.root c.at_root-s.result (c.at_root-s.ensures ∙ ap (λ z. at_root (canvas_of z)) c.canvas-2.ensures.size)
-    (kept_leaves c.args.list.list.now.entries) c.in_ok-area.area c.add_entries.new.area c.add_root.new.area (c.in_ok-area.ensures.size ∙ c.canvas.ensures.size) c.in_ok-area.ensures.pixels
-    (subst (λ z. Joins (any_shows c.args.tree.now (kept_leaves z)) c.in_ok-area.area c.add_entries.new.area) c.entries.ensures c.in_ok-add_entries.ensures) c.in_ok-add_root.ensures.area
+    (kept_leaves c.args.list.list.now.entries) c.in_ok-area.area c.add_list.new.area c.add_root.new.area (c.in_ok-area.ensures.size ∙ c.canvas.ensures.size) c.in_ok-area.ensures.pixels
+    (subst (λ k. Joins (any_shows c.args.tree.now (kept_leaves k.entries)) c.in_ok-area.area c.add_list.new.area) c.list.ensures c.in_ok-add_list.ensures) c.in_ok-add_root.ensures.area

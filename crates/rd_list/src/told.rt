@@ -1,0 +1,155 @@
+//! What is told of entries at once: where all that may be seen of them lies, how many leaves they are or hold, and the range of
+//! their names.
+ghost use Rattle.std.specs.Prelude.{IfSome, IsTrue, List, ◌≡◌, ◌∷◌, ◌++◌, []};
+ghost use Rattle.rd_geom.specs.Plane.{IsWithin};
+ghost use Rattle.rd_list.specs.declared.kept.Entry.{Entry as KeptEntry};
+ghost use Rattle.rd_list.specs.Blocks.{Covers, IsGroupTold, IsLeaf, IsListTold, IsTold, IsWider};
+ghost use Rattle.rd_list.specs.Entries.{is_empty};
+ghost use Rattle.rd_list.specs.KeptView.{kept_entries};
+ghost use Rattle.rd_list.specs.Internal.Telling.{IsBoth};
+
+use crate::blocks::Block;
+use crate::kept::{Entry, Kept};
+use rd_geom::{Rect, hull};
+use rd_keys::{BoxKey, KeyRange};
+use std::sync::ledger::Ledger;
+
+/// What is told of some entries: all that may be seen of them is in the hull, they are or hold so many leaves, and the boxes of these
+/// leaves and of the groups round them are among the keys. No group of them is empty.
+#[derive(Clone, Copy)]
+pub struct Told {
+    pub hull: Rect,
+    pub leaves: usize,
+    pub keys: KeyRange,
+}
+
+/// What is told of no entry.
+pub(crate) const NOTHING: Told = Told {
+    hull: Rect::EMPTY,
+    leaves: 0,
+    keys: KeyRange::NONE,
+};
+
+/// Is all of the first rectangle in the second?
+#[inline(always)]
+fn is_within(a: Rect, b: Rect) -> bool
+    ensures { IsTrue result → IsWithin a b }
+{
+    if a.x() < b.x() {
+        return false;
+    }
+    if a.y() < b.y() {
+        return false;
+    }
+    if b.right() < a.right() {
+        return false;
+    }
+    a.bottom() <= b.bottom()
+}
+
+/// Does what is told of other entries say all that the first says?
+#[inline(always)]
+pub(crate) fn is_wider(told: Told, wider: Told) -> bool
+    ensures { IsTrue result → IsWider told wider }
+{
+    is_within(told.hull, wider.hull) && wider.keys.has_all(told.keys)
+}
+
+/// What is told of some entries and of some more. None where that would be too many leaves.
+#[inline(always)]
+fn joined(told: &Told, more: &Told) -> Option<Told>
+    ensures { IfSome result (IsBoth told.now more.now) }
+{
+    let leaves = told.leaves.checked_add(more.leaves)?;
+    Some(Told {
+        hull: hull(told.hull, more.hull),
+        leaves,
+        keys: told.keys.joined(more.keys),
+    })
+}
+
+/// What blocks tell of all entries of a level. None where one is open, or an entry has none.
+fn told_by<A: Ledger>(blocks: &[Block], entries: &[Entry<A>]) -> Option<Told>
+    requires { Covers blocks.now entries.now }
+    ensures { IfSome result (λ t. IsTold t entries.now) }
+{
+    let mut told = NOTHING;
+    let mut place = 0;
+    for block in blocks {
+        if block.is_open {
+            return None;
+        }
+        told = joined(&told, &block.told)?;
+        place += block.count;
+    }
+    if place < entries.len() {
+        return None;
+    }
+    Some(told)
+}
+
+/// What blocks tell of a list.
+pub(crate) fn list_told<A: Ledger>(list: &Kept<A>) -> Option<Told>
+    ensures { IfSome result (λ t. IsListTold t list.now.entries) }
+{
+    told_by(&list.blocks, &list.entries)
+}
+
+/// Is there no entry?
+#[inline(always)]
+fn has_none<A: Ledger>(entries: &[Entry<A>]) -> bool
+    ensures { result ≡ is_empty (kept_entries entries.now) }
+{
+    entries.is_empty()
+}
+
+/// What is told of the group of a box with this list. None of an empty one.
+fn group_told<A: Ledger>(key: BoxKey, list: &Kept<A>) -> Option<Told>
+    ensures { IfSome result (λ t. IsGroupTold t key list.now.entries) }
+{
+    if has_none(&list.entries) {
+        return None;
+    }
+    let told = list_told(list)?;
+    Some(Told {
+        hull: told.hull,
+        leaves: told.leaves,
+        keys: told.keys.joined(KeyRange::one(key)),
+    })
+}
+
+/// What is told of a leaf. None of a group.
+#[inline(always)]
+pub fn leaf_told<A: Ledger>(entry: &Entry<A>) -> Option<Told>
+    ensures told { IfSome result (λ t. IsTold t (entry.now ∷ [])) }
+    ensures leaf { IfSome result (λ t. IsLeaf entry.now) }
+{
+    match entry {
+        Entry::Leaf(item) => Some(Told {
+            hull: item.visible(),
+            leaves: 1,
+            keys: KeyRange::one(item.owner()),
+        }),
+        Entry::Group(_) => None,
+    }
+}
+
+/// What is told of an entry: of a group by the blocks of its list.
+#[inline(always)]
+fn told_of<A: Ledger>(entry: &Entry<A>) -> Option<Told>
+    ensures { IfSome result (λ t. IsTold t (entry.now ∷ [])) }
+{
+    match entry {
+        Entry::Leaf(_) => leaf_told(entry),
+        Entry::Group(group) => group_told(group.key, &group.inner),
+    }
+}
+
+/// What is told of some entries, and of one more.
+#[inline(always)]
+pub(crate) fn told_more<A: Ledger>(told: &Told, entry: &Entry<A>) -> Option<Told>
+    ensures { (es : List (KeptEntry A)) → IsTold told.now es → IfSome result (λ t. IsTold t (es ++ entry.now ∷ [])) }
+{
+    let more = told_of(entry)?;
+    joined(told, &more)
+}

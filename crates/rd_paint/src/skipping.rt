@@ -1,0 +1,162 @@
+//! Entries that may not show in an area are passed over: blocks of them whose hull is off it, and leaves.
+
+ghost use Rattle.std.specs.Prelude.{◌≡◌, ℤ, ◌+◌, ◌≤◌, ◌∷◌, [], IsTrue, false, length, take, drop};
+ghost use Rattle.rd_geom.specs.Areas.{meets_area};
+ghost use Rattle.rd_geom.specs.Plane.{holds_pixel};
+ghost use Rattle.rd_list.specs.Blocks.{Covers, IsAt, Tells};
+ghost use Rattle.rd_list.specs.Displayed.{shown};
+ghost use Rattle.rd_list.specs.Entries as list;
+ghost use Rattle.rd_paint.specs.Internal.Picks.{InAreaWithin, InSpans, SameWhere, ServesWhere};
+
+use rd_area::Area;
+use rd_geom::{Rect, Span};
+use rd_list::{Block, Entry, Seek};
+use std::sync::ledger::Ledger;
+
+/// Has the rectangle no pixel in these columns of these rows?
+#[inline(always)]
+fn misses(r: Rect, columns: Span, rows: Span) -> bool
+    ensures { IsTrue result → (x y : ℤ) → InSpans columns rows x y → holds_pixel r x y ≡ false }
+{
+    if columns.x1 <= r.x() {
+        return true;
+    }
+    if rows.x1 <= r.y() {
+        return true;
+    }
+    if r.right() <= columns.x0 {
+        return true;
+    }
+    r.bottom() <= rows.x0
+}
+
+/// Is the entry a leaf that has no pixel in these columns of these rows?
+#[inline(always)]
+fn lies_outside<A: Ledger>(entry: &Entry<A>, columns: Span, rows: Span) -> bool
+    ensures { IsTrue result → SameWhere (InSpans columns rows) list.nil (shown (entry.now ∷ [])) }
+{
+    match entry {
+        Entry::Leaf(item) => misses(item.visible(), columns, rows),
+        Entry::Group(_) => false,
+    }
+}
+
+/// Are the four entries from a place on such leaves?
+#[inline(always)]
+fn four_outside<A: Ledger>(entries: &[Entry<A>], i: usize, columns: Span, rows: Span) -> bool
+    requires { i + 4 ≤ length entries.now }
+    ensures { IsTrue result → ServesWhere (InSpans columns rows)
+        (shown (drop (i + 4) entries.now)) (shown (drop i entries.now)) }
+{
+    if !lies_outside(&entries[i], columns, rows) {
+        return false;
+    }
+    if !lies_outside(&entries[i + 1], columns, rows) {
+        return false;
+    }
+    if !lies_outside(&entries[i + 2], columns, rows) {
+        return false;
+    }
+    lies_outside(&entries[i + 3], columns, rows)
+}
+
+/// The place of the next entry before an end that is no such leaf, or the end.
+fn next_before<A: Ledger>(
+    entries: &[Entry<A>],
+    from: usize,
+    end: usize,
+    columns: Span,
+    rows: Span,
+) -> usize
+    requires from { from ≤ end }
+    requires end { end ≤ length entries.now }
+    ensures from { from ≤ result }
+    ensures end { result ≤ end }
+    ensures same { ServesWhere (InSpans columns rows)
+        (shown (drop result entries.now)) (shown (drop from entries.now)) }
+{
+    let mut i = from;
+    while end - i >= 4 && four_outside(entries, i, columns, rows) {
+        i += 4;
+    }
+    while i < end && lies_outside(&entries[i], columns, rows) {
+        i += 1;
+    }
+    i
+}
+
+/// May no entry of the block show in the area?
+#[inline(always)]
+fn is_off(block: &Block, area: &Area) -> bool
+    ensures open { IsTrue result → block.now.is_open ≡ false }
+    ensures off { IsTrue result → meets_area area.now block.now.told.hull ≡ false }
+{
+    !block.is_open && !area.meets(block.told.hull)
+}
+
+/// The same before the end of a block, which is passed as a whole where no entry of it may show in the area.
+fn next_in_block<A: Ledger>(
+    entries: &[Entry<A>],
+    block: &Block,
+    start: usize,
+    area: &Area,
+    from: usize,
+    columns: Span,
+    rows: Span,
+) -> usize
+    requires from { from ≤ length entries.now }
+    requires end { start + block.now.count ≤ length entries.now }
+    requires told { block.now.is_open ≡ false → Tells block.now (take block.now.count (drop start entries.now)) }
+    ensures from { from ≤ result }
+    ensures within { result ≤ length entries.now }
+    ensures same { ServesWhere (InAreaWithin area.now columns rows)
+        (shown (drop result entries.now)) (shown (drop from entries.now)) }
+{
+    let end = start + block.count;
+    if from >= end {
+        return from;
+    }
+    if from == start && is_off(block, area) {
+        return end;
+    }
+    next_before(entries, from, end, columns, rows)
+}
+
+/// The place of the next entry that may show in the area, as far as it is in these columns of these rows, or how many entries
+/// there are. Its block is sought from the one of the last.
+pub(crate) fn next_within<A: Ledger>(
+    entries: &[Entry<A>],
+    blocks: &[Block],
+    area: &Area,
+    seek: &mut Seek,
+    from: usize,
+    columns: Span,
+    rows: Span,
+) -> usize
+    requires from { from ≤ length entries.now }
+    requires covers { Covers blocks.now entries.now }
+    requires at { IsAt blocks.now seek.old.at seek.old.start }
+    ensures within { result ≤ length entries.now }
+    ensures from { from ≤ result }
+    ensures at { IsAt blocks.now seek.new.at seek.new.start }
+    ensures same { ServesWhere (InAreaWithin area.now columns rows)
+        (shown (drop result entries.now)) (shown (drop from entries.now)) }
+{
+    let mut i = from;
+    let mut now = *seek;
+    while now.at < blocks.len() {
+        let block = &blocks[now.at];
+        let end = now.start + block.count;
+        i = next_in_block(entries, block, now.start, area, i, columns, rows);
+        if i < end {
+            *seek = now;
+            return i;
+        }
+        now = Seek {
+            at: now.at + 1,
+            start: end,
+        };
+    }
+    *seek = now;
+    next_before(entries, i, entries.len(), columns, rows)
+}
