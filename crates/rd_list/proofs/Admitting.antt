@@ -2,7 +2,7 @@
 use Rattle.std.proofs.Common.{◌≡◌, refl, ap, ◌∙◌, sym, subst, ℕ, zero, suc, ◌+◌, ◌-◌, ◌<◌, ◌≤◌, Bool, false, List, [], ◌∷◌, length, take, drop, get_or, set, Option, Some, None, inl, inr, ◌⊎◌, arith}
 use Rattle.std.specs.Prelude.{IfSome, IsTrue, MatchOption, ◌≢◌}
 use Rattle.std.proofs.lemmas.Bool.{cases_lt}
-use Rattle.std.proofs.lemmas.List.{length-take-le, length-drop, get_or-take, get_or-drop}
+use Rattle.std.proofs.lemmas.List.{length-take-le, length-drop, get_or-take, get_or-drop, drop-drop}
 use Rattle.rd_geom.specs.Plane.{Rectangle}
 use Rattle.rd_keys.specs.declared.range.KeyRange.{KeyRange}
 use Rattle.rd_list.specs.Blocks.{IsHeld, AreHeld, AreNamed, IsTold, IsWider, Tells, Covers, total, leaf_count, ChangesTo, IsAt, IsFound, IsLeaf}
@@ -64,15 +64,6 @@ module _ {A : Type 0} where
       let a = length-take-le n xs l in
       let b = length-take-le n ys (omega (arith, l, e)) in
       same_lists (take n xs) (take n ys) (a ∙ sym b) (λ k d m. (let j : k < n = omega (arith, m, a) in get_or-take n xs k d j ∙ f k d j ∙ sym (get_or-take n ys k d j)))
-
-  drop_twice : (xs : List (Entry A)) (j n : ℕ) → drop n (drop j xs) ≡ drop (j + n) xs
-  drop_twice xs zero n = ap (λ m. drop m xs) (let e : n ≡ 0 + n = omega arith in e)
-  drop_twice [] (suc j) n = drop_nil n ∙ sym (drop_nil (suc j + n))
-    where
-      drop_nil : (m : ℕ) → drop {A = Entry A} m [] ≡ []
-      drop_nil zero = refl
-      drop_nil (suc m) = refl
-  drop_twice (x ∷ xs) (suc j) n = drop_twice xs j n ∙ ap (λ m. drop m (x ∷ xs)) (let s : suc (j + n) ≡ suc j + n = omega arith in s)
 
   -- the entries from a place on
   same_back : (n : ℕ) (xs ys : List (Entry A)) → length xs ≡ length ys → ((k : ℕ) (d : Entry A) → n ≤ k → get_or xs k d ≡ get_or ys k d) → drop n xs ≡ drop n ys
@@ -251,5 +242,5 @@ module _ {A : Type 0} where
       let n = length-drop x.count xs in
       let r = found_told bs (drop x.count xs) at (start - x.count) b c.2 (omega (arith, l), omega (arith, e)) (omega (arith, h)) is in
       let k = r.0 in
-      let there : drop (start - x.count) (drop x.count xs) ≡ drop start xs = drop_twice xs x.count (start - x.count) ∙ ap (λ j. drop j xs) (let z : x.count + (start - x.count) ≡ start = omega (arith, e) in z) in
+      let there : drop (start - x.count) (drop x.count xs) ≡ drop start xs = drop-drop (start - x.count) x.count xs ∙ ap (λ j. drop j xs) (let z : x.count + (start - x.count) ≡ start = omega (arith, e) in z) in
       (omega (arith, k, n, e, m), (λ f. subst (λ ys. Tells b (take b.count ys)) there (r.1 f)))

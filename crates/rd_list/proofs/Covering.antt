@@ -2,7 +2,7 @@
 use Rattle.std.proofs.Common.{◌≡◌, refl, ap, ◌∙◌, sym, subst, ℕ, ℤ, zero, suc, ◌+◌, ◌+ℤ◌, ◌-◌, ◌<◌, ◌==◌, ◌≤◌, ◌≤ℤ◌, Bool, true, false, ◌&&◌, List, [], ◌∷◌, ◌++◌, length, take, drop, get_or, Option, None, Some, arith, rules}
 use Rattle.std.specs.Prelude.{IfSome, IsTrue}
 use Rattle.std.proofs.lemmas.Int.{ints}
-use Rattle.std.proofs.lemmas.List.{length-append, length-take-le, length-drop, take-append-le, drop-append-le, take-append-drop, take_more}
+use Rattle.std.proofs.lemmas.List.{length-append, length-take-le, length-drop, take-append-le, drop-append-le, take-append-drop, take_more, drop-drop}
 use Rattle.rd_geom.specs.Plane.{Rectangle, IsWithin, is_among}
 use Rattle.rd_item.specs.Items.{Made}
 use Rattle.rd_list.specs.Blocks.{IsHeld, AreHeld, AreNamed, AreWithin, IsGroupTold, IsListTold, IsTold, Tells, Covers, CoversAll, total, leaf_count, IsAt}
@@ -242,21 +242,12 @@ module _ {A : Type 0} where
       let d : Covers (b ∷ drop (i + 1) bs) (drop p es) = subst (λ cs. Covers cs (drop p es)) first c in
       let n = length-drop p es in
       let m = d.0 in
-      (omega (arith, m, n), d.1, subst (Covers (drop (i + 1) bs)) (drop_on es p b.count) d.2)
+      (omega (arith, m, n), d.1, subst (Covers (drop (i + 1) bs)) (drop-drop b.count p es) d.2)
     where
       drop_first : (xs : List Block) (j : ℕ) (x : Block) → j < length xs → x ≡ get_or xs j x → drop j xs ≡ x ∷ drop (j + 1) xs
       drop_first [] j x k e = absurd (omega (arith, k))
       drop_first (y ∷ ys) zero x k e = ap (λ z. z ∷ ys) (sym e)
       drop_first (y ∷ ys) (suc j) x k e = drop_first ys j x (omega (arith, k)) e ∙ ap (λ n. x ∷ drop n (y ∷ ys)) (let s : suc (j + 1) ≡ suc j + 1 = omega arith in s)
-
-      drop_on : (xs : List (Entry A)) (j n : ℕ) → drop n (drop j xs) ≡ drop (j + n) xs
-      drop_on xs zero n = ap (λ m. drop m xs) (let e : n ≡ 0 + n = omega arith in e)
-      drop_on [] (suc j) n = drop_nil n ∙ sym (drop_nil (suc j + n))
-        where
-          drop_nil : (m : ℕ) → drop {A = Entry A} m [] ≡ []
-          drop_nil zero = refl
-          drop_nil (suc m) = refl
-      drop_on (x ∷ xs) (suc j) n = drop_on xs j n ∙ ap (λ m. drop m (x ∷ xs)) (let s : suc (j + n) ≡ suc j + n = omega arith in s)
 
   -- a block that stays, on top of those of the entries before it
   pub stay_next : (old new : List Block) (b : Block) (es : List (Entry A)) (p : ℕ) → CoversAll old (take p es) → b.count ≤ length es - p → (b.is_open ≡ false → Tells b (take b.count (drop p es)))
