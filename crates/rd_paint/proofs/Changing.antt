@@ -5,7 +5,7 @@ use Rattle.std.proofs.lemmas.Int.{ints}
 use Rattle.std.proofs.lemmas.List.{get_or-take, get_or-drop}
 use Rattle.std.proofs.lemmas.Bool.{cases_lt, le-leb, lt-leb, lt-ltb, le-ltb, eqb-true, leb-true, ltb-true}
 use Rattle.rd_geom.specs.Areas.{Region, in_area, in_span, in_spans, spans_at}
-use Rattle.rd_geom.specs.Colors.{Premultiplied, clear, white, laid_over, premultiplied}
+use Rattle.rd_geom.specs.Colors.{Premultiplied, clear, white, laid_over}
 use Rattle.rd_geom.specs.Plane.{IsWithin, holds_pixel, is_among, right, bottom}
 use Rattle.rd_geom.specs.declared.span.Span.{Span}
 use Rattle.rd_item.specs.declared.leaf.Leaf.{Leaf}
@@ -17,7 +17,7 @@ use Rattle.rd_list.proofs.Composing.{composed-join}
 use Rattle.rd_paint.specs.Pictures.{Picture, pixel_at, span_of}
 use Rattle.rd_paint.specs.Lending.{HasSpan}
 use Rattle.rd_paint.specs.Internal.Bands.{IsBandPainted}
-use Rattle.rd_paint.specs.Internal.Blocks.{in_block, on_canvas, IsBlockChanged, IsBlockLaid, IsRunPainted, over_around}
+use Rattle.rd_paint.specs.Internal.Blocks.{in_block, on_canvas, IsBlockChanged, IsBlockLaid, IsRunPainted, over_around, over_leaf}
 use Rattle.rd_paint.specs.Internal.Runs.{each_from, each_at}
 use Rattle.rd_paint.proofs.Pieces.{seen_covers}
 use Rattle.rd_paint.proofs.Places.{get_or-each_at, length-each_from}
@@ -196,13 +196,13 @@ part_is s part c a b l r ea eb el er h places x =
         shifted u ∙ sym (places (x - a) (omega arith)) ∙ ap (λ n. in_span c (pos n)) e ∙ rw (le-leb a x u, lt-ltb x b v) refl
 
 -- a leaf where it may be seen of a block
-pub leaf_laid : (l : Leaf) (q : Premultiplied) (s part columns rows : Span) (y0 y1 a b left to top end : ℕ) (old new : Picture) → IsWithin l.visible l.shape.outer → q ≡ premultiplied l.color
+pub leaf_laid : (l : Leaf) (q : Premultiplied) (s part columns rows : Span) (y0 y1 a b left to top end : ℕ) (old new : Picture) → IsWithin l.visible l.shape.outer
     → s.x0 ≡ pos a → s.x1 ≡ pos b → part.x0 ≡ pos (a + left) → part.x1 ≡ pos (a + to) → to ≤ b - a → end ≤ y1 - y0
     → columns ≡ record { x0 = l.visible.x; x1 = right l.visible } → rows ≡ record { x0 = l.visible.y; x1 = bottom l.visible }
     → ((k : ℕ) → k < b - a → in_span columns (pos (a + k)) ≡ (nat_le left k && nat_lt k to))
     → ((k : ℕ) → k < y1 - y0 → in_span rows (pos (y0 + k)) ≡ (nat_le top k && nat_lt k end))
-    → IsBlockChanged (over_around q l.shape.inner) part (y0 + top) (y0 + end) old new → IsBlockLaid (leaf l nil) s y0 y1 old new
-leaf_laid l q s part columns rows y0 y1 a b left to top end old new w c ea eb el er ht he ec ew across down h = record { width = h.width; height = h.height; pixels = at }
+    → IsBlockChanged (over_around q l.shape.inner) part (y0 + top) (y0 + end) old new → IsBlockChanged (over_leaf q l) s y0 y1 old new
+leaf_laid l q s part columns rows y0 y1 a b left to top end old new w ea eb el er ht he ec ew across down h = record { width = h.width; height = h.height; pixels = at }
   where
     run : (y0 y1 : ℕ) → Span
     run y0 y1 = record { x0 = pos y0; x1 = pos y1 }
@@ -225,14 +225,13 @@ leaf_laid l q s part columns rows y0 y1 a b left to top end old new w c ea eb el
     by_parts true false false u n f o = refl
     by_parts false v i u n f o = refl
 
-    at : (x row : ℕ) → x < old.width → row < old.height → on_canvas new x row ≡ cond (in_block s y0 y1 x row) (composed (pos x) (pos row) (on_canvas old x row) (leaf l nil)) (on_canvas old x row)
+    at : (x row : ℕ) → x < old.width → row < old.height → on_canvas new x row ≡ cond (in_block s y0 y1 x row) (over_leaf q l x row (on_canvas old x row)) (on_canvas old x row)
     at x row p k =
         h.pixels x row p k
         ∙ ap (λ t. cond (t && in_span part (pos x)) (over_around q l.shape.inner x row (on_canvas old x row)) (on_canvas old x row)) (of_rows row)
         ∙ ap (λ t. cond (((nat_le y0 row && nat_lt row y1) && is_among l.visible.y l.visible.h (pos row)) && t) (over_around q l.shape.inner x row (on_canvas old x row)) (on_canvas old x row)) (of_columns x)
         ∙ by_parts (nat_le y0 row && nat_lt row y1) (is_among l.visible.y l.visible.h (pos row)) (in_span s (pos x)) (is_among l.visible.x l.visible.w (pos x)) (not (holds_pixel l.shape.inner (pos x) (pos row))) (laid_over q (on_canvas old x row)) (on_canvas old x row)
         ∙ ap (λ t. cond (in_block s y0 y1 x row) (cond t (laid_over q (on_canvas old x row)) (on_canvas old x row)) (on_canvas old x row)) (sym (seen_covers l (pos x) (pos row) w))
-        ∙ ap (λ z. cond (in_block s y0 y1 x row) (cond (covers l (pos x) (pos row)) (laid_over z (on_canvas old x row)) (on_canvas old x row)) (on_canvas old x row)) c
 
 -- where a list was laid over what does not show
 pub block_hidden : (rest whole : Entries Wrapper Leaf) (s : Span) (y0 y1 a b : ℕ) (old new : Picture) → s.x0 ≡ pos a → s.x1 ≡ pos b

@@ -105,6 +105,16 @@ over_none s d e = rw e (omega (arith, times_by_whole d))
 none_over : (k d : ℕ) → over_scaled k d ≡ d
 none_over k d = over_none (times 0 k) d (times_none k)
 
+clear_under : (n k : ℕ) → n + times 0 k ≡ n
+clear_under n k = rw (times_none k) (omega arith)
+
+-- a pixel over a clear one
+pub over_clear : (q : Premultiplied) → laid_over q clear ≡ q
+over_clear q =
+    let k = 255 - q.a in
+    ap (λ n. px n (q.g + times 0 k) (q.b + times 0 k) (q.a + times 0 k)) (clear_under q.r k) ∙ ap (λ n. px q.r n (q.b + times 0 k) (q.a + times 0 k)) (clear_under q.g k)
+    ∙ ap (λ n. px q.r q.g n (q.a + times 0 k)) (clear_under q.b k) ∙ ap (λ n. px q.r q.g q.b n) (clear_under q.a k)
+
 -- a group of nothing
 pub scaled_clear : (k : ℕ) (d : Premultiplied) → laid_over (scaled clear k) d ≡ d
 scaled_clear k d =

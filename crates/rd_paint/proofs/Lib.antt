@@ -14,3 +14,4 @@ pub mod Banding
 pub mod Framing
 pub mod Seen
 pub mod Changing
+pub mod Beside

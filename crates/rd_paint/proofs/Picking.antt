@@ -1,6 +1,7 @@
 -- The laws of picks.
 use Rattle.std.proofs.Common.{◌≡◌, refl, ◌∙◌, sym, ap, ℕ, zero, suc, ◌+◌, ◌-◌, ◌<◌, ◌≤◌, min, List, [], ◌∷◌, ◌++◌, length, take, drop, get_or, arith, length-take, length-drop, append_assoc, subst, length-append}
-use Rattle.std.proofs.lemmas.List.{drop_more, length-take-le}
+use Rattle.std.specs.Prelude.{Option, Some, None, IfSome}
+use Rattle.std.proofs.lemmas.List.{drop_all, drop_more, length-take-le}
 use Rattle.rd_item.specs.declared.leaf.Leaf as item
 use Rattle.rd_list.specs.Displayed.{shown}
 use Rattle.rd_list.specs.Entries.{Entries, nil, leaf, group, ◌▷◌}
@@ -217,3 +218,15 @@ put_fits a n m xs mid h k =
     let q = length-append (take a xs) (mid ++ drop n (drop a xs)) in
     let r = length-append mid (drop n (drop a xs)) in
     omega (arith, t, q, r, k)
+
+-- where something was found, what else holds of it
+pub some_by : {A : Type 0} (p q : A → Type 0) (o : Option A) → ((x : A) → p x → q x) → IfSome o p → IfSome o q
+some_by p q None f h = tt
+some_by p q (Some x) f h = f x h
+
+-- the only pick of a list names a leaf
+pub named_alone : (ps own : List Pick) (place : ℕ) (es : List_of) (l : item.Leaf) → length ps ≡ 1 → ((xs : List_of) → picked (drop 0 ps) xs ≡ chosen own place xs ▷ picked (drop (0 + 1 + length own) ps) xs)
+    → chosen own place es ≡ leaf l nil → picked ps es ≡ leaf l nil
+named_alone ps own place es l n parts h =
+    parts es ∙ ap (λ xs. xs ▷ picked (drop (0 + 1 + length own) ps) es) h
+    ∙ ap (λ qs. leaf l nil ▷ picked qs es) (drop_all (0 + 1 + length own) ps (omega (arith, n))) ∙ ap (λ xs. leaf l nil ▷ xs) (picked-none es)

@@ -9,6 +9,7 @@ use Rattle.rd_geom.specs.Areas.{in_span}
 use Rattle.rd_geom.specs.Plane.{holds_pixel, is_among, right}
 use Rattle.rd_geom.specs.declared.span.Span.{Span}
 use Rattle.rd_item.specs.declared.leaf.Leaf as item
+use Rattle.rd_item.specs.Leaves.{covers}
 use Rattle.rd_list.specs.Entries.{Entries, nil, leaf, ◌▷◌}
 use Rattle.rd_list.specs.Lists.{composed}
 use Rattle.rd_list.specs.Wrappers.{Wrapper}
@@ -30,9 +31,12 @@ no_column true true v vy h = rw h refl
 no_column true false v vy h = refl
 no_column false b v vy h = refl
 
+pub columns_uncovered : (l : item.Leaf) (x y : ℤ) → in_span (record { x0 = l.visible.x; x1 = right l.visible }) x ≡ false → covers l x y ≡ false
+columns_uncovered l x y h = no_column (holds_pixel l.shape.outer x y) (not (holds_pixel l.shape.inner x y)) (is_among l.visible.x l.visible.w x) (is_among l.visible.y l.visible.h y) h
+
 -- a leaf shows only in the columns and rows where it may be seen
 pub leaf_off_columns : (l : item.Leaf) (x y : ℤ) (d : Premultiplied) → in_span (record { x0 = l.visible.x; x1 = right l.visible }) x ≡ false → d ≡ composed x y d (leaf l nil)
-leaf_off_columns l x y d h = sym (rw (no_column (holds_pixel l.shape.outer x y) (not (holds_pixel l.shape.inner x y)) (is_among l.visible.x l.visible.w x) (is_among l.visible.y l.visible.h y) h) refl)
+leaf_off_columns l x y d h = sym (rw (columns_uncovered l x y h) refl)
 
 pub leaf_off_row : (l : item.Leaf) (x y : ℤ) (d : Premultiplied) → is_among l.visible.y l.visible.h y ≡ false → d ≡ composed x y d (leaf l nil)
 leaf_off_row l x y d h = sym (rw (unshown l y h x) refl)

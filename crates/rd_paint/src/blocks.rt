@@ -1,19 +1,23 @@
 //! Painting entries in a block: the columns of a span in some rows.
 
-ghost use Rattle.std.specs.Prelude.{◌≡◌, ℕ, pos, ◌+◌, ◌-◌, ◌*◌, ◌≤◌, ◌<◌, ◌+ℤ◌, ◌≤ℤ◌, ◌∷◌, [], length};
+ghost use Rattle.std.specs.Prelude.{◌≡◌, ℕ, pos, ◌+◌, ◌-◌, ◌*◌, ◌≤◌, ◌<◌, ◌+ℤ◌, ◌≤ℤ◌, ◌∷◌, [], IfSome, IsTrue, List, false, length, unsigned_abs};
 ghost use Rattle.rd_geom.specs.Colors.{white};
+ghost use Rattle.rd_item.specs.Leaves.{covers};
 ghost use Rattle.rd_list.specs.Displayed.{shown};
 ghost use Rattle.rd_list.specs.Entries as list;
 ghost use Rattle.rd_list.specs.EntryNames.{kept_leaves};
 ghost use Rattle.rd_list.specs.Views.{levels, deeper};
-ghost use Rattle.rd_paint.specs.Internal.Blocks.{IsBlockChanged, IsBlockLaid, group_over, over_around};
+ghost use Rattle.rd_paint.specs.Internal.Blocks.{IsBlockChanged, IsBlockLaid, group_over, over_around, over_leaf};
 ghost use Rattle.rd_paint.specs.Internal.Picks.{chosen, picked};
+ghost use Rattle.rd_paint.specs.declared.picks.Pick as named;
 
 use crate::canvas::Canvas;
 use crate::chosen::lay_own;
+use crate::covering::is_beside;
+use crate::narrowing::has_rows;
 use crate::picks::{Pick, pick_at};
 use crate::runs::{clipped, columns, fill, lay_around, rows_of};
-use rd_geom::{Px, Rect, Span, px_of};
+use rd_geom::{Px, Rect, Span, px_of, scale};
 use rd_item::Item;
 use rd_list::{Entry, Kept};
 use std::sync::ledger::Ledger;
@@ -123,8 +127,8 @@ fn lay_pick_in<A: Ledger>(
     ensures { IsBlockLaid (chosen own.now 0 (shown (entry.now ∷ []))) span y0 y1 canvas.old canvas.new }
 {
     match entry {
-        Entry::Leaf(item) => lay_item_in(canvas, item, span, y0, y1),
-        Entry::Group(group) => lay_group_in(
+        Entry::Leaf(item) => lay_leaf_in(canvas, item, span, y0, y1),
+        Entry::Group(group) => lay_inner_in(
             canvas,
             group.opacity,
             &group.inner,
@@ -134,6 +138,72 @@ fn lay_pick_in<A: Ledger>(
             y1,
             rows,
         ),
+    }
+}
+
+/// Lays what picks name of a group over the pixels of the block. A leaf alone needs no row of its own.
+fn lay_inner_in<A: Ledger>(
+    canvas: &mut Canvas,
+    opacity: u8,
+    inner: &Kept<A>,
+    own: &[Pick],
+    span: Span,
+    y0: usize,
+    y1: usize,
+    rows: &mut [Px],
+)
+    requires order_rows { y0 ≤ y1 }
+    requires on { y1 ≤ canvas.old.height }
+    requires wide { canvas.old.width ≤ 4096 }
+    requires high { canvas.old.height ≤ 4096 }
+    requires from { pos 0 ≤ℤ span.x0 }
+    requires order { span.x0 ≤ℤ span.x1 }
+    requires within { span.x1 ≤ℤ pos canvas.old.width }
+    requires rows { canvas.old.width * (deeper (levels (picked own.now (kept_leaves inner.now.entries))) - 1)
+        ≤ length rows.old }
+    ensures { IsBlockChanged (group_over opacity (picked own.now (kept_leaves inner.now.entries)))
+        span y0 y1 canvas.old canvas.new }
+{
+    match only_leaf(inner, own) {
+        Some(item) => {
+            if !is_off(item, span, y0, y1) {
+                let px = scale(px_of(item.color()), opacity);
+                lay_item_in(canvas, item, px, span, y0, y1);
+            }
+        }
+        None => lay_group_in(canvas, opacity, inner, own, span, y0, y1, rows),
+    }
+}
+
+/// The leaf that picks name of a group, where they name nothing else.
+fn only_leaf<'a, A: Ledger>(inner: &'a Kept<A>, own: &[Pick]) -> Option<&'a Item<A>>
+    ensures { IfSome result (λ i. picked own.now (kept_leaves inner.now.entries) ≡ list.leaf i.now.leaf list.nil) }
+{
+    if own.len() != 1 {
+        return None;
+    }
+    let (place, _) = pick_at(own, 0);
+    leaf_at(&inner.entries, place)
+}
+
+/// The leaf at a place, if there is one.
+fn leaf_at<A: Ledger>(entries: &[Entry<A>], place: u32) -> Option<&Item<A>>
+    ensures { IfSome result (λ i. (own : List named.Pick) → chosen own place (shown entries.now) ≡ list.leaf i.now.leaf list.nil) }
+{
+    let index = place as usize;
+    if index < entries.len() {
+        return leaf_of(&entries[index]);
+    }
+    None
+}
+
+/// The item of a leaf.
+fn leaf_of<A: Ledger>(entry: &Entry<A>) -> Option<&Item<A>>
+    ensures { IfSome result (λ i. shown (entry.now ∷ []) ≡ list.leaf i.now.leaf list.nil) }
+{
+    match entry {
+        Entry::Leaf(item) => Some(item),
+        Entry::Group(_) => None,
     }
 }
 
@@ -204,8 +274,25 @@ fn part_of(span: Span, from: usize, to: usize) -> Span
     }
 }
 
+/// Does the item cover no pixel of the block, as is told by where it may be seen?
+fn is_off<A: Ledger>(item: &Item<A>, span: Span, y0: usize, y1: usize) -> bool
+    requires rows { y0 ≤ y1 }
+    requires high { y1 ≤ 4096 }
+    requires from { pos 0 ≤ℤ span.x0 }
+    requires order { span.x0 ≤ℤ span.x1 }
+    requires within { span.x1 ≤ℤ pos 4096 }
+    ensures { IsTrue result → (k row : ℕ) → k < unsigned_abs span.x1 - unsigned_abs span.x0 → y0 ≤ row → row < y1
+        → covers item.now.leaf (pos (unsigned_abs span.x0 + k)) (pos row) ≡ false }
+{
+    let seen = item.visible();
+    if has_rows(seen, y0 as i32, y1 as i32) {
+        return is_beside(columns(seen), span.x0, (span.x1 - span.x0) as usize);
+    }
+    true
+}
+
 /// Lays an item over the pixels of the block.
-fn lay_item_in<A: Ledger>(canvas: &mut Canvas, item: &Item<A>, span: Span, y0: usize, y1: usize)
+fn lay_leaf_in<A: Ledger>(canvas: &mut Canvas, item: &Item<A>, span: Span, y0: usize, y1: usize)
     requires order_rows { y0 ≤ y1 }
     requires on { y1 ≤ canvas.old.height }
     requires wide { canvas.old.width ≤ 4096 }
@@ -215,19 +302,36 @@ fn lay_item_in<A: Ledger>(canvas: &mut Canvas, item: &Item<A>, span: Span, y0: u
     requires within { span.x1 ≤ℤ pos canvas.old.width }
     ensures { IsBlockLaid (list.leaf item.now.leaf list.nil) span y0 y1 canvas.old canvas.new }
 {
+    if !is_off(item, span, y0, y1) {
+        lay_item_in(canvas, item, px_of(item.color()), span, y0, y1);
+    }
+}
+
+/// Lays one pixel over those of the block that the item covers.
+#[inline(never)]
+fn lay_item_in<A: Ledger>(
+    canvas: &mut Canvas,
+    item: &Item<A>,
+    px: Px,
+    span: Span,
+    y0: usize,
+    y1: usize,
+)
+    requires order_rows { y0 ≤ y1 }
+    requires on { y1 ≤ canvas.old.height }
+    requires wide { canvas.old.width ≤ 4096 }
+    requires high { canvas.old.height ≤ 4096 }
+    requires from { pos 0 ≤ℤ span.x0 }
+    requires order { span.x0 ≤ℤ span.x1 }
+    requires within { span.x1 ≤ℤ pos canvas.old.width }
+    ensures { IsBlockChanged (over_leaf px item.now.leaf) span y0 y1 canvas.old canvas.new }
+{
     let seen = item.visible();
     let (left, right) = clipped(columns(seen), span.x0, (span.x1 - span.x0) as usize);
     let (top, bottom) = clipped(rows_of(seen), y0 as i32, y1 - y0);
     if left < right && top < bottom {
         let part = part_of(span, left, right);
-        lay_rows(
-            canvas,
-            px_of(item.color()),
-            item.shape().inner,
-            part,
-            y0 + top,
-            y0 + bottom,
-        );
+        lay_rows(canvas, px, item.shape().inner, part, y0 + top, y0 + bottom);
     }
 }
 

@@ -31,7 +31,7 @@ fn is_whole(span: Span, x0: i32, count: usize) -> bool
 }
 
 /// Is none of so many columns from `x0` on in the span?
-fn is_beside(span: Span, x0: i32, count: usize) -> bool
+pub(crate) fn is_beside(span: Span, x0: i32, count: usize) -> bool
     requires from { pos 0 ≤ℤ x0 }
     requires within { (x0 +ℤ pos count) ≤ℤ pos 4096 }
     ensures { IsTrue result → (k : ℕ) → k < count → in_span span (x0 +ℤ pos k) ≡ false }

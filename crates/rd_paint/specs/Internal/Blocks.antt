@@ -5,6 +5,7 @@ use Rattle.rd_geom.specs.Colors.{Premultiplied, clear, laid_over, scaled}
 use Rattle.rd_geom.specs.Plane.{Rectangle, holds_pixel}
 use Rattle.rd_geom.specs.declared.span.Span.{Span}
 use Rattle.rd_item.specs.declared.leaf.Leaf.{Leaf}
+use Rattle.rd_item.specs.Leaves.{covers}
 use Rattle.rd_list.specs.Wrappers.{Wrapper}
 use Rattle.rd_list.specs.Entries.{Entries}
 use Rattle.rd_list.specs.Lists.{composed, pixel}
@@ -36,6 +37,10 @@ group_over opacity inner x y p = laid_over (scaled (composed (pos x) (pos y) cle
 -- one pixel laid over another where there is no hole
 abbrev pub over_around : Premultiplied → Rectangle → ℕ → ℕ → Premultiplied → Premultiplied
 over_around q h x y p = if not (holds_pixel h (pos x) (pos y)) then laid_over q p else p
+
+-- one pixel laid over another where a leaf covers it
+abbrev pub over_leaf : Premultiplied → Leaf → ℕ → ℕ → Premultiplied → Premultiplied
+over_leaf q l x y p = if covers l (pos x) (pos y) then laid_over q p else p
 
 -- from row y0 up to row y1 the pixels in some spans became those of a list, and no other pixel changed
 pub record IsRunPainted (list : Entries Wrapper Leaf) (spans : List Span) (y0 y1 : ℕ) (old new : Picture) : Type 0 where
