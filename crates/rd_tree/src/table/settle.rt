@@ -91,8 +91,8 @@ pub(crate) fn settle_from(
     let mut left = marks;
     let mut at = where_left(left, first);
     while let Some(key) = at {
-        let here = settle_on(nodes, key);
         let marks_below = row_at(table, key).touched;
+        let here = settle_on(nodes, key);
         if here.own == 0 && marks_below == 0 {
             at = here.next;
             continue;
