@@ -3,7 +3,7 @@ use Rattle.std.specs.Prelude.{◌≤◌}
 use Rattle.rd_keys.specs.Keys.{BoxKey}
 use Rattle.rd_keys.specs.declared.range.KeyRange.{KeyRange}
 
--- a name whose slot lies in a range, and whose generation does
+-- a key whose slot lies in a range, and whose generation does
 pub record IsAmong (r : KeyRange) (k : BoxKey) : Type 0 where
   pub first : r.first_slot ≤ k.slot
   pub last : k.slot ≤ r.last_slot

@@ -1,11 +1,11 @@
-//! Ranges of keys: slots, and which of their values.
+//! Ranges of keys: of their slots, and of their generations.
 ghost use Rattle.std.specs.Prelude.{◌≡◌, IsTrue};
 ghost use Rattle.rd_keys.specs.Keys.{BoxKey as Box};
 ghost use Rattle.rd_keys.specs.Ranges.{IsAmong};
 
 use crate::entry::BoxKey;
 
-/// Names whose slots lie between two, and whose generations do.
+/// The keys whose slots lie from one up to another, that one too, and whose generations do.
 #[derive(Clone, Copy)]
 pub struct KeyRange {
     pub first_slot: u32,
@@ -15,7 +15,7 @@ pub struct KeyRange {
 }
 
 impl KeyRange {
-    /// No name.
+    /// No key.
     pub const NONE: KeyRange = KeyRange {
         first_slot: u32::MAX,
         last_slot: 0,
@@ -23,7 +23,7 @@ impl KeyRange {
         newest: 0,
     };
 
-    /// The range of one name.
+    /// The range of one key.
     #[inline(always)]
     pub fn one(key: BoxKey) -> KeyRange
         ensures { IsAmong result key }
@@ -36,7 +36,7 @@ impl KeyRange {
         }
     }
 
-    /// A range with all names of both.
+    /// A range with all keys of both.
     #[inline(always)]
     pub fn joined(self, other: KeyRange) -> KeyRange
         ensures first { (k : Box) → IsAmong self k → IsAmong result k }
@@ -50,7 +50,7 @@ impl KeyRange {
         }
     }
 
-    /// Are all names of another range in this one?
+    /// Are all keys of another range in this one?
     #[inline(always)]
     pub fn has_all(self, other: KeyRange) -> bool
         ensures { IsTrue result → (k : Box) → IsAmong other k → IsAmong self k }
