@@ -64,6 +64,19 @@ pub lists_next : (ls : List (ℕ × SmallVec EntryKey)) (i : ℕ) (d : ℕ × Sm
     → (l : ℕ × List EntryKey) → Has (take (i + 1) (lists_seen ls)) l → 1 < length l.1 → (k : EntryKey) → Contains l.1 k → HasMark next k
 lists_next ls i d marks next l was kept new m h = lists_more ls i d marks next l was kept new m (subst (λ (n : ℕ). Has (take n (lists_seen ls)) m) (one_more i) h)
 
+-- the loop over lists that looks for a long one
+short_more : (ls : List (ℕ × SmallVec EntryKey)) (i : ℕ) (d : ℕ × SmallVec EntryKey) → i < length ls → ((l : ℕ × List EntryKey) → Has (take i (lists_seen ls)) l → length l.1 < 2)
+    → length (get_or ls i d).1.items < 2 → (l : ℕ × List EntryKey) → Has (take (suc i) (lists_seen ls)) l → length l.1 < 2
+short_more [] i d l was new m h = absurd (omega arith)
+short_more (x ∷ ls) zero d l was new m (inl e) = subst (λ (z : ℕ × List EntryKey). length z.1 < 2) e new
+short_more (x ∷ ls) zero d l was new m (inr h) = absurd h
+short_more (x ∷ ls) (suc i) d l was new m (inl e) = was m (inl e)
+short_more (x ∷ ls) (suc i) d l was new m (inr h) = short_more ls i d (omega arith) (λ z n. was z (inr n)) new m h
+
+pub short_next : (ls : List (ℕ × SmallVec EntryKey)) (i : ℕ) (d : ℕ × SmallVec EntryKey) → i < length ls → ((l : ℕ × List EntryKey) → Has (take i (lists_seen ls)) l → length l.1 < 2)
+    → length (get_or ls i d).1.items < 2 → (l : ℕ × List EntryKey) → Has (take (i + 1) (lists_seen ls)) l → length l.1 < 2
+short_next ls i d l was new m h = short_more ls i d l was new m (subst (λ (n : ℕ). Has (take n (lists_seen ls)) m) (one_more i) h)
+
 pub take_lists : (ls : List (ℕ × SmallVec EntryKey)) (i : ℕ) → length ls ≤ i → take i (lists_seen ls) ≡ lists_seen ls
 take_lists [] zero l = refl
 take_lists [] (suc i) l = refl

@@ -123,6 +123,12 @@ module _ {E : Type 0} (place : E → Option ℕ) where
   few_left (k ∷ []) l = one_left k (place k) refl
   few_left (k ∷ j ∷ ks) l = absurd (omega arith)
 
+  -- the same of lists
+  pub all_short : (ls : List (ℕ × List E)) → ((l : ℕ × List E) → Has ls l → length l.1 < 2) → ls ≡ all_trimmed place ls
+  all_short [] short = refl
+  all_short (l ∷ ls) short =
+      ap (λ ks. (l.0, ks) ∷ ls) (few_left l.1 (short l (inl refl))) ∙ ap (λ ms. (l.0, trimmed place l.1) ∷ ms) (all_short ls (λ m h. short m (inr h)))
+
 -- the places of the names of a list alone tell what is left
 module _ {E : Type 0} (place other : E → Option ℕ) where
   highest_same : (top : ℕ) (ks : List E) → ((k : E) → Has ks k → place k ≡ other k) → highest place top ks ≡ highest other top ks

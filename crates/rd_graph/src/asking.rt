@@ -9,7 +9,7 @@ ghost use Rattle.rd_graph.specs.Internal.Trimming.{AreAsked, HasMark, KeepsMarks
 ghost use Rattle.rd_graph.specs.Internal.Words.{IsPut};
 
 use crate::before::{Before, Name};
-use crate::changing::mark_of;
+use crate::gone::mark_of;
 use crate::tables::put;
 use indexmap::IndexMap;
 use rd_keys::EntryKey;

@@ -1,5 +1,6 @@
 //! Lists of the direct predecessors of a node. One of a single name takes no memory of its own.
 ghost use Rattle.std.specs.Prelude.{◌≡◌, [], ◌∷◌, ◌++◌, IfOk, OnOk};
+ghost use Rattle.rd_graph.specs.Names.{is_in, same_entry};
 
 use rd_keys::{EntryKey, Key};
 use smallvec::SmallVec;
@@ -63,4 +64,23 @@ pub(crate) fn copied(alloc: Global, list: &[Name]) -> Result<Before, AllocError>
     ensures { IfOk result (λ v. v.items ≡ list.now) }
 {
     SmallVec::from_slice(alloc, list)
+}
+
+/// Have two entries one name?
+fn is_same(key: &EntryKey, name: &EntryKey) -> bool
+    ensures { result ≡ same_entry key.now name.now }
+{
+    key == name
+}
+
+/// Is the name one of these?
+pub(crate) fn is_among(keys: &[Name], name: EntryKey) -> bool
+    ensures { result ≡ is_in same_entry keys.now name }
+{
+    for key in keys {
+        if is_same(&key.key, &name) {
+            return true;
+        }
+    }
+    false
 }

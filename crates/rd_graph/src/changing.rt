@@ -1,149 +1,70 @@
 //! The lists of predecessors that a merge changes.
-ghost use Rattle.std.specs.Prelude.{◌≡◌, ℕ, ◌<◌, ◌≤◌, [], ◌∷◌, ◌++◌, IfOk, IfSome, OnOk, true, false, if◌then◌else◌, slice_index_or, length, Contains};
+ghost use Rattle.std.specs.Prelude.{◌≡◌, ℕ, ◌<◌, ◌≤◌, [], ◌∷◌, ◌++◌, IfOk, IfSome, OnOk, Some, true, false, if◌then◌else◌, slice_index_or, slice_set, length};
 ghost use Rattle.rd_graph.specs.Patches.{AreRising, CanBePatched, IsRelisted, found_in};
 ghost use Rattle.rd_graph.specs.Internal.Seen.{seen, seen_one};
 ghost use Rattle.rd_graph.specs.Graphs.{IsInOrder, nodes as nodes_of};
 ghost use Rattle.rd_graph.specs.Gathered.{gathered};
-ghost use Rattle.rd_graph.specs.Names.{is_in, same_entry};
+ghost use Rattle.rd_graph.specs.Names.{same_entry};
 ghost use Rattle.rd_graph.specs.Orders.{Once};
 ghost use Rattle.rd_graph.specs.Internal.Chains.{before_place};
 ghost use Rattle.rd_graph.specs.Internal.Patching.{lists_seen};
-ghost use Rattle.rd_graph.specs.Internal.Relisting.{AreMarked, AreNoted, AreQuiet, GoesAlong, GoesAlongAt, Relists, has_all, has_mark, is_late, joined, keeps, listed, mark_of, own, relinked, some_gone};
-ghost use Rattle.rd_graph.specs.Internal.Tables.{fits_list, has_it};
-ghost use Rattle.rd_graph.specs.Internal.Words.{NotesIf, resolved_once};
+ghost use Rattle.rd_graph.specs.Internal.Relisting.{AddsAlong, AreMarked, AreNoted, AreNumbered, AreQuiet, GoesAlong, GoesAlongAt, Relists, has_all, has_mark, is_late, joined, keeps, listed, own, some_gone};
+ghost use Rattle.rd_graph.specs.Internal.Tables.{at, fits_list, has_it};
+ghost use Rattle.rd_graph.specs.Internal.Words.{NotesBy, note_at, resolved_by};
 
 use crate::arranging::met_after;
-use crate::before::{Before, Name, copied, nothing, push};
+use crate::before::{Before, Name, copied, is_among, nothing, push};
+use crate::gone::{Gone, goes, gone_at, mark_of, number_of, some_goes};
 use crate::graph::Node;
-use crate::stitch::resolve;
-use crate::tables::{has, put};
-use indexmap::IndexMap;
+use crate::resolving::resolve;
 use rd_keys::EntryKey;
 use std::alloc::{AllocError, Global};
 
-/// The names that go. The marks tell most others at once.
-#[derive(Drop)]
-struct Gone {
-    names: IndexMap<EntryKey, usize>,
-    marks: Vec<bool>,
-}
-
-/// What one pass over the nodes gives: notes of those that go, and new lists of late ones.
+/// What one pass over the nodes gives: notes of those that go, by their numbers, and new lists of late ones.
 #[derive(Drop)]
 struct Passed {
-    notes: IndexMap<EntryKey, Before>,
+    notes: Vec<Before>,
     lists: Vec<(usize, Before)>,
 }
 
-/// Where a name has its mark.
-pub(crate) fn mark_of(key: &EntryKey) -> usize
-    ensures { result ≡ mark_of key.now }
+/// As yet nothing is noted of so many names.
+fn no_notes(alloc: Global, count: usize) -> Result<Vec<Before>, AllocError>
+    ensures len { IfOk result (λ v. length v.items ≡ count) }
+    ensures none { IfOk result (λ v. (i : ℕ) → note_at v.items (Some i) ≡ []) }
 {
-    match key {
-        EntryKey::Leaf(name, _) => name.slot as usize % 4096,
-        EntryKey::Group(name) => name.slot as usize % 4096,
+    let mut notes = Vec::with_capacity(alloc, count)?;
+    for _ in 0..count {
+        notes.push(nothing(alloc))?;
     }
+    Ok(notes)
 }
 
-/// A table of the names of the nodes at these places.
-fn names_at(
-    alloc: Global,
-    nodes: &[Node],
-    gone: &[usize],
-) -> Result<IndexMap<EntryKey, usize>, AllocError>
-    requires { (k : ℕ) → k < length gone.now → slice_index_or gone.now k 0 < length nodes.now }
-    ensures { IfOk result (λ t. fits_list t (gathered gone.now (nodes_of (seen nodes.now)))) }
+/// From now on this is noted at a number.
+fn put_note(notes: &mut Vec<Before>, number: usize, before: Before)
+    requires { number < length notes.old.items }
+    ensures { notes.new.items ≡ slice_set notes.old.items number before }
 {
-    let mut table = IndexMap::new(alloc);
-    for place in gone {
-        put(&mut table, nodes[*place].key, 0)?;
-    }
-    Ok(table)
+    notes[number] = before;
 }
 
-/// The marks of the names of the nodes at these places. None are made where nothing goes.
-fn marks_at(alloc: Global, nodes: &[Node], gone: &[usize]) -> Result<Vec<bool>, AllocError>
-    requires { (k : ℕ) → k < length gone.now → slice_index_or gone.now k 0 < length nodes.now }
-    ensures marked { IfOk result (λ v. (k : EntryKey)
-        → Contains (gathered gone.now (nodes_of (seen nodes.now))) k → slice_index_or v.items (mark_of k) false ≡ true) }
-    ensures whole { IfOk result (λ v. 0 < length gone.now → length v.items ≡ 4096) }
-{
-    if gone.is_empty() {
-        return Ok(Vec::new(alloc));
-    }
-    let mut marks = vec![in alloc; false; 4096]?;
-    for place in gone {
-        marks[mark_of(&nodes[*place].key)] = true;
-    }
-    Ok(marks)
-}
-
-/// The names of the nodes at these places, with their marks.
-fn gone_at(alloc: Global, nodes: &[Node], gone: &[usize]) -> Result<Gone, AllocError>
-    requires { (k : ℕ) → k < length gone.now → slice_index_or gone.now k 0 < length nodes.now }
-    ensures marked { IfOk result (λ g. AreMarked g.marks.items g.names) }
-    ensures whole { IfOk result (λ g. 0 < length gone.now → length g.marks.items ≡ 4096) }
-    ensures named { IfOk result (λ g. fits_list g.names (gathered gone.now (nodes_of (seen nodes.now)))) }
-{
-    let names = names_at(alloc, nodes, gone)?;
-    let marks = marks_at(alloc, nodes, gone)?;
-    Ok(Gone { names, marks })
-}
-
-/// Does the name go?
-fn goes(gone: &Gone, key: &EntryKey) -> bool
-    requires { AreMarked gone.now.marks.items gone.now.names }
-    ensures { result ≡ has_it gone.now.names key.now }
-{
-    let mark = mark_of(key);
-    mark < gone.marks.len() && gone.marks[mark] && has(&gone.names, *key)
-}
-
-/// Does one of the names go?
-fn some_goes(gone: &Gone, keys: &[Name]) -> bool
-    requires { AreMarked gone.now.marks.items gone.now.names }
-    ensures { result ≡ some_gone (has_it gone.now.names) keys.now }
-{
-    for key in keys {
-        if goes(gone, &key.key) {
-            return true;
-        }
-    }
-    false
-}
-
-/// A node that goes is noted.
+/// A node that goes is noted at its number.
 fn note(
     alloc: Global,
     gone: &Gone,
-    notes: &mut IndexMap<EntryKey, Before>,
+    notes: &mut Vec<Before>,
+    number: usize,
     node: &Node,
 ) -> Result<(), AllocError>
-    ensures { OnOk result (NotesIf true node.now.key
-        (resolved_once gone.now.names notes.old node.now.before.items) notes.old notes.new) }
+    requires marked { AreMarked gone.now.marks.items gone.now.names }
+    requires numbered { AreNumbered gone.now.names (length notes.old.items) }
+    requires number { at gone.now.names node.now.key ≡ Some number }
+    ensures notes { OnOk result (NotesBy gone.now.names true node.now.key
+        (resolved_by gone.now.names notes.old.items node.now.before.items) notes.old.items notes.new.items) }
+    ensures len { OnOk result (length notes.new.items ≡ length notes.old.items) }
 {
-    let before = resolve(alloc, &gone.names, notes, &node.before)?;
-    put(notes, node.key, before)?;
+    let before = resolve(alloc, gone, notes, &node.before)?;
+    put_note(notes, number, before);
     Ok(())
-}
-
-/// Have two entries one name?
-fn is_same(key: &EntryKey, name: &EntryKey) -> bool
-    ensures { result ≡ same_entry key.now name.now }
-{
-    key == name
-}
-
-/// Is the name one of these?
-pub(crate) fn is_among(keys: &[Name], name: EntryKey) -> bool
-    ensures { result ≡ is_in same_entry keys.now name }
-{
-    for key in keys {
-        if is_same(&key.key, &name) {
-            return true;
-        }
-    }
-    false
 }
 
 /// Puts a list at the end, with the place of its node.
@@ -162,15 +83,16 @@ pub(crate) fn push_list(
 fn relist(
     alloc: Global,
     gone: &Gone,
-    notes: &IndexMap<EntryKey, Before>,
+    notes: &[Before],
     lists: &mut Vec<(usize, Before)>,
     place: usize,
     node: &Node,
 ) -> Result<(), AllocError>
+    requires { AreMarked gone.now.marks.items gone.now.names }
     ensures { OnOk result (lists_seen lists.new.items ≡ lists_seen lists.old.items
-        ++ (place, resolved_once gone.now.names notes.now node.now.before.items) ∷ []) }
+        ++ (place, resolved_by gone.now.names notes.now node.now.before.items) ∷ []) }
 {
-    let before = resolve(alloc, &gone.names, notes, &node.before)?;
+    let before = resolve(alloc, gone, notes, &node.before)?;
     push_list(lists, place, before)
 }
 
@@ -178,21 +100,23 @@ fn relist(
 fn pass(
     alloc: Global,
     gone: &Gone,
-    notes: &mut IndexMap<EntryKey, Before>,
+    notes: &mut Vec<Before>,
     lists: &mut Vec<(usize, Before)>,
     place: usize,
     node: &Node,
 ) -> Result<(), AllocError>
-    requires { AreMarked gone.now.marks.items gone.now.names }
-    ensures notes { OnOk result (NotesIf (has_it gone.now.names node.now.key) node.now.key
-        (resolved_once gone.now.names notes.old node.now.before.items) notes.old notes.new) }
+    requires marked { AreMarked gone.now.marks.items gone.now.names }
+    requires numbered { AreNumbered gone.now.names (length notes.old.items) }
+    ensures notes { OnOk result (NotesBy gone.now.names (has_it gone.now.names node.now.key) node.now.key
+        (resolved_by gone.now.names notes.old.items node.now.before.items) notes.old.items notes.new.items) }
+    ensures len { OnOk result (length notes.new.items ≡ length notes.old.items) }
     ensures lists { OnOk result (lists_seen lists.new.items ≡ lists_seen lists.old.items
         ++ (if is_late (has_it gone.now.names) (seen_one node.now)
-        then (place, resolved_once gone.now.names notes.old node.now.before.items) ∷ []
+        then (place, resolved_by gone.now.names notes.old.items node.now.before.items) ∷ []
         else [])) }
 {
-    if goes(gone, &node.key) {
-        note(alloc, gone, notes, node)?;
+    if let Some(number) = number_of(gone, node.key) {
+        note(alloc, gone, notes, number, node)?;
         return Ok(());
     }
     if !some_goes(gone, &node.before) {
@@ -316,12 +240,13 @@ fn pass_all(
     requires named { fits_list gone.now.names (gathered places.now (nodes_of (seen nodes.now))) }
     requires marked { AreMarked gone.now.marks.items gone.now.names }
     requires whole { 0 < length places.now → length gone.now.marks.items ≡ 4096 }
-    ensures noted { IfOk result (λ p. AreNoted (has_it gone.now.names) (resolved_once gone.now.names p.notes)
+    requires numbered { AreNumbered gone.now.names (length places.now) }
+    ensures noted { IfOk result (λ p. AreNoted (has_it gone.now.names) (resolved_by gone.now.names p.notes.items)
         (seen nodes.now)) }
     ensures relisted { IfOk result (λ p. Relists (has_it gone.now.names) (seen nodes.now)
         (lists_seen p.lists.items)) }
 {
-    let mut notes = IndexMap::new(alloc);
+    let mut notes = no_notes(alloc, places.len())?;
     let mut lists = Vec::new(alloc);
     let mut place = place_or(places, 0, nodes.len());
     let mut met = 1;
@@ -369,52 +294,42 @@ fn with_edge(keys: Before, name: Option<EntryKey>) -> Result<Before, AllocError>
     Ok(keys)
 }
 
-/// What a node of the chain has before the edge of the chain: nothing where it goes.
-fn own(
-    alloc: Global,
-    gone: &Gone,
-    notes: &IndexMap<EntryKey, Before>,
-    node: &Node,
-) -> Result<Before, AllocError>
-    requires { AreMarked gone.now.marks.items gone.now.names }
+/// What a node that stays has before the edge of the chain.
+fn own(alloc: Global, gone: &Gone, notes: &[Before], node: &Node) -> Result<Before, AllocError>
+    requires marked { AreMarked gone.now.marks.items gone.now.names }
+    requires stays { has_it gone.now.names node.now.key ≡ false }
     ensures { IfOk result (λ v. v.items
-        ≡ own (has_it gone.now.names) (resolved_once gone.now.names notes.now) (seen_one node.now)) }
+        ≡ own (has_it gone.now.names) (resolved_by gone.now.names notes.now) (seen_one node.now)) }
 {
-    if goes(gone, &node.key) {
-        return Ok(nothing(alloc));
-    }
     if some_goes(gone, &node.before) {
-        return resolve(alloc, &gone.names, notes, &node.before);
+        return resolve(alloc, gone, notes, &node.before);
     }
     copied(alloc, &node.before)
 }
 
-/// Does a node of the chain keep its list? It stays with all its predecessors, and has the edge of the chain.
+/// Does a node that stays keep its list? It stays with all its predecessors, and has the edge of the chain.
 fn keeps_list(gone: &Gone, node: &Node, name: Option<EntryKey>) -> bool
-    requires { AreMarked gone.now.marks.items gone.now.names }
+    requires marked { AreMarked gone.now.marks.items gone.now.names }
+    requires stays { has_it gone.now.names node.now.key ≡ false }
     ensures { result ≡ keeps (has_it gone.now.names) same_entry (listed name) (seen_one node.now) }
 {
-    !goes(gone, &node.key) && !some_goes(gone, &node.before) && has_edge(&node.before, name)
+    !some_goes(gone, &node.before) && has_edge(&node.before, name)
 }
 
-/// A node of the chain gets a new list, unless it keeps the one that it has.
-fn go_along(
+/// A node of the chain that stays gets a new list, unless it keeps the one that it has.
+fn stay_along(
     alloc: Global,
     gone: &Gone,
-    notes: &IndexMap<EntryKey, Before>,
+    notes: &[Before],
     lists: &mut Vec<(usize, Before)>,
     place: usize,
     node: &Node,
     name: Option<EntryKey>,
 ) -> Result<(), AllocError>
-    requires { AreMarked gone.now.marks.items gone.now.names }
-    ensures { OnOk result (lists_seen lists.new.items ≡ lists_seen lists.old.items
-        ++ (if keeps (has_it gone.now.names) same_entry (listed name) (seen_one node.now) then []
-        else (
-          place,
-          relinked (has_it gone.now.names) same_entry (resolved_once gone.now.names notes.now) (listed name)
-              (seen_one node.now),
-        ) ∷ [])) }
+    requires marked { AreMarked gone.now.marks.items gone.now.names }
+    requires stays { has_it gone.now.names node.now.key ≡ false }
+    ensures { OnOk result (AddsAlong (has_it gone.now.names) same_entry (resolved_by gone.now.names notes.now)
+        (listed name) place (seen_one node.now) (lists_seen lists.old.items) (lists_seen lists.new.items)) }
 {
     if keeps_list(gone, node, name) {
         return Ok(());
@@ -425,19 +340,41 @@ fn go_along(
     Ok(())
 }
 
+/// A node of the chain gets a new list, unless it keeps the one that it has. Where it goes it has the edge of the chain alone.
+fn go_along(
+    alloc: Global,
+    gone: &Gone,
+    notes: &[Before],
+    lists: &mut Vec<(usize, Before)>,
+    place: usize,
+    node: &Node,
+    name: Option<EntryKey>,
+) -> Result<(), AllocError>
+    requires { AreMarked gone.now.marks.items gone.now.names }
+    ensures { OnOk result (AddsAlong (has_it gone.now.names) same_entry (resolved_by gone.now.names notes.now)
+        (listed name) place (seen_one node.now) (lists_seen lists.old.items) (lists_seen lists.new.items)) }
+{
+    if !goes(gone, node.key) {
+        return stay_along(alloc, gone, notes, lists, place, node, name);
+    }
+    let before = with_edge(nothing(alloc), name)?;
+    push_list(lists, place, before)?;
+    Ok(())
+}
+
 /// The node of the chain at a place gets a new list, unless it keeps the one that it has.
 fn go_along_at(
     alloc: Global,
     nodes: &[Node],
     gone: &Gone,
-    notes: &IndexMap<EntryKey, Before>,
+    notes: &[Before],
     lists: &mut Vec<(usize, Before)>,
     place: Option<usize>,
     name: Option<EntryKey>,
 ) -> Result<(), AllocError>
     requires within { IfSome place (λ p. p < length nodes.now) }
     requires marked { AreMarked gone.now.marks.items gone.now.names }
-    ensures { OnOk result (GoesAlongAt (has_it gone.now.names) same_entry (resolved_once gone.now.names notes.now)
+    ensures { OnOk result (GoesAlongAt (has_it gone.now.names) same_entry (resolved_by gone.now.names notes.now)
         (listed name) place (seen nodes.now) (lists_seen lists.old.items) (lists_seen lists.new.items)) }
 {
     if let Some(place) = place {
@@ -452,7 +389,7 @@ fn go_along_all(
     alloc: Global,
     nodes: &[Node],
     gone: &Gone,
-    notes: &IndexMap<EntryKey, Before>,
+    notes: &[Before],
     chain: &[EntryKey],
     found: &[Option<usize>],
     lists: &mut Vec<(usize, Before)>,
@@ -461,7 +398,7 @@ fn go_along_all(
     requires once { Once chain.now }
     requires found_are { found.now ≡ found_in chain.now (seen nodes.now) }
     requires marked { AreMarked gone.now.marks.items gone.now.names }
-    ensures { OnOk result (GoesAlong (has_it gone.now.names) same_entry (resolved_once gone.now.names notes.now)
+    ensures { OnOk result (GoesAlong (has_it gone.now.names) same_entry (resolved_by gone.now.names notes.now)
         chain.now chain.now (seen nodes.now) (lists_seen lists.old.items) (lists_seen lists.new.items)) }
 {
     for (i, place) in found.iter().enumerate() {
@@ -484,7 +421,7 @@ fn led_along(
     requires once { Once chain.now }
     requires found_are { found.now ≡ found_in chain.now (seen nodes.now) }
     requires marked { AreMarked gone.now.marks.items gone.now.names }
-    ensures { IfOk result (λ v. GoesAlong (has_it gone.now.names) same_entry (resolved_once gone.now.names passed.notes)
+    ensures { IfOk result (λ v. GoesAlong (has_it gone.now.names) same_entry (resolved_by gone.now.names passed.notes.items)
         chain.now chain.now (seen nodes.now) (lists_seen passed.lists.items) (lists_seen v.items)) }
 {
     let mut lists = passed.lists;
@@ -506,6 +443,7 @@ fn changed_by(
     requires named { fits_list gone.now.names (gathered places.now (nodes_of (seen nodes.now))) }
     requires marked { AreMarked gone.now.marks.items gone.now.names }
     requires whole { 0 < length places.now → length gone.now.marks.items ≡ 4096 }
+    requires numbered { AreNumbered gone.now.names (length places.now) }
     ensures { IfOk result (λ v. IsRelisted places.now chain.now (seen nodes.now) (lists_seen v.items)) }
 {
     let passed = pass_all(alloc, nodes, places, gone)?;

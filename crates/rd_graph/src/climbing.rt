@@ -5,8 +5,7 @@ ghost use Rattle.rd_graph.specs.Names.{place_of, same_entry};
 ghost use Rattle.rd_graph.specs.Internal.Seen.{seen};
 ghost use Rattle.rd_graph.specs.Internal.Thinning.{AreImplied, AddsOf, AddsBefore, MayAdd};
 
-use crate::before::{Before, Name, copied, nothing, push};
-use crate::changing::is_among;
+use crate::before::{Before, Name, copied, is_among, nothing, push};
 use crate::graph::Node;
 use crate::places::Places;
 use rd_keys::EntryKey;

@@ -5,8 +5,7 @@ ghost use Rattle.rd_graph.specs.Internal.Patching.{lists_seen};
 ghost use Rattle.rd_graph.specs.Internal.Seen.{seen, seen_one};
 ghost use Rattle.rd_graph.specs.Internal.Thinning.{AreImplied, Leaves, MayLeave, IsThinner, ThinsOne, IsThinned};
 
-use crate::before::{Before, Name, copied, nothing, push};
-use crate::changing::is_among;
+use crate::before::{Before, Name, copied, is_among, nothing, push};
 use crate::climbing::implied;
 use crate::graph::Node;
 use crate::places::Places;

@@ -1,5 +1,5 @@
 //! New lists of predecessors without what a chain implies: of the names of a chain, the last one in a list comes after the others.
-ghost use Rattle.std.specs.Prelude.{◌≡◌, ◌<◌, ℕ, List, Contains, length, IfOk, OnOk, if◌then◌else◌, [], ◌∷◌, ◌++◌};
+ghost use Rattle.std.specs.Prelude.{◌≡◌, ◌<◌, ℕ, List, Contains, length, IfOk, IsTrue, OnOk, if◌then◌else◌, [], ◌∷◌, ◌++◌};
 ghost use Rattle.rd_graph.specs.Names.{place_of, same_entry};
 ghost use Rattle.rd_graph.specs.Orders.{Once};
 ghost use Rattle.rd_graph.specs.Internal.Patching.{lists_seen};
@@ -131,6 +131,18 @@ fn places_in(
     places_asked(alloc, chain, &marks)
 }
 
+/// Has each of these lists one name at most?
+fn are_short(lists: &[(usize, Before)]) -> bool
+    ensures { IsTrue result → (l : ℕ × List EntryKey) → Contains (lists_seen lists.now) l → length l.1 < 2 }
+{
+    for list in lists {
+        if 1 < list.1.len() {
+            return false;
+        }
+    }
+    true
+}
+
 /// New lists of predecessors without the names that the chain implies.
 pub(crate) fn trimmed(
     alloc: Global,
@@ -141,7 +153,7 @@ pub(crate) fn trimmed(
     ensures { IfOk result (λ v. lists_seen v.items
         ≡ all_trimmed (place_of same_entry chain.now) (lists_seen lists.items)) }
 {
-    if lists.is_empty() {
+    if are_short(&lists) {
         return Ok(lists);
     }
     let places = places_in(alloc, chain, &lists)?;

@@ -7,7 +7,7 @@ use Rattle.rd_graph.specs.Graphs.{Graph, Precedes, Stitch}
 use Rattle.rd_graph.specs.Names.{is_in}
 use Rattle.rd_graph.specs.Patches.{AreWithin}
 use Rattle.rd_graph.specs.Internal.Chains.{just_before}
-use Rattle.rd_graph.specs.Internal.Tables.{has_it}
+use Rattle.rd_graph.specs.Internal.Tables.{at, has_it}
 
 -- where a name has its mark, which other names may share
 abbrev pub mark_of : EntryKey → ℕ
@@ -21,6 +21,10 @@ has_mark marks k = slice_index_or marks (mark_of k) false
 -- each name of a table has its mark
 abbrev pub AreMarked : {S : Type 0} → List Bool → IndexMap EntryKey ℕ S → Type 0
 AreMarked marks names = (k : EntryKey) → has_it names k ≡ true → has_mark marks k ≡ true
+
+-- each name of a table has a number of its own below a count
+abbrev pub AreNumbered : {S : Type 0} → IndexMap EntryKey ℕ S → ℕ → Type 0
+AreNumbered names count = (k : EntryKey) (i : ℕ) → at names k ≡ Some i → (i < count) × ((j : EntryKey) → at names j ≡ Some i → k ≡ j)
 
 module _ {E : Type 0} where
   -- the list at a place, after new lists
@@ -86,11 +90,14 @@ module _ {E : Type 0} where
         abbrev pub relinked : List E → E × List E → List E
         relinked edge x = joined same (own resolves x) edge
 
-        -- one more list, of the node of the chain at this place
+        -- one more list, of this node of the chain at this place, unless it keeps the one that it has
+        abbrev pub AddsAlong : List E → ℕ → E × List E → List (ℕ × List E) → List (ℕ × List E) → Type 0
+        AddsAlong edge p x old new = new ≡ old ++ (if keeps edge x then [] else (p, relinked edge x) ∷ [])
+
+        -- the same of the node at a place, if there is one
         abbrev pub GoesAlongAt : List E → Option ℕ → Graph E → List (ℕ × List E) → List (ℕ × List E) → Type 0
         GoesAlongAt edge None g old new = new ≡ old
-        GoesAlongAt edge (Some p) g old new =
-            (x : E × List E) × IsAt g p x × (new ≡ old ++ (if keeps edge x then [] else (p, relinked edge x) ∷ []))
+        GoesAlongAt edge (Some p) g old new = (x : E × List E) × IsAt g p x × AddsAlong edge p x old new
 
         module _ (chain : List E) where
           -- the list of a node of the chain

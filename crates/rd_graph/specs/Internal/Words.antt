@@ -1,5 +1,5 @@
 -- What the calls on tables and lists of nodes do, in a word each.
-use Rattle.std.specs.Prelude.{◌≡◌, ℕ, Bool, if◌then◌else◌, Some, List, [], ◌∷◌, ◌++◌, length}
+use Rattle.std.specs.Prelude.{◌≡◌, ℕ, Bool, if◌then◌else◌, Option, Some, None, List, [], ◌∷◌, ◌++◌, length, map, slice_index_or}
 use Rattle.indexmap.specs.IndexMap.{IndexMap}
 use Rattle.smallvec.specs.SmallVec.{SmallVec}
 use Rattle.rd_keys.specs.declared.entry.EntryKey.{EntryKey}
@@ -64,3 +64,25 @@ left_if gone key before = if gone then [] else (key, before) ∷ []
 -- the nodes that stay, after one pass
 abbrev pub stitched : {V S : Type 0} → IndexMap EntryKey V S → List Node → Graph EntryKey
 stitched gone nodes = stitch_pass same_entry (has_it gone) [] (seen nodes)
+
+-- what lists of names note at a number
+abbrev pub note_at : List (SmallVec EntryKey) → Option ℕ → List EntryKey
+note_at notes None = []
+note_at notes (Some i) = slice_index_or (map (λ (v : SmallVec EntryKey). v.items) notes) i []
+
+-- what is noted of a name, by its number
+abbrev pub noted_by : {S : Type 0} → IndexMap EntryKey ℕ S → List (SmallVec EntryKey) → EntryKey → List EntryKey
+noted_by names notes k = note_at notes (at names k)
+
+-- a predecessor, or what is noted in its place where it goes
+abbrev pub in_place_by : {S : Type 0} → IndexMap EntryKey ℕ S → List (SmallVec EntryKey) → EntryKey → List EntryKey
+in_place_by names notes k = if has_it names k then noted_by names notes k else k ∷ []
+
+-- predecessors so, each once
+abbrev pub resolved_by : {S : Type 0} → IndexMap EntryKey ℕ S → List (SmallVec EntryKey) → List EntryKey → List EntryKey
+resolved_by names notes before = all_pushed same_entry [] (resolved same_entry (has_it names) (noted_by names notes) before)
+
+-- a node is noted at its number, if it goes
+abbrev pub NotesBy : {S : Type 0} → IndexMap EntryKey ℕ S → Bool → EntryKey → List EntryKey → List (SmallVec EntryKey) → List (SmallVec EntryKey) → Type 0
+NotesBy names gone key before old new =
+    (k : EntryKey) → noted_by names new k ≡ (if gone then (if same_entry key k then before else noted_by names old k) else noted_by names old k)

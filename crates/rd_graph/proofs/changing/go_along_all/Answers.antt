@@ -5,21 +5,21 @@ use Rattle.rd_graph.specs.Internal.Patching.{lists_seen}
 use Rattle.rd_graph.specs.Internal.Relisting.{GoesAlong}
 use Rattle.rd_graph.specs.Internal.Seen.{seen}
 use Rattle.rd_graph.specs.Internal.Tables.{has_it}
-use Rattle.rd_graph.specs.Internal.Words.{resolved_once}
+use Rattle.rd_graph.specs.Internal.Words.{resolved_by}
 use Rattle.rd_graph.proofs.Along.{along_none, along_next}
 use Rattle.rd_graph.proofs.Marks.{take_whole}
 use Rattle.rd_graph.proofs.Rising.{any_of, found_at, found_whole, found_within}
 use Rattle.rd_graph.proofs.changing.go_along_all.Goals as goal
 
 pub loop-i-init : goal.loop-i-init
-loop-i-init c = record { so_far = along_none (has_it c.args.gone.now.names) (resolved_once c.args.gone.now.names c.args.notes.now) c.args.chain.now (seen c.args.nodes.now) c.requires.sound c.requires.once (lists_seen c.args.lists.now.items) }
+loop-i-init c = record { so_far = along_none (has_it c.args.gone.now.names) (resolved_by c.args.gone.now.names c.args.notes.now) c.args.chain.now (seen c.args.nodes.now) c.requires.sound c.requires.once (lists_seen c.args.lists.now.items) }
 
 pub loop-i-preserved : goal.loop-i-preserved
 loop-i-preserved c =
     let f = found_at c.args.chain.now (seen c.args.nodes.now) c.args.found.now c.loop-i.i c.requires.found_are c.loop-i-test.true in
     let d = any_of c.args.chain.now c.loop-i.i f.0 in
     record {
-      so_far = along_next (has_it c.args.gone.now.names) (resolved_once c.args.gone.now.names c.args.notes.now) c.args.chain.now (seen c.args.nodes.now) c.requires.sound c.requires.once c.loop-i.i d (lists_seen c.args.lists.now.items)
+      so_far = along_next (has_it c.args.gone.now.names) (resolved_by c.args.gone.now.names c.args.notes.now) c.args.chain.now (seen c.args.nodes.now) c.requires.sound c.requires.once c.loop-i.i d (lists_seen c.args.lists.now.items)
           (lists_seen c.loop-i.lists.items) (lists_seen c.go_along_at.new.lists.items) f.0 c.loop-i.invariant.so_far _ (f.1 d) _ c.name_before-name.ensures c.in_ok-go_along_at.ensures;
     }
 
@@ -33,6 +33,6 @@ go_along_at-requires-clause-within c =
 
 pub returns : goal.returns
 returns c =
-    subst (λ (part : List EntryKey). GoesAlong (has_it c.args.gone.now.names) same_entry (resolved_once c.args.gone.now.names c.args.notes.now) c.args.chain.now part (seen c.args.nodes.now) (lists_seen c.args.lists.now.items) (lists_seen c.loop-i.lists.items))
+    subst (λ (part : List EntryKey). GoesAlong (has_it c.args.gone.now.names) same_entry (resolved_by c.args.gone.now.names c.args.notes.now) c.args.chain.now part (seen c.args.nodes.now) (lists_seen c.args.lists.now.items) (lists_seen c.loop-i.lists.items))
     (take_whole c.args.chain.now c.loop-i.i (found_whole c.args.chain.now (seen c.args.nodes.now) c.args.found.now c.loop-i.i c.requires.found_are c.loop-i-test.false))
     c.loop-i.invariant.so_far

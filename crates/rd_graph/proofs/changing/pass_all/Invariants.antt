@@ -1,7 +1,8 @@
-use Rattle.std.proofs.Common.{◌-◌, ◌≤◌, length, get_or}
+use Rattle.std.proofs.Common.{◌≡◌, ◌-◌, ◌≤◌, length, get_or}
 use Rattle.rd_graph.specs.Internal.Patching.{lists_seen}
 use Rattle.rd_graph.specs.Internal.Seen.{seen}
-use Rattle.rd_graph.specs.Internal.Tables.{noted_in, has_it}
+use Rattle.rd_graph.specs.Internal.Tables.{has_it}
+use Rattle.rd_graph.specs.Internal.Words.{noted_by}
 use Rattle.rd_graph.proofs.Late.{SoFar}
 use Rattle.rd_graph.proofs.Quiet.{HasMet}
 use Rattle.rd_graph.proofs.changing.pass_all.Given as goal
@@ -13,5 +14,6 @@ abbrev pub invariant-loop-place : goal.invariant-loop-place
 invariant-loop-place l = record {
   after : get_or l.places 0 (length l.nodes) ≤ l.place;
   met : HasMet l.places l.place l.met;
-  so_far : SoFar (has_it l.gone.names) (seen l.nodes) (noted_in l.notes) (lists_seen l.lists.items) l.place;
+  size : length l.notes.items ≡ length l.places;
+  so_far : SoFar (has_it l.gone.names) (seen l.nodes) (noted_by l.gone.names l.notes.items) (lists_seen l.lists.items) l.place;
 }

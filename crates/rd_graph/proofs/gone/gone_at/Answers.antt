@@ -5,7 +5,7 @@ use Rattle.rd_graph.specs.Internal.Seen.{seen}
 use Rattle.rd_graph.specs.Names.{same_entry}
 use Rattle.rd_graph.proofs.Listing.{contains_from}
 use Rattle.rd_graph.proofs.Entries.{in_has, same_entry-sound}
-use Rattle.rd_graph.proofs.changing.gone_at.Goals as goal
+use Rattle.rd_graph.proofs.gone.gone_at.Goals as goal
 
 pub returns-clause-marked : goal.returns-clause-marked
-returns-clause-marked c = λ k h. c.in_ok-marks.ensures.marked k (contains_from _ k (in_has same_entry same_entry-sound (gathered c.args.gone.now (nodes (seen c.args.nodes.now))) k (sym (c.in_ok-names.ensures k) ∙ h)))
+returns-clause-marked c = λ k h. c.in_ok-marks.ensures.marked k (contains_from _ k (in_has same_entry same_entry-sound (gathered c.args.gone.now (nodes (seen c.args.nodes.now))) k (sym (c.in_ok-names.ensures.named k) ∙ h)))

@@ -7,7 +7,7 @@ use Rattle.rd_graph.specs.Internal.Relisting.{mark_of}
 use Rattle.rd_graph.specs.declared.graph.Node.{Node}
 use Rattle.rd_graph.proofs.Listing.{has_from}
 use Rattle.rd_graph.proofs.Marks.{marked_next, mark_small, take_whole}
-use Rattle.rd_graph.proofs.changing.marks_at.Goals as goal
+use Rattle.rd_graph.proofs.gone.marks_at.Goals as goal
 
 pub index_mut-requires : goal.index_mut-requires
 index_mut-requires c =

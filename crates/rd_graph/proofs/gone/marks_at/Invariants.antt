@@ -5,7 +5,7 @@ use Rattle.rd_graph.specs.Graphs.{nodes}
 use Rattle.rd_graph.specs.Internal.Seen.{seen}
 use Rattle.rd_graph.specs.Internal.Relisting.{mark_of}
 use Rattle.rd_graph.proofs.Listing.{Has}
-use Rattle.rd_graph.proofs.changing.marks_at.Given as goal
+use Rattle.rd_graph.proofs.gone.marks_at.Given as goal
 
 abbrev pub invariant-loop-place : goal.invariant-loop-place
 invariant-loop-place l = record {
