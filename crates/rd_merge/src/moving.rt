@@ -44,6 +44,7 @@ fn push_made<A: Ledger>(made: &mut Vec<Entry<A>>, entry: Entry<A>)
 }
 
 /// Puts an entry at its place, or on top of the ones that are made.
+#[inline(always)]
 pub(crate) fn put<A: Ledger>(
     entries: &mut Vec<Entry<A>>,
     made: &mut Vec<Entry<A>>,

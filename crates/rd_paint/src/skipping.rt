@@ -124,6 +124,7 @@ fn next_in_block<A: Ledger>(
 
 /// The place of the next entry that may show in the area, as far as it is in these columns of these rows, or how many entries
 /// there are. Its block is sought from the one of the last.
+#[inline(always)]
 pub(crate) fn next_within<A: Ledger>(
     entries: &[Entry<A>],
     blocks: &[Block],
