@@ -1,5 +1,6 @@
 -- Lines as runs, in which those of old elements rise, and those of made ones.
 use Rattle.std.proofs.Common.{◌≡◌, refl, ap, ◌∙◌, sym, subst, ℕ, zero, suc, ◌+◌, ◌-◌, ◌<◌, ◌≤◌, Bool, true, false, cond, List, [], ◌∷◌, ◌++◌, length, get_or, take, drop, arith, inl, inr, append_assoc, Option, Some, None}
+use Rattle.std.specs.Prelude.{slice_set}
 use Rattle.std.proofs.lemmas.List.{append-nil, drop-drop, length-append, length-drop, take_more, take-append-drop}
 use Rattle.std.specs.Vec.Iter.{into_iter_items, into_iter_len, into_iter_steps}
 use Rattle.std.specs.declared.vec.IntoIter.{IntoIter}
@@ -32,14 +33,16 @@ one_run r = append-nil (up_from r.from r.count)
 pub places_put : (rs ss : List Run) (r : Run) → ss ≡ rs ++ r ∷ [] → places_of ss ≡ places_of rs ++ up_from r.from r.count
 places_put rs ss r e = ap places_of e ∙ places-append rs (r ∷ []) ∙ ap (λ ks. places_of rs ++ ks) (one_run r)
 
--- one place more, of the last run or after it
-pub place_on : (rs ss : List Run) (r : Run) (p : ℕ) → ss ≡ rs ++ r ∷ [] → p ≡ r.from + r.count → places_of rs ++ up_from r.from (r.count + 1) ≡ places_of ss ++ p ∷ []
-place_on rs ss r p e f =
-    ap (λ ks. places_of rs ++ ks) (up-more r.from r.count) ∙ sym (append_assoc (places_of rs) (up_from r.from r.count) ((r.from + r.count) ∷ []))
-    ∙ ap (λ ks. ks ++ (r.from + r.count) ∷ []) (sym (places_put rs ss r e)) ∙ ap (λ k. places_of ss ++ k ∷ []) (sym f)
-
-pub place_after : (rs ss : List Run) (r : Run) (p : ℕ) (now : List ℕ) → ss ≡ rs ++ r ∷ [] → now ≡ places_of rs ++ up_from r.from r.count → now ++ p ∷ [] ≡ places_of ss ++ p ∷ []
-place_after rs ss r p now e n = ap (λ ks. ks ++ p ∷ []) (n ∙ sym (places_put rs ss r e))
+-- one place more, of the last run
+pub lengthened : (rs : List Run) (i : ℕ) (r : Run) (p : ℕ) (a : Bool) → i + 1 ≡ length rs → r ≡ get_or rs i r → p ≡ r.from + r.count
+    → places_of (slice_set rs i (record { from = r.from; count = r.count + 1; aside = a })) ≡ places_of rs ++ p ∷ []
+lengthened [] i r p a l e f = absurd (omega (arith, l))
+lengthened (x ∷ []) zero r p a l e f =
+    append-nil (up_from r.from (r.count + 1)) ∙ up-more r.from r.count ∙ ap (λ k. up_from r.from r.count ++ k ∷ []) (sym f)
+    ∙ ap (λ ks. ks ++ p ∷ []) (sym (append-nil (up_from r.from r.count)) ∙ ap (λ (z : Run). up_from z.from z.count ++ []) e)
+lengthened (x ∷ y ∷ ys) zero r p a l e f = absurd (omega (arith, l))
+lengthened (x ∷ xs) (suc i) r p a l e f =
+    ap (λ ks. up_from x.from x.count ++ ks) (lengthened xs i r p a (omega (arith, l)) e f) ∙ sym (append_assoc (up_from x.from x.count) (places_of xs) (p ∷ []))
 
 drop_at : {T : Type 0} (xs : List T) (i : ℕ) (x : T) → i < length xs → x ≡ get_or xs i x → drop i xs ≡ x ∷ drop (suc i) xs
 drop_at [] i x l e = absurd (omega arith)

@@ -51,13 +51,19 @@ pub(crate) fn push_place(
 ) -> Result<(), AllocError>
     ensures { OnOk result (places_of runs.new.items ≡ places_of runs.old.items ++ place ∷ []) }
 {
-    let Some(last) = runs.pop() else {
+    let count = runs.len();
+    if count == 0 {
         return push_run(runs, place, 1, aside);
-    };
-    if goes_on(last, place, apart, aside) {
-        return push_run(runs, last.from, last.count + 1, aside);
     }
-    push_run(runs, last.from, last.count, last.aside)?;
+    let last = runs[count - 1];
+    if goes_on(last, place, apart, aside) {
+        runs[count - 1] = Run {
+            from: last.from,
+            count: last.count + 1,
+            aside,
+        };
+        return Ok(());
+    }
     push_run(runs, place, 1, aside)
 }
 
