@@ -1,17 +1,17 @@
 -- Pixels of areas.
-use Rattle.std.proofs.Common.{◌≡◌, ◌∙◌, ℕ, zero, suc, ℤ, pos, negsuc, ◌+◌, ◌*◌, ◌+ℤ◌, ◌≤◌, ◌<◌, ◌≤ℤ◌, ◌<ℤ◌, Bool, true, false, ◌&&◌, ◌||◌, List, [], ◌∷◌, get_or, IsTrue, arith, refl, sym, ap, subst, ◌⊎◌, inl, inr}
-use Rattle.std.specs.Prelude.{replicate, unsigned_abs, sum_by, if◌then◌else◌}
+use Rattle.std.proofs.Common.{◌≡◌, ◌∙◌, ℕ, zero, suc, ℤ, pos, negsuc, ◌+◌, ◌*◌, ◌≤◌, ◌<◌, ◌≤ℤ◌, Bool, true, false, ◌&&◌, ◌||◌, List, [], ◌∷◌, get_or, IsTrue, arith, refl, sym, ap, subst, ◌⊎◌, inl, inr}
+use Rattle.std.specs.Prelude.{replicate, unsigned_abs}
 use Rattle.std.specs.List.{list_any}
-use Rattle.std.specs.Int.{int_max, int_min}
+use Rattle.std.specs.Int.{int_max}
 use Rattle.std.proofs.lemmas.Int.{ints, clamps}
 use Rattle.std.proofs.lemmas.List.{get_or-replicate, get_or_past, length-replicate}
 use Rattle.std.proofs.lemmas.List.Folds.{sum_by-replicate}
-use Rattle.rd_geom.specs.Plane.{Rectangle, right, is_among, holds_pixel, has_none, meets, IsWithin, SharesPixel}
+use Rattle.rd_geom.specs.Plane.{Rectangle, is_among, holds_pixel, has_none, meets, IsWithin, SharesPixel}
 use Rattle.rd_geom.specs.Canvas.{IsCanvas, canvas_of}
-use Rattle.rd_geom.specs.Areas.{Region, in_span, in_spans, spans_at, in_area, columns_in, count_of, meets_span, meets_rows, meets_area, whole_area}
+use Rattle.rd_geom.specs.Areas.{Region, in_span, in_spans, in_area, columns_in, count_of, meets_span, meets_rows, meets_area, whole_area}
 use Rattle.rd_geom.specs.declared.rect.Size.{Size}
 use Rattle.rd_geom.specs.declared.span.Span.{Span}
-use Rattle.rd_geom.proofs.Pixels.{At, at_holds, holds_at, same_test, both_true, left_of, right_of, meets_shares, shares_meets}
+use Rattle.rd_geom.proofs.Pixels.{At, holds_at, same_test, both_true, left_of, right_of, meets_shares, shares_meets}
 
 -- a pixel that is in an area and in a rectangle
 pub record AreaShares (a : Region) (r : Rectangle) : Type 0 where

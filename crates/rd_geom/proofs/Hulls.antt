@@ -1,9 +1,9 @@
 -- The algebra of hulls.
-use Rattle.std.proofs.Common.{◌≡◌, ◌∙◌, ℤ, ◌-ℤ◌, ◌≤ℤ◌, ◌<ℤ◌, Bool, true, false, cond, arith, refl, ap, sym, ◌⊎◌, inl, inr}
+use Rattle.std.proofs.Common.{◌≡◌, ◌∙◌, ℤ, pos, ◌-ℤ◌, ◌≤ℤ◌, ◌<ℤ◌, Bool, true, false, cond, arith, refl, ap, sym, ◌⊎◌, inl, inr}
 use Rattle.std.specs.Int.{int_max, int_min}
 use Rattle.std.proofs.lemmas.Int.{ints, clamps}
-use Rattle.rd_geom.specs.Plane.{Rectangle, right, bottom, spanning, has_none, no_pixels, around, hull_of}
-use Rattle.rd_geom.proofs.Pixels.{HasSome, some_of, some_not_none}
+use Rattle.rd_geom.specs.Plane.{Rectangle, right, bottom, spanning, has_none, no_pixels, around, hull_of, IsWithin}
+use Rattle.rd_geom.proofs.Pixels.{At, HasSome, at_holds, holds_at, first_at, last_at, some_of, some_not_none}
 
 -- the rectangle itself, or the one rectangle without a pixel
 abbrev pub normal : Rectangle → Rectangle
@@ -182,6 +182,14 @@ pub record Holds (a b : Rectangle) : Type 0 where
   pub top : a.y ≤ℤ b.y
   pub right : right b ≤ℤ right a
   pub bottom : bottom b ≤ℤ bottom a
+
+-- a rectangle with a pixel in another has its edges within those of that one
+pub within_holds : (a b : Rectangle) → has_none a ≡ false → IsWithin a b → Holds b a
+within_holds a b e w =
+    let s : HasSome a = some_of a e in
+    let p : At b a.x a.y = holds_at b _ _ (w _ _ (at_holds a _ _ (first_at a s))) in
+    let q : At b (right a -ℤ pos 1) (bottom a -ℤ pos 1) = holds_at b _ _ (w _ _ (at_holds a _ _ (last_at a s))) in
+    record { left = p.left; top = p.top; right = omega (arith, ints, q.right); bottom = omega (arith, ints, q.bottom) }
 
 around_held : (a b : Rectangle) → has_none a ≡ false → has_none b ≡ false → Holds a b → around a b ≡ a
 around_held a b ea eb h =

@@ -127,6 +127,12 @@ last_at r s = record { left = omega (arith, ints); right = omega (arith, ints); 
 pub none_is_within : (a r : Rectangle) → has_none a ≡ true → IsWithin a r
 none_is_within a r e x y h = let p : At a x y = holds_at a x y h in grind (arith, ints)
 
+-- a rectangle in another, by their edges
+pub edges_within : (a b : Rectangle) → b.x ≤ℤ a.x → b.y ≤ℤ a.y → right a ≤ℤ right b → bottom a ≤ℤ bottom b → IsWithin a b
+edges_within a b left top wide high x y h =
+    let p : At a x y = holds_at a x y h in
+    at_holds b x y (record { left = omega (arith, ints, p.left); right = omega (arith, ints, p.right); top = omega (arith, ints, p.top); bottom = omega (arith, ints, p.bottom) })
+
 pub within_around_left : (a b : Rectangle) → IsWithin a (around a b)
 within_around_left a b x y h =
     let p : At a x y = holds_at a x y h in

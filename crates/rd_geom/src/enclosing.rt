@@ -1,7 +1,7 @@
-//! Hulls of rectangles.
+//! Rectangles within others, and hulls.
 
-ghost use Rattle.std.specs.Prelude.{◌≡◌, ◌≤ℤ◌, IfSome, IsTrue};
-ghost use Rattle.rd_geom.specs.Plane.{Rectangle, IsWithin, around, hull_of, right, bottom};
+ghost use Rattle.std.specs.Prelude.{◌≡◌, IfSome, IsFalse, IsTrue, false};
+ghost use Rattle.rd_geom.specs.Plane.{Rectangle, IsWithin, around, has_none, hull_of, right, bottom};
 
 use crate::rect::{Rect, spanning};
 
@@ -31,39 +31,37 @@ fn around(a: Rect, b: Rect) -> Rect
     spanning(left, top, right, bottom)
 }
 
+/// Is every pixel of the first rectangle one of the second, as their edges tell? Of one without a pixel the answer may be no.
+#[inline(always)]
+pub fn is_within(a: Rect, b: Rect) -> bool
+    ensures within { IsTrue result → IsWithin a b }
+    ensures outside { IsFalse result → has_none a ≡ false → IsWithin a b → ⊥ }
+{
+    if a.x() < b.x() {
+        return false;
+    }
+    if a.y() < b.y() {
+        return false;
+    }
+    if b.right() < a.right() {
+        return false;
+    }
+    a.bottom() <= b.bottom()
+}
+
 /// The hull of some rectangles once the one that was `lost` of them has become `gained`. None where the others have to tell.
 pub fn moved_hull(old: Rect, lost: Rect, gained: Rect) -> Option<Rect>
     ensures { IfSome result (λ r. (rest : Rectangle) → old ≡ hull_of rest lost → r
         ≡ hull_of rest gained) }
 {
     let none = lost.is_empty();
-    let held = has_within(gained, lost);
+    let held = is_within(lost, gained);
     let off = is_off(old, lost);
     if none || held || off {
         Some(hull(old, gained))
     } else {
         None
     }
-}
-
-/// Are the edges of the second at those of the first or within?
-fn has_within(a: Rect, b: Rect) -> bool
-    ensures left { IsTrue result → a.x ≤ℤ b.x }
-    ensures top { IsTrue result → a.y ≤ℤ b.y }
-    ensures right { IsTrue result → right b ≤ℤ right a }
-    ensures bottom { IsTrue result → bottom b ≤ℤ bottom a }
-{
-    let across = is_within(a.x(), a.right(), b.x(), b.right());
-    let down = is_within(a.y(), a.bottom(), b.y(), b.bottom());
-    across && down
-}
-
-/// Is all from the third up to the last number from the first up to the second?
-fn is_within(from: i32, to: i32, low: i32, high: i32) -> bool
-    ensures low { IsTrue result → from ≤ℤ low }
-    ensures high { IsTrue result → high ≤ℤ to }
-{
-    from <= low && high <= to
 }
 
 /// Is no edge of the second at one of the first?

@@ -12,7 +12,7 @@ mod steps;
 mod tests;
 
 pub use color::{Color, Px, mul, over, px_of, scale};
-pub use enclosing::{hull, moved_hull};
+pub use enclosing::{hull, is_within, moved_hull};
 pub use rect::{MAX_CANVAS_SIDE, MAX_REACH, Rect, Sides, Size, holds, inset, meet, meets, outset};
 pub use span::Span;
 pub use std::alloc::AllocError as NoMemory;

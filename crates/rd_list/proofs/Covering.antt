@@ -40,24 +40,6 @@ at_next bs i start place n b h is e at l c =
 not_none : (n : ℕ) → (suc n == 0) ≡ false
 not_none n = search rules
 
-parts_true : (p q : Bool) → IsTrue (p && q) → IsTrue p × IsTrue q
-parts_true true true t = (t, t)
-parts_true true false t = absurd (let no : false ≡ true = t in cc)
-parts_true false q t = absurd (let no : false ≡ true = t in cc)
-
-all_true : (p q : Bool) → IsTrue p → IsTrue q → IsTrue (p && q)
-all_true true q t u = u
-all_true false q t u = t
-
-among_wider : (l n m k v : ℤ) → m ≤ℤ l → (l +ℤ n) ≤ℤ (m +ℤ k) → IsTrue (is_among l n v) → IsTrue (is_among m k v)
-among_wider l n m k v a b t = grind (arith, ints)
-
--- a rectangle in another, by their edges
-pub edges_within : (a b : Rectangle) → b.x ≤ℤ a.x → b.y ≤ℤ a.y → (a.x +ℤ a.w) ≤ℤ (b.x +ℤ b.w) → (a.y +ℤ a.h) ≤ℤ (b.y +ℤ b.h) → IsWithin a b
-edges_within a b left top wide high x y t =
-    let both = parts_true (is_among a.x a.w x) (is_among a.y a.h y) t in
-    all_true (is_among b.x b.w x) (is_among b.y b.h y) (among_wider a.x a.w b.x b.w x left wide both.0) (among_wider a.y a.h b.y b.h y top high both.1)
-
 -- in a wider rectangle
 within_wider : (r s : Rectangle) (ms : List Made) → IsWithin r s → AreWithin r ms → AreWithin s ms
 within_wider r s [] w h = tt

@@ -1,7 +1,6 @@
 //! What is told of entries at once: where all that may be seen of them lies, how many leaves they are or hold, and the range of
 //! their names.
 ghost use Rattle.std.specs.Prelude.{IfSome, IsTrue, List, ◌≡◌, ◌∷◌, ◌++◌, []};
-ghost use Rattle.rd_geom.specs.Plane.{IsWithin};
 ghost use Rattle.rd_list.specs.declared.kept.Entry.{Entry as KeptEntry};
 ghost use Rattle.rd_list.specs.Blocks.{Covers, IsGroupTold, IsLeaf, IsListTold, IsTold, IsWider};
 ghost use Rattle.rd_list.specs.Entries.{is_empty};
@@ -10,7 +9,7 @@ ghost use Rattle.rd_list.specs.Internal.Telling.{IsBoth};
 
 use crate::blocks::Block;
 use crate::kept::{Entry, Kept};
-use rd_geom::{Rect, hull};
+use rd_geom::{Rect, hull, is_within};
 use rd_keys::{BoxKey, KeyRange};
 use std::sync::ledger::Ledger;
 
@@ -29,23 +28,6 @@ pub(crate) const NOTHING: Told = Told {
     leaves: 0,
     keys: KeyRange::NONE,
 };
-
-/// Is all of the first rectangle in the second?
-#[inline(always)]
-fn is_within(a: Rect, b: Rect) -> bool
-    ensures { IsTrue result → IsWithin a b }
-{
-    if a.x() < b.x() {
-        return false;
-    }
-    if a.y() < b.y() {
-        return false;
-    }
-    if b.right() < a.right() {
-        return false;
-    }
-    a.bottom() <= b.bottom()
-}
 
 /// Does what is told of other entries say all that the first says?
 #[inline(always)]
