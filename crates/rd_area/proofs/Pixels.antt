@@ -2,13 +2,13 @@ use Rattle.std.proofs.Common.{◌≡◌, ℕ, ℤ, pos, negsuc, ◌-ℤ◌, ◌�
 use Rattle.std.specs.Prelude.{int_le, int_lt, unsigned_abs, if◌then◌else◌}
 use Rattle.std.specs.Int.{int_max, int_min}
 use Rattle.std.proofs.lemmas.Int.{ints, clamps}
-use Rattle.rd_geom.specs.Plane.{Rectangle, right, bottom, holds_pixel, is_among, has_none, spanning, meet, no_pixels, hull_of, around, IsWithin}
+use Rattle.rd_geom.specs.Plane.{Rectangle, right, bottom, holds_pixel, is_among, has_none, spanning, meet, meets, no_pixels, hull_of, around, IsWithin}
 use Rattle.rd_geom.specs.Canvas.{IsCanvas, canvas_of}
 use Rattle.rd_geom.specs.Areas.{in_span, in_spans, spans_at}
 use Rattle.rd_geom.specs.declared.rect.Size.{Size}
 use Rattle.rd_geom.specs.declared.span.Span.{Span}
 use Rattle.rd_geom.proofs.Areas.{AreaShares}
-use Rattle.rd_geom.proofs.Pixels.{common_pixels, both_true, left_of, right_of, at_holds, first_at, some_of}
+use Rattle.rd_geom.proofs.Pixels.{At, common_pixels, both_true, left_of, right_of, at_holds, holds_at, first_at, some_of}
 use Rattle.rd_area.specs.Internal.Joining.{Joins, row_has, row_meets}
 use Rattle.rd_area.specs.Internal.Bands.{band_of, row_at, rows_of, AreBetween, HasRow, IsBanded}
 use Rattle.rd_area.proofs.Banded.{order, table_length, table_at, table_past, band_row, row_in}
@@ -58,7 +58,7 @@ common_on_right a b size c o =
     between_on (int_max a.x b.x) (int_max a.y b.y) (int_min (right a) (right b)) (int_min (bottom a) (bottom b)) size c
     (omega (arith, ints, clamps)) (omega (arith, ints, clamps)) (omega (arith, ints, clamps)) (omega (arith, ints, clamps))
 
-none_on : (size : Size) → IsCanvas size → IsOn no_pixels size
+pub none_on : (size : Size) → IsCanvas size → IsOn no_pixels size
 none_on size c = record { left = omega (arith, ints); top = omega (arith, ints); right = omega (arith, ints); bottom = omega (arith, ints) }
 
 around_on : (a b : Rectangle) (size : Size) → IsCanvas size → IsOn a size → IsOn b size → IsOn (around a b) size
@@ -198,6 +198,9 @@ filled_at : (used : Rectangle) (rows : List (List Span)) (x y : ℤ) → IsFille
 filled_at used rows x (pos n) f h p = f x n p
 filled_at used rows x (negsuc n) f h p = absurd (omega (arith, ints, h))
 
+pub some_there : (a b : Rectangle) → IsTrue (meets a b) → has_none (meet a b) ≡ false
+some_there a b h = grind arith
+
 pub filled_shares : (size : Size) (used r : Rectangle) (rows : List (List Span)) → IsFilled used rows → IsOn (meet used r) size
     → has_none (meet used r) ≡ false → AreaShares (record { size = size; rows = rows }) r
 filled_shares size used r rows f o e =
@@ -231,6 +234,22 @@ grown_filled s used from to span old new w g r e x y h =
     let k : IsTrue (holds_pixel s x (pos y)) = rw (← e.left, ← e.top, ← e.wide, ← e.high) h in
     subst (λ b. IsTrue b) (sym (row_grown s from to span old new w y x g (r y)))
     (left_true (holds_pixel s x (pos y)) (in_spans (get_or old y []) x) k)
+
+right_true : (a b : Bool) → IsTrue b → IsTrue (a || b)
+right_true a b h = grind arith
+
+-- a rectangle that was filled before another joined, or the other one, is filled
+pub larger_filled : (s full which : Rectangle) (from to : ℕ) (span : Span) (old new : List (List Span)) (size : Size) → IsGrown s from to span old new
+    → ((y : ℕ) → IsRising (pos 0) size.w (get_or old y [])) → IsOn s size → IsOn full size → IsFilled full old → (which ≡ full) ⊎ (which ≡ s)
+    → IsOn which size × IsFilled which new
+larger_filled s full which from to span old new size g r o p f (inl e) =
+    rw e (
+      p,
+      λ x y h. subst (λ b. IsTrue b) (sym (row_grown s from to span old new size.w y x g (r y)))
+          (right_true (holds_pixel s x (pos y)) (in_spans (get_or old y []) x) (f x y h)),
+    )
+larger_filled s full which from to span old new size g r o p f (inr e) =
+    rw e (o, grown_filled s s from to span old new size.w g r (record { left = refl; top = refl; wide = refl; high = refl }))
 
 -- what has the edges of a rectangle with a pixel is not empty
 pub some_edges : (a b : Rectangle) → HasEdges a b → has_none b ≡ false → has_none a ≡ false
@@ -293,6 +312,17 @@ has_columns (s ∷ ss) t x e i =
     or_true : (a b : Bool) → b ≡ true → (a || b) ≡ true
     or_true a b h = grind arith
 
+absorbs : (a b : Bool) → (a ≡ true → b ≡ true) → b ≡ (a || b)
+absorbs true b f = f refl
+absorbs false b f = refl
+
+-- nothing joins where all of a rectangle is in one whose pixels are in the area
+pub held_pixels : (size : Size) (s full : Rectangle) (rows : List (List Span)) → IsOn full size → IsFilled full rows → IsWithin s full → (x y : ℤ)
+    → in_spans (spans_at rows y) x ≡ (holds_pixel s x y || in_spans (spans_at rows y) x)
+held_pixels size s full rows o f w x y =
+    absorbs (holds_pixel s x y) (in_spans (spans_at rows y) x)
+    (λ h. let a : At full x y = holds_at full x y (w x y h) in filled_at full rows x y f (omega (arith, ints, a.top, o.top)) (w x y h))
+
 -- nothing joins where each band has the span
 pub had_pixels : (s : Rectangle) (height from to first last : ℕ) (span : Span) (ends : List ℕ) (bands : List (List Span)) → IsBlock s from to span → to ≤ height
     → ((y : ℕ) → from ≤ y → y < to → (first ≤ band_of ends y) × (band_of ends y < last))
@@ -308,10 +338,6 @@ had_pixels s height from to first last span ends bands k top between has x (pos 
     rw (in_block s from to span x n k i.0 i.1) (absorbs (in_span span x) (in_spans (get_or (rows_of height ends bands) n []) x) (has_columns _ span x h)))
     (λ o. rw (outside_block s from to span x n k o) refl)
     (split from to n)
-  where
-    absorbs : (a b : Bool) → (a ≡ true → b ≡ true) → b ≡ (a || b)
-    absorbs true b f = f refl
-    absorbs false b f = refl
 
 -- an area without a pixel
 pub none_sound : (size : Size) (rows : List (List Span)) → IsCanvas size → length rows ≡ unsigned_abs size.h → ((y : ℕ) → get_or rows y [] ≡ [])
@@ -323,6 +349,10 @@ none_sound size rows c n e = record {
   on = none_on size c;
   within = λ x y h. absurd (clash false (subst (λ ss. IsTrue (in_spans ss x)) (e y) h) (grind arith));
 }
+
+-- a rectangle without a pixel is filled
+pub none_filled : (rows : List (List Span)) → IsFilled no_pixels rows
+none_filled rows x y h = absurd (no_pixel_in no_pixels x (pos y) refl h)
 
 pub none_in : (rows : List (List Span)) (x y : ℤ) → ((n : ℕ) → get_or rows n [] ≡ []) → in_spans (spans_at rows y) x ≡ false
 none_in rows x (pos n) e = rw (e n) refl

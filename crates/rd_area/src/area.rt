@@ -1,6 +1,6 @@
 //! A set of pixels of a canvas.
 
-ghost use Rattle.std.specs.Prelude.{◌≡◌, ℕ, ℤ, pos, ◌+ℤ◌, ◌≤ℤ◌, ◌||◌, ◌↔◌, IfOk, OnOk, OnErr, IsTrue, IsFalse, Bool, true, false};
+ghost use Rattle.std.specs.Prelude.{◌≡◌, ℕ, ℤ, pos, ◌+ℤ◌, ◌≤ℤ◌, ◌||◌, ◌⊎◌, IfOk, OnOk, OnErr, IsTrue, IsFalse, Bool, true, false};
 ghost use Rattle.rd_geom.specs.Plane.{meet, right, bottom, holds_pixel, has_none};
 ghost use Rattle.rd_geom.specs.Canvas.{IsCanvas, canvas_of};
 ghost use Rattle.rd_geom.specs.Areas.{in_area, spans_at, count_of, meets_area};
@@ -9,7 +9,7 @@ ghost use Rattle.rd_area.specs.Internal.Crossing.{crosses, overlap};
 ghost use Rattle.rd_area.specs.Internal.Normal.{IsOn};
 
 use crate::{bands, row, rows};
-use rd_geom::{NoMemory, Rect, Size, Span, hull, meet};
+use rd_geom::{NoMemory, Rect, Size, Span, hull, is_within, meet, meets};
 use std::alloc::Global;
 use std::marker::Model;
 
@@ -20,6 +20,9 @@ pub struct Area {
 
     /// No pixel of the area is outside.
     used: Rect,
+
+    /// Each pixel of it is in the area: the largest rectangle that joined, or one without a pixel.
+    full: Rect,
 
     /// Only where `used` is not empty, and each pixel of it is in the area.
     is_full: bool,
@@ -35,7 +38,7 @@ impl Model for Area {
     ghost use Rattle.rd_geom.specs.Areas.{Region};
     ghost use Rattle.rd_geom.specs.Plane.{has_none};
     ghost use Rattle.std.specs.Prelude.{◌≡◌, unsigned_abs, vec_len, IsTrue, false};
-    ghost use Rattle.rd_area.specs.Internal.Normal.{spans_of, IsFilled, IsNormalized};
+    ghost use Rattle.rd_area.specs.Internal.Normal.{spans_of, IsFilled, IsNormalized, IsOn};
     ghost use Rattle.rd_area.specs.Internal.Bands.{rows_of, IsBanded};
 
     ghost Value = { Region };
@@ -48,7 +51,9 @@ impl Model for Area {
     ghost invariant = { λ a. IsNormalized a.size a.used
         (rows_of (unsigned_abs a.size.h) a.ends.items (spans_of a.bands.items))
         × IsBanded (unsigned_abs a.size.h) a.ends.items (vec_len a.bands)
-        × (IsTrue a.is_full → (has_none a.used ≡ false) × IsFilled a.used (rows_of (unsigned_abs a.size.h) a.ends.items (spans_of a.bands.items))) };
+        × (IsTrue a.is_full → (has_none a.used ≡ false) × IsFilled a.used (rows_of (unsigned_abs a.size.h) a.ends.items (spans_of a.bands.items)))
+        × IsOn a.full a.size
+        × IsFilled a.full (rows_of (unsigned_abs a.size.h) a.ends.items (spans_of a.bands.items)) };
 }
 
 /// The columns of a rectangle.
@@ -98,6 +103,18 @@ fn cross(a: &Rect, b: &Rect) -> bool
     columns_overlap(a, b) && rows_overlap(a, b)
 }
 
+/// How many pixels a rectangle has, or the most that can be counted.
+fn pixels(r: Rect) -> usize {
+    (r.w() as usize).saturating_mul(r.h() as usize)
+}
+
+/// The one of two rectangles that has more pixels.
+fn larger(a: Rect, b: Rect) -> Rect
+    ensures { (result ≡ a) ⊎ (result ≡ b) }
+{
+    if pixels(a) < pixels(b) { b } else { a }
+}
+
 impl Area {
     /// No pixel of a canvas of this size, which is from 1 to `MAX_CANVAS_SIDE` pixels wide and high.
     pub fn none(alloc: Global, size: Size) -> Result<Area, NoMemory>
@@ -112,6 +129,7 @@ impl Area {
         Ok(Area {
             size,
             used: Rect::EMPTY,
+            full: Rect::EMPTY,
             is_full: false,
             ends,
             bands,
@@ -141,6 +159,9 @@ impl Area {
         if seen.is_empty() {
             return Ok(());
         }
+        if is_within(seen, self.full) {
+            return Ok(());
+        }
         let (from, to) = rows_of(seen);
         let (first, last) = bands::between(&self.ends, from, to);
         if rows::have(&self.bands, first, last, columns(seen)) {
@@ -163,6 +184,7 @@ impl Area {
         rows::join(&mut self.bands, first, last, columns(seen));
         self.used = hull(self.used, seen);
         self.is_full = self.used == seen;
+        self.full = larger(self.full, seen);
         Ok(())
     }
 
@@ -193,6 +215,9 @@ impl Area {
         let seen = meet(self.used, r);
         if seen.is_empty() {
             return false;
+        }
+        if meets(self.full, r) {
+            return true;
         }
         let (from, to) = rows_of(seen);
         bands::meets(&self.ends, &self.bands, from, to, columns(seen))

@@ -1,16 +1,13 @@
-use Rattle.std.proofs.Common.{◌≡◌, true, false, arith}
+use Rattle.std.proofs.Common.{◌≡◌, true, arith}
 use Rattle.rd_geom.specs.Plane.{Rectangle, meet, meets, has_none}
 use Rattle.rd_geom.proofs.Areas.{meets_area-shares, shares-meets_area}
 use Rattle.rd_geom.proofs.Pixels.{same_test}
 use Rattle.rd_area.specs.Internal.Normal.{IsOn, spans_of}
-use Rattle.std.specs.Prelude.{unsigned_abs, IsTrue, IsFalse}
+use Rattle.std.specs.Prelude.{unsigned_abs, IsFalse}
 use Rattle.rd_area.specs.Internal.Bands.{rows_of}
-use Rattle.rd_area.proofs.Pixels.{common_on_left, apart_shares, filled_shares, true_unless}
+use Rattle.rd_area.proofs.Pixels.{common_on_left, apart_shares, filled_shares, some_there, true_unless}
 use Rattle.rd_area.proofs.Crossing.{crosses_meets}
 use Rattle.rd_area.proofs.area.Area.meets.Goals as goal
-
-some_there : (a b : Rectangle) → IsTrue (meets a b) → has_none (meet a b) ≡ false
-some_there a b h = grind arith
 
 none_there : (a b : Rectangle) → IsFalse (meets a b) → has_none (meet a b) ≡ true
 none_there a b h = grind arith

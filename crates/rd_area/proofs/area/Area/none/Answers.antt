@@ -4,11 +4,11 @@ use Rattle.std.proofs.lemmas.Int.{ints}
 use Rattle.rd_area.specs.Internal.Bands.{row_at, rows_of}
 use Rattle.rd_area.specs.Internal.Normal.{spans_of}
 use Rattle.rd_area.proofs.Banded.{none_rows, one_banded, table_length}
-use Rattle.rd_area.proofs.Pixels.{none_sound, none_in}
+use Rattle.rd_area.proofs.Pixels.{none_sound, none_on, none_filled, none_in}
 use Rattle.rd_area.proofs.area.Area.none.Goals as goal
 
-pub invariant_of-result-2 : goal.invariant_of-result-2
-invariant_of-result-2 c =
+pub invariant_of-result-3 : goal.invariant_of-result-3
+invariant_of-result-3 c =
     let e : c.push.new.self.items ≡ unsigned_abs c.args.size.h ∷ [] = search rules in
     let b : spans_of c.push-2.new.self.items ≡ [] ∷ [] = search rules in
     let n : vec_len c.push-2.new.self ≡ 1 = search rules in (
@@ -17,6 +17,8 @@ invariant_of-result-2 c =
           (λ y. none_rows (unsigned_abs c.args.size.h) c.push.new.self.items (spans_of c.push-2.new.self.items) y b),
       rw n (one_banded (unsigned_abs c.args.size.h) c.push.new.self.items (omega (arith, ints, c.requires.some_high)) e),
       λ t. cc,
+      none_on c.args.size c.requires,
+      none_filled (rows_of (unsigned_abs c.args.size.h) c.push.new.self.items (spans_of c.push-2.new.self.items)),
     )
 
 pub returns-clause-pixels : goal.returns-clause-pixels
