@@ -9,9 +9,8 @@ use Rattle.rd_geom.specs.Colors.{Premultiplied, clear, white, laid_over}
 use Rattle.rd_geom.specs.Plane.{IsWithin, holds_pixel, is_among, right, bottom}
 use Rattle.rd_geom.specs.declared.span.Span.{Span}
 use Rattle.rd_item.specs.declared.leaf.Leaf.{Leaf}
-use Rattle.rd_item.specs.Leaves.{covers}
 use Rattle.rd_list.specs.Wrappers.{Wrapper}
-use Rattle.rd_list.specs.Entries.{Entries, nil, leaf, ◌▷◌}
+use Rattle.rd_list.specs.Entries.{Entries, nil, ◌▷◌}
 use Rattle.rd_list.specs.Lists.{composed, pixel}
 use Rattle.rd_list.proofs.Composing.{composed-join}
 use Rattle.rd_paint.specs.Pictures.{Picture, pixel_at, span_of}

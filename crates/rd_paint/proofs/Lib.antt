@@ -7,6 +7,7 @@ pub mod Repainting
 pub mod Picking
 pub mod Choosing
 pub mod Showing
+pub mod Transparent
 pub mod Passing
 pub mod OffBlocks
 pub mod Hiding

@@ -1,4 +1,4 @@
-//! Entries that may not show in an area are passed over: blocks of them whose hull is off it, and leaves.
+//! Entries that show nothing in an area are passed over: blocks of them whose hull is off it, leaves, and groups of no opacity.
 
 ghost use Rattle.std.specs.Prelude.{◌≡◌, ℤ, ◌+◌, ◌≤◌, ◌∷◌, [], IsTrue, false, length, take, drop};
 ghost use Rattle.rd_geom.specs.Areas.{meets_area};
@@ -10,6 +10,7 @@ ghost use Rattle.rd_paint.specs.Internal.Picks.{InAreaWithin, InSpans, SameWhere
 
 use rd_area::Area;
 use rd_geom::{Rect, Span};
+use rd_item::Item;
 use rd_list::{Block, Entry, Seek};
 use std::sync::ledger::Ledger;
 
@@ -30,37 +31,49 @@ fn misses(r: Rect, columns: Span, rows: Span) -> bool
     r.bottom() <= rows.x0
 }
 
-/// Is the entry a leaf that has no pixel in these columns of these rows?
+/// Is nothing of the item to be seen in these columns of these rows, since it is beside them or transparent?
 #[inline(always)]
-fn lies_outside<A: Ledger>(entry: &Entry<A>, columns: Span, rows: Span) -> bool
+fn is_item_unseen<A: Ledger>(item: &Item<A>, columns: Span, rows: Span) -> bool
+    ensures { IsTrue result → SameWhere (InSpans columns rows) list.nil (list.leaf item.now.leaf list.nil) }
+{
+    if misses(item.visible(), columns, rows) {
+        return true;
+    }
+    let color = item.color();
+    color.a == 0
+}
+
+/// Is the entry such a leaf, or a group of no opacity?
+#[inline(always)]
+fn is_unseen<A: Ledger>(entry: &Entry<A>, columns: Span, rows: Span) -> bool
     ensures { IsTrue result → SameWhere (InSpans columns rows) list.nil (shown (entry.now ∷ [])) }
 {
     match entry {
-        Entry::Leaf(item) => misses(item.visible(), columns, rows),
-        Entry::Group(_) => false,
+        Entry::Leaf(item) => is_item_unseen(item, columns, rows),
+        Entry::Group(group) => group.opacity == 0,
     }
 }
 
-/// Are the four entries from a place on such leaves?
+/// Are the four entries from a place on such entries?
 #[inline(always)]
-fn four_outside<A: Ledger>(entries: &[Entry<A>], i: usize, columns: Span, rows: Span) -> bool
+fn four_unseen<A: Ledger>(entries: &[Entry<A>], i: usize, columns: Span, rows: Span) -> bool
     requires { i + 4 ≤ length entries.now }
     ensures { IsTrue result → ServesWhere (InSpans columns rows)
         (shown (drop (i + 4) entries.now)) (shown (drop i entries.now)) }
 {
-    if !lies_outside(&entries[i], columns, rows) {
+    if !is_unseen(&entries[i], columns, rows) {
         return false;
     }
-    if !lies_outside(&entries[i + 1], columns, rows) {
+    if !is_unseen(&entries[i + 1], columns, rows) {
         return false;
     }
-    if !lies_outside(&entries[i + 2], columns, rows) {
+    if !is_unseen(&entries[i + 2], columns, rows) {
         return false;
     }
-    lies_outside(&entries[i + 3], columns, rows)
+    is_unseen(&entries[i + 3], columns, rows)
 }
 
-/// The place of the next entry before an end that is no such leaf, or the end.
+/// The place of the next entry before an end that is none of them, or the end.
 fn next_before<A: Ledger>(
     entries: &[Entry<A>],
     from: usize,
@@ -76,10 +89,10 @@ fn next_before<A: Ledger>(
         (shown (drop result entries.now)) (shown (drop from entries.now)) }
 {
     let mut i = from;
-    while end - i >= 4 && four_outside(entries, i, columns, rows) {
+    while end - i >= 4 && four_unseen(entries, i, columns, rows) {
         i += 4;
     }
-    while i < end && lies_outside(&entries[i], columns, rows) {
+    while i < end && is_unseen(&entries[i], columns, rows) {
         i += 1;
     }
     i
