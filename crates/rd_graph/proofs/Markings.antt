@@ -74,6 +74,15 @@ walk_next stays ps i from next now then whole l was is next_is =
     joins_on now then (led_to stays from (get_or ps i 0)) (walk stays next (drop (i + 1) ps)) whole is
     (ap (λ f. now ++ (led_to stays from (get_or ps i 0) ++ walk stays f (drop (i + 1) ps))) next_is ∙ sym (ap (λ qs. now ++ walk stays from qs) (drop_at ps i 0 l)) ∙ was)
 
+-- where there is no old place, the walk is the chain
+pub walk_none : (stays : List Bool) (ps : List ℕ) → length stays ≡ 0 → walk stays 0 ps ≡ ps
+walk_none [] ps e = along 0 ps
+  where
+    along : (f : ℕ) (qs : List ℕ) → walk [] f qs ≡ qs
+    along f [] = ap (staying [] f) (let z : 0 - f ≡ 0 = omega arith in z)
+    along f (q ∷ qs) = ap (λ ks. q ∷ ks) (along f qs)
+walk_none (b ∷ bs) ps e = absurd (omega (arith, e))
+
 pub walk_end : (stays : List Bool) (ps : List ℕ) (i from : ℕ) (now then whole : List ℕ) → length ps ≤ i → now ++ walk stays from (drop i ps) ≡ whole
     → then ≡ now ++ staying stays from (length stays - from) → then ≡ whole
 walk_end stays ps i from now then whole l was is = is ∙ sym (ap (λ qs. now ++ walk stays from qs) (drop_end ps i l)) ∙ was

@@ -9,7 +9,7 @@ ghost use Rattle.rd_graph.specs.Runs.{places_aside, places_of, up_from};
 
 use crate::before::{Before, nothing};
 use crate::graph::Node;
-use crate::lining_up::{gather_rising, has_room_aside, is_rising};
+use crate::lining_up::{gather_rising, has_room_aside, is_all_made, is_rising};
 use crate::runs::Run;
 use std::alloc::Global;
 use std::mem;
@@ -166,7 +166,7 @@ fn line_up(
     gather(alloc, &mut nodes, &mut made, runs, room);
 }
 
-/// The nodes as they are, or old and made ones in a line.
+/// The nodes as they are, or old and made ones in a line; the made ones as they are, where the line is of them alone.
 pub(crate) fn in_line(
     alloc: Global,
     nodes: Vec<Node>,
@@ -184,6 +184,9 @@ pub(crate) fn in_line(
     match line {
         None => nodes,
         Some(line) => {
+            if is_all_made(&line, nodes.len(), made.len()) {
+                return made;
+            }
             line_up(alloc, nodes, made, &line, aside, &mut room);
             room
         }

@@ -1,7 +1,7 @@
 //! Lines in which the runs of old elements rise, and those of made ones: both are taken in one pass, and nothing takes memory.
 ghost use Rattle.std.specs.Prelude.{◌≡◌, ◌<◌, ◌≤◌, ◌+◌, ◌-◌, ◌++◌, true, take, drop, vec_len, vec_capacity, length};
 ghost use Rattle.std.specs.Vec.Iter.{into_iter_items};
-ghost use Rattle.rd_graph.specs.Runs.{RunsRise, places_aside, places_of, woven};
+ghost use Rattle.rd_graph.specs.Runs.{RunsRise, places_aside, places_of, up_from, woven};
 
 use crate::runs::{Run, count_aside};
 use std::alloc::Global;
@@ -32,6 +32,14 @@ pub fn is_rising(runs: &[Run], old: usize, made: usize) -> bool
         next_made = place + run.count;
     }
     true
+}
+
+/// Are the runs one of all of so many made elements in their order, where there are no old ones?
+pub fn is_all_made(runs: &[Run], old: usize, made: usize) -> bool
+    ensures none { result ≡ true → old ≡ 0 }
+    ensures all { result ≡ true → places_of runs.now ≡ up_from 0 made }
+{
+    old == 0 && runs.len() == 1 && runs[0].from == 0 && runs[0].count == made
 }
 
 /// Is nothing there as yet, and room for what is set aside?

@@ -42,6 +42,15 @@ fn push_made(
     Ok(())
 }
 
+/// How many names were not found.
+fn missing(found: &[Option<usize>]) -> usize {
+    let mut count: usize = 0;
+    for place in found {
+        count = count.saturating_add(usize::from(place.is_none()));
+    }
+    count
+}
+
 /// The nodes of the names of the chain that were not found, each after the name before it in the chain.
 pub(crate) fn make(
     alloc: Global,
@@ -51,7 +60,7 @@ pub(crate) fn make(
     requires { length found.now ≡ length chain.now }
     ensures { IfOk result (λ v. seen v.items ≡ made_after [] chain.now found.now) }
 {
-    let mut made = Vec::new(alloc);
+    let mut made = Vec::with_capacity(alloc, missing(found))?;
     for (i, key) in chain.iter().enumerate() {
         push_made(alloc, &mut made, chain, i, *key, found[i])?;
     }
