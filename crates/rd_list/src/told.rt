@@ -2,7 +2,8 @@
 //! their names.
 ghost use Rattle.std.specs.Prelude.{IfSome, IsTrue, List, ◌≡◌, ◌∷◌, ◌++◌, []};
 ghost use Rattle.rd_list.specs.declared.kept.Entry.{Entry as KeptEntry};
-ghost use Rattle.rd_list.specs.Blocks.{Covers, IsGroupTold, IsLeaf, IsListTold, IsTold, IsWider};
+ghost use Rattle.rd_list.specs.declared.kept.Entry.TheVariants as variants;
+ghost use Rattle.rd_list.specs.Blocks.{Covers, IsGroupTold, IsListTold, IsTold, IsWider};
 ghost use Rattle.rd_list.specs.Entries.{is_empty};
 ghost use Rattle.rd_list.specs.KeptView.{kept_entries};
 ghost use Rattle.rd_list.specs.Internal.Telling.{IsBoth};
@@ -10,6 +11,7 @@ ghost use Rattle.rd_list.specs.Internal.Telling.{IsBoth};
 use crate::blocks::Block;
 use crate::kept::{Entry, Kept};
 use rd_geom::{Rect, hull, is_within};
+use rd_item::Item;
 use rd_keys::{BoxKey, KeyRange};
 use std::sync::ledger::Ledger;
 
@@ -100,19 +102,15 @@ fn group_told<A: Ledger>(key: BoxKey, list: &Kept<A>) -> Option<Told>
     })
 }
 
-/// What is told of a leaf. None of a group.
+/// What is told of the leaf that an item is.
 #[inline(always)]
-pub fn leaf_told<A: Ledger>(entry: &Entry<A>) -> Option<Told>
-    ensures told { IfSome result (λ t. IsTold t (entry.now ∷ [])) }
-    ensures leaf { IfSome result (λ t. IsLeaf entry.now) }
+pub fn item_told<A: Ledger>(item: &Item<A>) -> Told
+    ensures { (e : KeptEntry A) → e ≡ variants.Leaf item.now → IsTold result (e ∷ []) }
 {
-    match entry {
-        Entry::Leaf(item) => Some(Told {
-            hull: item.visible(),
-            leaves: 1,
-            keys: KeyRange::one(item.owner()),
-        }),
-        Entry::Group(_) => None,
+    Told {
+        hull: item.visible(),
+        leaves: 1,
+        keys: KeyRange::one(item.owner()),
     }
 }
 
@@ -122,7 +120,7 @@ fn told_of<A: Ledger>(entry: &Entry<A>) -> Option<Told>
     ensures { IfSome result (λ t. IsTold t (entry.now ∷ [])) }
 {
     match entry {
-        Entry::Leaf(_) => leaf_told(entry),
+        Entry::Leaf(item) => Some(item_told(item)),
         Entry::Group(group) => group_told(group.key, &group.inner),
     }
 }

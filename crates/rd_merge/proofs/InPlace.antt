@@ -1,10 +1,16 @@
 -- Entries that are put at their places, taken out of them, and laid in a line.
 use Rattle.std.proofs.Common.{◌≡◌, refl, ap, ◌∙◌, sym, subst, ℕ, zero, suc, ◌<◌, true, List, [], ◌∷◌, ◌++◌, length, get_or, set, take, drop, arith}
-use Rattle.std.specs.Prelude.{Option, Some, None, is_some, vec_len}
+use Rattle.std.specs.Prelude.{IfSome, Option, Some, None, is_some, vec_len}
 use Rattle.std.specs.declared.vec.Vec.{Vec}
-use Rattle.std.proofs.lemmas.List.{append-nil}
+use Rattle.std.proofs.lemmas.List.{append-nil, get_or-set_other, get_or-set_same, length-set}
+use Rattle.std.proofs.lemmas.Option.{IfSome_then}
+use Rattle.rd_list.specs.Blocks.{ChangesTo, IsLeaf, IsTold}
+use Rattle.rd_list.specs.declared.told.Told.{Told}
+use Rattle.rd_list.proofs.Admitting.{read_any}
 use Rattle.rd_graph.specs.Gathered.{gathered, arranged}
 use Rattle.rd_graph.specs.Internal.Taking.{KeepsOthers}
+use Rattle.rd_graph.specs.Runs.{up_from}
+use Rattle.rd_graph.proofs.AllMade.{only_made}
 use Rattle.rd_item.specs.Items.{Made}
 use Rattle.rd_keys.specs.declared.entry.EntryKey.{EntryKey}
 use Rattle.rd_list.specs.Wrappers.{Wrapper, wrapper}
@@ -18,7 +24,7 @@ use Rattle.rd_list.specs.declared.kept.Group.{Group}
 use Rattle.rd_list.proofs.Joins.{join-nil, join_assoc}
 use Rattle.rd_list.proofs.News.{kept-append}
 use Rattle.rd_merge.specs.Plans.{arranged_entries, entry_at, gathered_entries, put_entry, size_of, with_entry, wrapper_at}
-use Rattle.rd_merge.specs.Internal.Moving.{IsSameBut, NoneMade}
+use Rattle.rd_merge.specs.Internal.Moving.{ChangesAt, IsSameBut, NoneMade, PutsAt}
 use Rattle.rd_merge.specs.Internal.PlanRoom.{HasLineRoom}
 
 abbrev pub Olds : Type 0
@@ -27,6 +33,11 @@ Olds = Entries (Ordered EntryKey Wrapper) Made
 pub none_long : {T : Type 0} (xs : List T) → length xs ≡ 0 → xs ≡ []
 none_long [] e = refl
 none_long (x ∷ xs) e = absurd (omega (arith, e))
+
+-- what is put at a place leaves the others
+pub puts_changes : {T : Type 0} (place : Option ℕ) (x : T) (old new : List T) → PutsAt place x old new → ChangesAt place old new
+puts_changes None x old new h = h
+puts_changes (Some i) x old new h = record { size = ap length h ∙ length-set old i x; others = λ k d n. ap (λ zs. get_or zs k d) h ∙ get_or-set_other old i k x d n }
 
 -- ---- levels with another on top
 
@@ -81,6 +92,18 @@ module _ {A : Type 0} where
       ap (λ zs. kept_entries es ▷ kept_entries zs) e ∙ ap (λ z. kept_entries es ▷ z) (kept-append ms (x ∷ [])) ∙ sym (join_assoc (kept_entries es) (kept_entries ms) (kept_entries (x ∷ [])))
       ∙ ap (λ o. put_entry o (kept_entries (x ∷ [])) (kept_entries es ▷ kept_entries ms)) (sym is)
 
+  -- a leaf that comes to a place, of which this is told where it comes for a leaf
+  pub leaf_changes : (place : ℕ) (told : Option Told) (m : Made) (old new : List (Entry A)) (y : Entry A) → place < length old → y ≡ get_or old place y → new ≡ set old place (kept.Leaf m)
+      → IfSome told (λ t. ((e : Entry A) → e ≡ kept.Leaf m → IsTold t (e ∷ [])) × IsLeaf y) → ChangesTo place told old new
+  leaf_changes place told m old new y l is h told_so = record {
+    size = ap length h ∙ length-set old place (kept.Leaf m);
+    others = λ k d n. ap (λ zs. get_or zs k d) h ∙ get_or-set_other old place k (kept.Leaf m) d n;
+    there = λ x z w ex ez.
+        let leaf_there : x ≡ kept.Leaf m = ex ∙ ap (λ zs. get_or zs place x) h ∙ get_or-set_same old place (kept.Leaf m) x l in
+        let same : y ≡ z = read_any old place y z l is ez in
+        IfSome_then told told_so (λ t both. (both.0 x leaf_there, subst IsLeaf (sym leaf_there) tt, subst IsLeaf same both.1));
+  }
+
   -- ---- entries in a line
 
   entry_is : (es : List (Entry A)) (p : ℕ) → kept_entries (take 1 (drop p es)) ≡ entry_at p (kept_entries es)
@@ -120,6 +143,16 @@ module _ {A : Type 0} where
       let zero_made : n ≡ 0 = subst (λ o. NoneMade o n) none still in
       let empty : ms ≡ [] = none_long ms (size ∙ zero_made) in
       sym (ap (λ o. arranged o (es ++ ms)) none ∙ ap (λ zs. es ++ zs) empty ∙ append-nil es)
+
+  -- ---- made entries alone
+
+  pub alone_items : (line : Option (List ℕ)) (l : List ℕ) (es ms : List (Entry A)) (n m : ℕ) → line ≡ Some l → n ≡ 0 → length es ≡ n → length ms ≡ m → l ≡ up_from 0 m → ms ≡ arranged line (es ++ ms)
+  alone_items line l es ms n m some z u v e = only_made es ms l n m z u v e ∙ ap (λ o. arranged o (es ++ ms)) (sym some)
+
+  pub alone : (line : Option (List ℕ)) (l : List ℕ) (es ms : List (Entry A)) (n m : ℕ) → line ≡ Some l → n ≡ 0 → length es ≡ n → length ms ≡ m → l ≡ up_from 0 m
+      → kept_entries ms ≡ arranged_entries line (kept_entries es ▷ kept_entries ms)
+  alone line l es ms n m some z u v e =
+      ap kept_entries (only_made es ms l n m z u v e) ∙ gathered_are l (es ++ ms) ∙ ap (gathered_entries l) (kept-append es ms) ∙ ap (λ o. arranged_entries o (kept_entries es ▷ kept_entries ms)) (sym some)
 
   -- ---- a group is taken
 

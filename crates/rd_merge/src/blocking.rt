@@ -5,13 +5,16 @@ ghost use Rattle.rd_graph.specs.Runs.{places_of, up_from};
 ghost use Rattle.rd_list.specs.Blocks.{Covers, CoversAll, IsAt, IsLeaf, IsTold};
 ghost use Rattle.rd_list.specs.declared.kept.Entry.{Entry as KeptEntry};
 ghost use Rattle.rd_list.specs.KeptView.{kept_entries};
+ghost use Rattle.rd_list.specs.Entries as list;
 ghost use Rattle.rd_list.specs.Entries.{◌▷◌};
+ghost use Rattle.rd_list.specs.declared.kept.Entry.TheVariants as variants;
 ghost use Rattle.rd_merge.specs.Plans.{IsPlace, one_made, put_entry};
 ghost use Rattle.rd_merge.specs.Internal.Moving.{ChangesAt, PartsTo, PartsAll};
 
-use crate::moving::put;
+use crate::moving::{put, put_item};
 use rd_graph::Run;
-use rd_list::{Block, Entry, FIRST, Seek, Told, admit, leaf_told, part_at, push_block};
+use rd_item::Item;
+use rd_list::{Block, Entry, FIRST, Seek, Told, admit, item_told, part_at, push_block};
 use std::sync::ledger::Ledger;
 
 /// Nothing is said any more of the block of a place, if one is given, since its entry goes.
@@ -26,19 +29,48 @@ pub(crate) fn clear<A: Ledger>(blocks: &mut Vec<Block>, last: Seek, place: Optio
     }
 }
 
-/// What is told of a new entry, where it is a leaf that comes for a leaf.
+/// What is told of a new leaf, where it comes for a leaf.
 #[inline(always)]
-fn leaf_for_leaf<A: Ledger>(old: &Entry<A>, new: &Entry<A>) -> Option<Told>
-    ensures { IfSome result (λ t. IsTold t (new.now ∷ []) × IsLeaf new.now × IsLeaf old.now) }
+fn told_for_leaf<A: Ledger>(old: &Entry<A>, item: &Item<A>) -> Option<Told>
+    ensures { IfSome result (λ t. ((e : KeptEntry A) → e ≡ variants.Leaf item.now → IsTold t (e ∷ [])) × IsLeaf old.now) }
 {
     match old {
-        Entry::Leaf(_) => leaf_told(new),
+        Entry::Leaf(_) => Some(item_told(item)),
         Entry::Group(_) => None,
     }
 }
 
-/// Puts an entry at its place, or on top of the ones that are made, and into the block of the place.
+/// Puts a leaf at its place, or on top of the ones that are made, and into the block of the place.
 #[inline(always)]
+pub(crate) fn put_item_in_block<A: Ledger>(
+    blocks: &mut Vec<Block>,
+    last: Seek,
+    entries: &mut Vec<Entry<A>>,
+    made: &mut Vec<Entry<A>>,
+    place: Option<usize>,
+    item: Item<A>,
+) -> Seek
+    requires place { IsPlace place (vec_len entries.old) }
+    requires room { vec_len made.old + one_made place ≤ vec_capacity made.old }
+    requires at { IsAt blocks.old.items last.at last.start }
+    requires covers { Covers blocks.old.items entries.old.items }
+    ensures put { kept_entries entries.new.items ▷ kept_entries made.new.items
+        ≡ put_entry place (list.leaf item list.nil) (kept_entries entries.old.items ▷ kept_entries made.old.items) }
+    ensures entries { vec_len entries.new ≡ vec_len entries.old }
+    ensures made { vec_len made.new ≡ vec_len made.old + one_made place }
+    ensures room { vec_capacity made.old ≤ vec_capacity made.new }
+    ensures at { IsAt blocks.new.items result.at result.start }
+    ensures covers { Covers blocks.new.items entries.new.items }
+{
+    let seek = match place {
+        Some(place) => admit::<A>(blocks, last, place, told_for_leaf(&entries[place], &item)),
+        None => last,
+    };
+    put_item(entries, made, place, item);
+    seek
+}
+
+/// Puts an entry at its place, or on top of the ones that are made. Nothing is said any more of the block of the place.
 pub(crate) fn put_in_block<A: Ledger>(
     blocks: &mut Vec<Block>,
     last: Seek,
@@ -59,10 +91,7 @@ pub(crate) fn put_in_block<A: Ledger>(
     ensures at { IsAt blocks.new.items result.at result.start }
     ensures covers { Covers blocks.new.items entries.new.items }
 {
-    let seek = match place {
-        Some(place) => admit::<A>(blocks, last, place, leaf_for_leaf(&entries[place], &entry)),
-        None => last,
-    };
+    let seek = clear::<A>(blocks, last, place);
     put(entries, made, place, entry);
     seek
 }

@@ -8,9 +8,9 @@ ghost use Rattle.rd_merge.specs.PlanView.{steps_seen};
 ghost use Rattle.rd_merge.specs.Internal.Moving.{ChangesAt, IsSameBut, left_after};
 ghost use Rattle.rd_merge.specs.Internal.Untaken.{untaken};
 
-use crate::blocking::{clear, in_line_blocks, put_in_block};
+use crate::blocking::{clear, in_line_blocks, put_in_block, put_item_in_block};
 use crate::moving::in_line;
-use crate::opening::{next_leaf, open};
+use crate::opening::{next_item, open};
 use crate::plan::{Plan, Step};
 use crate::taking::NewEntries;
 use rd_list::{Block, Entry, FIRST, Group, Kept, NewList, Seek, renew_blocks};
@@ -88,8 +88,8 @@ fn finish_step<A: Ledger>(
 {
     match step {
         Step::Leaf(place) => {
-            let entry = next_leaf(fresh);
-            put_in_block(blocks, last, entries, made, place, entry)
+            let item = next_item(fresh);
+            put_item_in_block(blocks, last, entries, made, place, item)
         }
         Step::Group { old, is_new, plan } => {
             let seek = clear::<A>(blocks, last, old);
@@ -101,6 +101,7 @@ fn finish_step<A: Ledger>(
 
 /// The group of a step, taken out of its place, where it has one, and joined with what is new in it.
 #[cycle(finishing)]
+#[inline(never)]
 fn finish_group<A: Ledger>(
     alloc: Global,
     entries: &mut Vec<Entry<A>>,

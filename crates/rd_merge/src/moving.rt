@@ -1,15 +1,18 @@
 //! Entries of a level are moved to their places, and nothing takes memory.
-ghost use Rattle.std.specs.Prelude.{◌≡◌, ℕ, ◌<◌, ◌≤◌, ◌+◌, ◌∷◌, ◌++◌, [], true, drop, slice_index_or, vec_len, vec_capacity, length, option_map};
+ghost use Rattle.std.specs.Prelude.{◌≡◌, ℕ, ◌<◌, ◌≤◌, ◌+◌, ◌∷◌, ◌++◌, [], true, drop, slice_index_or, slice_set, vec_len, vec_capacity, length, option_map};
 ghost use Rattle.rd_graph.specs.Gathered.{arranged, gathered, ArePlaces, IsLine};
 ghost use Rattle.rd_graph.specs.Internal.Taking.{KeepsBut, KeepsOthers, KeepsOutside};
 ghost use Rattle.rd_graph.specs.Runs.{places_aside, places_of, up_from};
+ghost use Rattle.rd_list.specs.Entries as list;
 ghost use Rattle.rd_list.specs.Entries.{◌▷◌};
+ghost use Rattle.rd_list.specs.declared.kept.Entry.TheVariants as variants;
 ghost use Rattle.rd_list.specs.KeptView.{kept_entries};
 ghost use Rattle.rd_merge.specs.Plans.{arranged_entries, IsPlace, one_made, put_entry};
 ghost use Rattle.rd_merge.specs.Internal.Moving.{NoneMade, PutsAt};
 ghost use Rattle.rd_merge.specs.Internal.PlanRoom.{HasLineRoom};
 
-use rd_graph::{Run, gather_rising, has_room_aside, is_rising};
+use rd_graph::{Run, gather_rising, has_room_aside, is_all_made, is_rising};
+use rd_item::Item;
 use rd_list::{Entry, Group, Kept};
 use std::alloc::Global;
 use std::mem;
@@ -63,6 +66,42 @@ pub(crate) fn put<A: Ledger>(
     match place {
         None => push_made(made, entry),
         Some(i) => entries[i] = entry,
+    }
+}
+
+/// Puts a leaf at a place: its item, where a leaf stands there.
+#[inline(always)]
+fn put_item_at<A: Ledger>(entries: &mut Vec<Entry<A>>, i: usize, item: Item<A>)
+    requires { i < vec_len entries.old }
+    ensures put { entries.new.items ≡ slice_set entries.old.items i (variants.Leaf item) }
+    ensures len { vec_len entries.new ≡ vec_len entries.old }
+{
+    match &mut entries[i] {
+        Entry::Leaf(old) => *old = item,
+        Entry::Group(_) => entries[i] = Entry::Leaf(item),
+    }
+}
+
+/// Puts a leaf at its place, or on top of the ones that are made.
+#[inline(always)]
+pub(crate) fn put_item<A: Ledger>(
+    entries: &mut Vec<Entry<A>>,
+    made: &mut Vec<Entry<A>>,
+    place: Option<usize>,
+    item: Item<A>,
+)
+    requires place { IsPlace place (vec_len entries.old) }
+    requires room { vec_len made.old + one_made place ≤ vec_capacity made.old }
+    ensures put { kept_entries entries.new.items ▷ kept_entries made.new.items
+        ≡ put_entry place (list.leaf item list.nil) (kept_entries entries.old.items ▷ kept_entries made.old.items) }
+    ensures there { PutsAt place (variants.Leaf item) entries.old.items entries.new.items }
+    ensures entries { vec_len entries.new ≡ vec_len entries.old }
+    ensures made { vec_len made.new ≡ vec_len made.old + one_made place }
+    ensures room { vec_capacity made.old ≤ vec_capacity made.new }
+{
+    match place {
+        None => push_made(made, Entry::Leaf(item)),
+        Some(i) => put_item_at(entries, i, item),
     }
 }
 
@@ -195,7 +234,7 @@ fn line_up<A: Ledger>(
     gather(alloc, &mut entries, &mut made, runs, room);
 }
 
-/// The entries as they are, or old and made ones in a line.
+/// The entries as they are, or old and made ones in a line; the made ones as they are, where the line is of them alone.
 pub(crate) fn in_line<A: Ledger>(
     alloc: Global,
     entries: Vec<Entry<A>>,
@@ -214,6 +253,9 @@ pub(crate) fn in_line<A: Ledger>(
     match line {
         None => entries,
         Some(line) => {
+            if is_all_made(line, entries.len(), made.len()) {
+                return made;
+            }
             line_up(alloc, entries, made, line, aside, &mut room);
             room
         }

@@ -1,5 +1,6 @@
 //! New entries are taken one after another, and groups out of their places.
 ghost use Rattle.std.specs.Prelude.{◌≡◌, ◌∷◌, [], true, Some, is_some, vec_len};
+ghost use Rattle.rd_list.specs.Entries as list;
 ghost use Rattle.rd_list.specs.KeptView.{kept_entries};
 ghost use Rattle.rd_list.specs.NewView.{new_entries};
 ghost use Rattle.rd_list.specs.Views.{group_at};
@@ -10,6 +11,7 @@ ghost use Rattle.rd_merge.specs.Internal.Untaken.{untaken};
 
 use crate::moving::take_at;
 use crate::taking::NewEntries;
+use rd_item::Item;
 use rd_keys::BoxKey;
 use rd_list::{Entry, Group, Kept, NewEntry, NewList};
 use std::alloc::Global;
@@ -32,26 +34,26 @@ pub(crate) struct Opened<A: Ledger> {
     pub(crate) new: NewList<A>,
 }
 
-/// A new leaf, as an entry of a kept list.
-fn as_kept<A: Ledger>(entry: NewEntry<A>) -> Entry<A>
+/// The item of a new leaf.
+fn as_item<A: Ledger>(entry: NewEntry<A>) -> Item<A>
     requires { size_of (first_leaf (new_entries (entry ∷ []))) ≡ 1 }
-    ensures { kept_entries (result ∷ []) ≡ first_leaf (new_entries (entry ∷ [])) }
+    ensures { list.leaf result list.nil ≡ first_leaf (new_entries (entry ∷ [])) }
 {
     match entry {
-        NewEntry::Leaf(item) => Entry::Leaf(item),
+        NewEntry::Leaf(item) => item,
         NewEntry::Group { .. } => unreachable!(),
     }
 }
 
-/// The next new entry, which is a leaf.
-pub(crate) fn next_leaf<A: Ledger>(fresh: &mut NewEntries<A>) -> Entry<A>
+/// The item of the next new entry, which is a leaf.
+pub(crate) fn next_item<A: Ledger>(fresh: &mut NewEntries<A>) -> Item<A>
     requires { size_of (first_leaf (untaken fresh.old)) ≡ 1 }
-    ensures leaf { kept_entries (result ∷ []) ≡ first_leaf (untaken fresh.old) }
+    ensures leaf { list.leaf result list.nil ≡ first_leaf (untaken fresh.old) }
     ensures left { untaken fresh.new ≡ later (untaken fresh.old) }
 {
     fresh.turn();
     match fresh.run.next() {
-        Some(entry) => as_kept(entry),
+        Some(entry) => as_item(entry),
         None => unreachable!(),
     }
 }

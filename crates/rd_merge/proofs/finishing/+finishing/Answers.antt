@@ -184,6 +184,6 @@ finish_step-returns-in-Group-clause-stepped g t c =
     let size_later = kept-size c.finish_group-entry.new.entries.items in
     let len = c.finish_group-entry.ensures.len in
     let long : size_of k ≡ vec_len c.args.entries.now = omega (arith, size, ok.0) in
-    c.put_in_block-in-Group.ensures.put
+    c.put_in_block.ensures.put
     ∙ group_stepped c.args.step i.old i.is_new i.plan i.is c.into_inner.result c.into_inner.ensures (vec_len c.args.entries.now) k m n long c.requires.fits (kept_entries c.finish_group-entry.new.entries.items) (kept_entries (c.finish_group-entry.result ∷ []))
     (omega (arith, size, size_later, ok.0, later.0, len)) c.finish_group-entry.ensures.others c.finish_group-entry.ensures.made
