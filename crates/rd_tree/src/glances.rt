@@ -1,9 +1,9 @@
 //! What walks read of all boxes. Beside each row stands one word that tells at once whether a key's box is live and untouched,
 //! and beside each block of rows one that tells so of all of them.
-ghost use Rattle.std.specs.Prelude.{◌≡◌, ◌<◌, ◌⊎◌, [], false, length, slice_set, IsTrue, OnOk};
+ghost use Rattle.std.specs.Prelude.{◌≡◌, ◌<◌, ◌⊎◌, [], false, true, length, slice_set, IsTrue, OnOk};
 ghost use Rattle.rd_keys.specs.Keys.{BoxKey as Box};
 ghost use Rattle.rd_keys.specs.Ranges.{IsAmong};
-ghost use Rattle.rd_tree.specs.Internal.Glances.{HasRoom, quiet_word, seen_at, told_touched, with_glance};
+ghost use Rattle.rd_tree.specs.Internal.Glances.{HasRoom, quiet_word, seen_at, told_touched, untouched, with_glance};
 
 use crate::glance::Glance;
 use crate::shared::{NOT_QUIET, all_share, extend, forget, renew};
@@ -123,6 +123,18 @@ impl Glances {
         forget(&self.words, &mut self.shared, slot as usize);
         self.words[slot as usize] = word_of(&glance);
         self.rows[slot as usize] = glance;
+    }
+
+    /// The box of a slot is touched no more, which it was. So nothing was known of its block, and nothing is.
+    #[inline(always)]
+    pub(crate) fn settle(&mut self, slot: u32)
+        requires here { slot < length self.old.rows }
+        requires touched { (seen_at self.old.rows slot).touched ≡ true }
+        ensures { self.new.rows ≡ slice_set self.old.rows slot (untouched (seen_at self.old.rows slot)) }
+    {
+        let row = &mut self.rows[slot as usize];
+        row.touched = false;
+        self.words[slot as usize] = u64::from(row.generation);
     }
 
     /// Writes the row of a slot, or of the next one.

@@ -11,6 +11,7 @@ ghost use Rattle.rd_tree.specs.Internal.Linked.{linked, Relinks};
 ghost use Rattle.rd_tree.specs.Internal.Links.{child_and_sibling, edit, edit_if, with_ends, with_item, with_next, with_place, with_prev};
 ghost use Rattle.rd_tree.specs.Internal.Reaching as reaching;
 ghost use Rattle.rd_tree.specs.Internal.Works.{AllowsAt, done, item_under};
+ghost use Rattle.rd_tree.specs.Touching.{settled};
 
 use crate::glance::{Glance, glance_at, none, renamed};
 use crate::glances::Glances;
@@ -250,6 +251,19 @@ impl Nodes {
                 (glance.first, glance.next)
             }
             None => (None, None),
+        }
+    }
+
+    /// Takes the mark off the box under a key, which is touched.
+    #[inline(always)]
+    pub(crate) fn settle(&mut self, key: BoxKey)
+        requires touched { option_map_or (λ n. n.item.touched) (value self.old key.slot key.generation) false
+            ≡ true }
+        ensures { Relinks self.old self.new (edit same_key key (with_item settled) (linked self.old)) }
+    {
+        if let Some(node) = self.held.get_mut(key) {
+            node.item.touched = false;
+            self.glances.settle(key.slot());
         }
     }
 

@@ -111,7 +111,7 @@ settling_ended a0 a old new first w j u =
       every false x y = refl
 
 -- Where none of these boxes has a mark, the loop is at its end.
-settling_rest : (a0 a : Arena inner.Node) (old new : List Summary) (first at : Option BoxKey) → Settling a0 a old new first at → touched_in (seen_from a at) ≡ 0
+pub settling_rest : (a0 a : Arena inner.Node) (old new : List Summary) (first at : Option BoxKey) → Settling a0 a old new first at → touched_in (seen_from a at) ≡ 0
     → Settling a0 a old new first None
 settling_rest a0 a old new first at w z = record {
   walked = record {
@@ -348,6 +348,13 @@ module _ (a0 a : Arena inner.Node) (old new : List Summary) (first : Option BoxK
       | inl u ↦ here_count ∙ sym (ap (λ z. touched_in (seen_from a1 z)) u ∙ ap touched_in seen_low)
       | inr u ↦ here_count ∙ (u.1 ∙ sym (ap (λ z. touched_in (seen_from a1 z)) u.0 ∙ ap touched_in (nothing_seen a1)))
     ]
+
+    -- The row of the box stands as it was while those below are settled.
+    pub row_stays : (new1 : List Summary) → Unmarks a1 new new1 (seen_from a1 b) → summary_at new1 k ≡ summary_at new k
+    row_stays new1 g =
+        let l1k : is_some (linked a1 k) ≡ true = ap is_some (r1.links k) ∙ (is_some-each (same_key k k) (with_item settled) (linked a k)
+        ∙ (live_as k ∙ here_live)) in
+        unmarked_low new1 g k l1k ∙ rw h.apart.0 refl
 
     pub settle_next : (a2 : Arena inner.Node) (new1 new2 : List Summary) → Relinks a1 a2 (on_each (λ j. has same_key j (seen_from a1 b)) settled
         (linked a1)) → Unmarks a1 new new1 (seen_from a1 b) → length new1 ≡ length new →

@@ -24,6 +24,10 @@ glance_of g n = record {
 abbrev pub at_generation : ℕ → Glance → Glance
 at_generation g y = record y { generation = g }
 
+-- the same of a box that is not touched
+abbrev pub untouched : Glance → Glance
+untouched y = record y { touched = false }
+
 -- of a slot at this generation that holds this
 abbrev pub glance_in : ℕ → Option inner.Node → Glance
 glance_in g None = unseen

@@ -122,17 +122,16 @@ pub(crate) fn put_hull(table: &mut Vec<Summary>, key: BoxKey, hull: Rect)
     write(table, key, row);
 }
 
-/// No touched box is below a box any more.
+/// No touched box is below a box any more, below which there were so many.
 #[inline(always)]
-pub(crate) fn unmark(table: &mut Vec<Summary>, key: BoxKey)
-    requires { key.slot < length table.old.items }
+pub(crate) fn unmark(table: &mut Vec<Summary>, key: BoxKey, were: u32)
+    requires here { key.slot < length table.old.items }
+    requires were { (summary_at table.old.items key).touched ≡ were }
     ensures rows { Puts table.old.items table.new.items key (unmarked (summary_at table.old.items
         key)) }
     ensures same_length { length table.new.items ≡ length table.old.items }
 {
-    let mut row = row_at(table, key);
-    if row.touched > 0 {
-        row.touched = 0;
-        write(table, key, row);
+    if were > 0 {
+        table[key.slot() as usize].touched = 0;
     }
 }

@@ -11,7 +11,6 @@ ghost use Rattle.rd_tree.specs.Internal.Rows.{HasRows, touched_under};
 ghost use Rattle.rd_tree.specs.Internal.Settles.{HasCounts, Unmarks};
 
 use crate::held::Nodes;
-use crate::links::walk::Work;
 use crate::table::row::{Summary, row_at, unmark};
 use rd_keys::BoxKey;
 
@@ -42,7 +41,7 @@ fn settle_on(nodes: &mut Nodes, key: BoxKey) -> Settled
 {
     let glance = nodes.glance_at_live(key);
     if glance.touched {
-        nodes.work_on(key, Work::Settle);
+        nodes.settle(key);
     }
     Settled {
         first: glance.first,
@@ -99,8 +98,11 @@ pub(crate) fn settle_from(
         }
         let below = where_left(marks_below, here.first);
         settle_below(nodes, table, below, marks_below);
-        unmark(table, key);
+        unmark(table, key, marks_below);
         left -= here.own + marks_below;
-        at = where_left(left, here.next);
+        if left == 0 {
+            return;
+        }
+        at = here.next;
     }
 }

@@ -1,9 +1,9 @@
-use Rattle.std.proofs.Common.{◌+◌, ◌-◌, arith, ap, ◌∙◌, sym, subst, cond}
+use Rattle.std.proofs.Common.{arith, ap, ◌∙◌, sym, subst, cond}
 use Rattle.std.specs.Prelude.{◌==◌, None}
 use Rattle.rd_tree.specs.Internal.Summaries.{summary_at}
 use Rattle.rd_tree.proofs.Nodes.Works.{ended}
 use Rattle.rd_tree.specs.declared.links.walk.Work.TheVariants.{Settle}
-use Rattle.rd_tree.proofs.Tables.Settling.{Settling, settling_begun, settling_ended, settling_on, walked, live_key, here_row, below_settle, marks_below, settle_next, settle_passed}
+use Rattle.rd_tree.proofs.Tables.Settling.{Settling, settling_begun, settling_ended, settling_on, walked, live_key, here_row, below_settle, marks_below, row_stays, settle_next, settle_passed, settling_rest}
 use Rattle.rd_tree.proofs.table.settle.+settling.Goals as goal
 
 pub settle_from-loop-at-init : goal.settle_from-loop-at-init
@@ -67,11 +67,20 @@ pub settle_from-unmark-requires : goal.settle_from-unmark-requires
 settle_from-unmark-requires t c =
     let w = walked c.args.nodes.now c.loop-at.nodes c.args.table.now.items c.loop-at.table.items c.args.first c.loop-at.at c.in-Some.key c.loop-at.left
     c.in-Some.is c.loop-at.invariant in
-    omega (
-      arith,
-      here_row c.args.nodes.now c.loop-at.nodes c.args.table.now.items c.loop-at.table.items c.args.first c.in-Some.key w.0,
-      c.settle_below.ensures.same_length,
-    )
+    let row = c.row_at-marks_below.ensures ∙ ap (λ l. summary_at l c.in-Some.key) c.deref.ensures.value in
+    let below_is = c.where_left-below.ensures ∙ ap (λ r. cond (r.touched == 0) None c.settle_on-here.result.first) row in
+    record {
+      here = omega (
+        arith,
+        here_row c.args.nodes.now c.loop-at.nodes c.args.table.now.items c.loop-at.table.items c.args.first c.in-Some.key w.0,
+        c.settle_below.ensures.same_length,
+      );
+      were =
+          ap (λ r. r.touched) (row_stays c.args.nodes.now c.loop-at.nodes c.args.table.now.items c.loop-at.table.items c.args.first c.in-Some.key w.0
+          c.settle_on-here.new.nodes c.settle_on-here.ensures.worked (c.settle_on-here.result.first, c.settle_on-here.result.next)
+          c.settle_on-here.ensures.onward c.where_left-below.result below_is c.settle_below.new.table.items c.settle_below.ensures.rows)
+          ∙ sym (ap (λ r. r.touched) row);
+    }
 
 pub settle_from-overflow_sub-left : goal.settle_from-overflow_sub-left
 settle_from-overflow_sub-left t c =
@@ -103,6 +112,42 @@ settle_from-overflow_add-left t c =
     let marks = ap (λ r. r.touched) row in
     omega (arith, w.1, n.marks, own, marks, c.loop-at.auto.left-fits)
 
+pub settle_from-returns-then-left-eq0-clause-settled : goal.settle_from-returns-then-left-eq0-clause-settled
+settle_from-returns-then-left-eq0-clause-settled t c =
+    let w = walked c.args.nodes.now c.loop-at.nodes c.args.table.now.items c.loop-at.table.items c.args.first c.loop-at.at c.in-Some.key c.loop-at.left
+    c.in-Some.is c.loop-at.invariant in
+    let row = c.row_at-marks_below.ensures ∙ ap (λ l. summary_at l c.in-Some.key) c.deref.ensures.value in
+    let below_is = c.where_left-below.ensures ∙ ap (λ r. cond (r.touched == 0) None c.settle_on-here.result.first) row in
+    let n = settle_next c.args.nodes.now c.loop-at.nodes c.args.table.now.items c.loop-at.table.items c.args.first c.in-Some.key w.0
+    c.settle_on-here.new.nodes c.settle_on-here.ensures.worked (c.settle_on-here.result.first, c.settle_on-here.result.next)
+    c.settle_on-here.ensures.onward c.where_left-below.result below_is c.settle_below.new.nodes c.settle_below.new.table.items
+    c.unmark.new.table.items c.settle_below.ensures.settled c.settle_below.ensures.rows c.settle_below.ensures.same_length
+    c.unmark.ensures.rows c.unmark.ensures.same_length in
+    let own = c.settle_on-here.ensures.own in
+    let marks = ap (λ r. r.touched) row in
+    let none = c.if-left-eq0.true in
+    let end = settling_rest c.args.nodes.now c.settle_below.new.nodes c.args.table.now.items c.unmark.new.table.items c.args.first
+    c.settle_on-here.result.next n.next (omega (arith, w.1, n.marks, own, marks, none)) in
+    ended c.args.nodes.now c.settle_below.new.nodes c.args.first Settle end.walked
+
+pub settle_from-returns-then-left-eq0-clause-rows : goal.settle_from-returns-then-left-eq0-clause-rows
+settle_from-returns-then-left-eq0-clause-rows t c =
+    let w = walked c.args.nodes.now c.loop-at.nodes c.args.table.now.items c.loop-at.table.items c.args.first c.loop-at.at c.in-Some.key c.loop-at.left
+    c.in-Some.is c.loop-at.invariant in
+    let row = c.row_at-marks_below.ensures ∙ ap (λ l. summary_at l c.in-Some.key) c.deref.ensures.value in
+    let below_is = c.where_left-below.ensures ∙ ap (λ r. cond (r.touched == 0) None c.settle_on-here.result.first) row in
+    let n = settle_next c.args.nodes.now c.loop-at.nodes c.args.table.now.items c.loop-at.table.items c.args.first c.in-Some.key w.0
+    c.settle_on-here.new.nodes c.settle_on-here.ensures.worked (c.settle_on-here.result.first, c.settle_on-here.result.next)
+    c.settle_on-here.ensures.onward c.where_left-below.result below_is c.settle_below.new.nodes c.settle_below.new.table.items
+    c.unmark.new.table.items c.settle_below.ensures.settled c.settle_below.ensures.rows c.settle_below.ensures.same_length
+    c.unmark.ensures.rows c.unmark.ensures.same_length in
+    let own = c.settle_on-here.ensures.own in
+    let marks = ap (λ r. r.touched) row in
+    let none = c.if-left-eq0.true in
+    let end = settling_rest c.args.nodes.now c.settle_below.new.nodes c.args.table.now.items c.unmark.new.table.items c.args.first
+    c.settle_on-here.result.next n.next (omega (arith, w.1, n.marks, own, marks, none)) in
+    settling_ended c.args.nodes.now c.settle_below.new.nodes c.args.table.now.items c.unmark.new.table.items c.args.first end
+
 pub settle_from-loop-at-smaller : goal.settle_from-loop-at-smaller
 settle_from-loop-at-smaller t c =
     let w = walked c.args.nodes.now c.loop-at.nodes c.args.table.now.items c.loop-at.table.items c.args.first c.loop-at.at c.in-Some.key c.loop-at.left
@@ -116,11 +161,7 @@ settle_from-loop-at-smaller t c =
     c.unmark.ensures.rows c.unmark.ensures.same_length in
     let own = c.settle_on-here.ensures.own in
     let marks = ap (λ r. r.touched) row in
-    let on = settling_on c.args.nodes.now c.settle_below.new.nodes c.args.table.now.items c.unmark.new.table.items c.args.first
-    c.settle_on-here.result.next c.where_left-at-in-Some.result
-    (c.loop-at.left - (c.settle_on-here.result.own + c.row_at-marks_below.result.touched)) n.next (omega (arith, w.1, n.marks, own, marks))
-    c.where_left-at-in-Some.ensures in
-    rw c.in-Some.is (omega (arith, on.2, n.less))
+    rw c.in-Some.is (omega (arith, n.less))
 
 pub settle_from-loop-at-preserved : goal.settle_from-loop-at-preserved
 settle_from-loop-at-preserved t c =
@@ -135,11 +176,7 @@ settle_from-loop-at-preserved t c =
     c.unmark.ensures.rows c.unmark.ensures.same_length in
     let own = c.settle_on-here.ensures.own in
     let marks = ap (λ r. r.touched) row in
-    let on = settling_on c.args.nodes.now c.settle_below.new.nodes c.args.table.now.items c.unmark.new.table.items c.args.first
-    c.settle_on-here.result.next c.where_left-at-in-Some.result
-    (c.loop-at.left - (c.settle_on-here.result.own + c.row_at-marks_below.result.touched)) n.next (omega (arith, w.1, n.marks, own, marks))
-    c.where_left-at-in-Some.ensures in
-    (on.0, on.1)
+    (n.next, omega (arith, w.1, n.marks, own, marks))
 
 pub settle_from-returns-clause-settled : goal.settle_from-returns-clause-settled
 settle_from-returns-clause-settled t c =
