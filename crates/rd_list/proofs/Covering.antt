@@ -1,9 +1,8 @@
 -- Blocks, one after another.
-use Rattle.std.proofs.Common.{◌≡◌, refl, ap, ◌∙◌, sym, subst, ℕ, ℤ, zero, suc, ◌+◌, ◌+ℤ◌, ◌-◌, ◌<◌, ◌==◌, ◌≤◌, ◌≤ℤ◌, Bool, true, false, ◌&&◌, List, [], ◌∷◌, ◌++◌, length, take, drop, get_or, Option, None, Some, arith, rules}
-use Rattle.std.specs.Prelude.{IfSome, IsTrue}
-use Rattle.std.proofs.lemmas.Int.{ints}
+use Rattle.std.proofs.Common.{◌≡◌, refl, ap, ◌∙◌, sym, subst, ℕ, zero, suc, ◌+◌, ◌-◌, ◌<◌, ◌==◌, ◌≤◌, false, List, [], ◌∷◌, ◌++◌, length, take, drop, get_or, Option, None, Some, arith, rules}
+use Rattle.std.specs.Prelude.{IfSome}
 use Rattle.std.proofs.lemmas.List.{length-append, length-take-le, length-drop, take-append-le, drop-append-le, take-append-drop, take_more, drop-drop}
-use Rattle.rd_geom.specs.Plane.{Rectangle, IsWithin, is_among}
+use Rattle.rd_geom.specs.Plane.{Rectangle, IsWithin}
 use Rattle.rd_item.specs.Items.{Made}
 use Rattle.rd_list.specs.Blocks.{IsHeld, AreHeld, AreNamed, AreWithin, IsGroupTold, IsListTold, IsTold, Tells, Covers, CoversAll, total, leaf_count, IsAt}
 use Rattle.rd_list.specs.Internal.Telling.{IsBoth}

@@ -2,6 +2,7 @@
 ghost use Rattle.std.specs.Prelude.{◌≡◌, ◌<◌, ◌≤◌, ◌∷◌, ◌++◌, [], false, true, IsTrue, length, take};
 ghost use Rattle.rd_list.specs.Blocks.{Covers, CoversAll, IsTold, Tells, total};
 
+use crate::edges::{first_leaves, leaves_told};
 use crate::kept::Entry;
 use crate::told::{NOTHING, Told, told_more};
 use std::sync::ledger::Ledger;
@@ -51,15 +52,18 @@ fn block_of<A: Ledger>(entries: &[Entry<A>], count: usize, told: &Told) -> Block
     }
 }
 
-/// The first block of some entries: as many as there may be, up to the first of which nothing is told.
-fn first_block<A: Ledger>(entries: &[Entry<A>]) -> Block
-    requires { 0 < length entries.now }
+/// The block of the first entries, of which so many are told already: as many as there may be, up to the first of which nothing is told.
+#[inline(always)]
+fn grown_block<A: Ledger>(entries: &[Entry<A>], first: usize, first_told: Told) -> Block
+    requires some { 0 < length entries.now }
+    requires within { first ≤ length entries.now }
+    requires told { IsTold first_told (take first entries.now) }
     ensures some { 0 < result.count }
     ensures within { result.count ≤ length entries.now }
     ensures told { result.is_open ≡ false → Tells result (take result.count entries.now) }
 {
-    let mut count = 0;
-    let mut told = NOTHING;
+    let mut count = first;
+    let mut told = first_told;
     while count < MOST && count < entries.len() {
         let Some(more) = told_more(&told, &entries[count]) else {
             return block_of(entries, count, &told);
@@ -68,6 +72,21 @@ fn first_block<A: Ledger>(entries: &[Entry<A>]) -> Block
         count += 1;
     }
     block_of(entries, count, &told)
+}
+
+/// The first block of some entries: as many as there may be, up to the first of which nothing is told. The leaves that come first
+/// are told at once.
+fn first_block<A: Ledger>(entries: &[Entry<A>]) -> Block
+    requires { 0 < length entries.now }
+    ensures some { 0 < result.count }
+    ensures within { result.count ≤ length entries.now }
+    ensures told { result.is_open ≡ false → Tells result (take result.count entries.now) }
+{
+    let leaves = first_leaves(entries, MOST);
+    let Some(told) = leaves_told::<A>(&leaves) else {
+        return open_block(1);
+    };
+    grown_block(entries, leaves.count, told)
 }
 
 /// Puts a block on top, if there is room for it.

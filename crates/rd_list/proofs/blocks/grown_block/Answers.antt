@@ -1,7 +1,7 @@
 use Rattle.std.proofs.Common.{◌∙◌, ◌++◌, ◌∷◌, [], ap, sym, subst, take, arith}
 use Rattle.std.proofs.lemmas.List.{take_more}
 use Rattle.rd_list.specs.Blocks.{IsTold}
-use Rattle.rd_list.proofs.blocks.first_block.Goals as goal
+use Rattle.rd_list.proofs.blocks.grown_block.Goals as goal
 
 pub loop-count-preserved : goal.loop-count-preserved
 loop-count-preserved g c =
