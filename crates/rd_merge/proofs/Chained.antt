@@ -108,6 +108,11 @@ module _ {A : Type 0} where
 
 -- ---- a name is found
 
+-- where names differ, a name that stands at a place is found there
+pub named_at : (names : List EntryKey) (k : EntryKey) (place : ℕ) (d : EntryKey) → spec.Once names → place < length names → same_entry (get_or names place d) k ≡ true → place_of same_entry names k ≡ Some place
+named_at names k place d once within t =
+    subst (λ (z : EntryKey). place_of same_entry names z ≡ Some place) (same_entry-sound (get_or names place d) k t) (place_has same_entry same_entry-sound same_entry-refl names place d (once_of names once) within)
+
 module _ (wide : Bool) (names : List EntryKey) (k : EntryKey) where
   -- what is still to be looked at: nothing from a place on is the name, and the number is that of the last name before it at the mark
   pub record IsAt (number : ℕ) : Type 0 where
@@ -128,8 +133,7 @@ module _ (wide : Bool) (names : List EntryKey) (lasts befores : List ℕ) (chain
     place_within = let w = last_within (marks_of wide names) (mark_of wide k) at.end in let v = at.within in let e = at.number_is in omega (arith, w, v, e, is)
 
     pub place_found : spec.Once names → (d : EntryKey) → same_entry (get_or names place d) k ≡ true → place_of same_entry names k ≡ Some place
-    place_found once d t =
-        subst (λ (z : EntryKey). place_of same_entry names z ≡ Some place) (same_entry-sound (get_or names place d) k t) (place_has same_entry same_entry-sound same_entry-refl names place d (once_of names once) place_within)
+    place_found once d t = named_at names k place d once place_within t
 
     pub falls : (next : ℕ) → next ≡ get_or befores place next → next < number
     falls next e =

@@ -17,7 +17,7 @@ use Rattle.rd_list.specs.declared.kept.Entry.{Entry}
 use Rattle.rd_list.specs.declared.kept.Entry.TheVariants as kept
 use Rattle.rd_merge.specs.Going.{any_stays, is_untouched}
 use Rattle.rd_merge.specs.Looking.{any_goes, gone_places, inner_places, kept_names}
-use Rattle.rd_merge.specs.Internal.Looks.{NothingNoted, gone_at, goes_inside, inner_at, is_passed, name_of, noted}
+use Rattle.rd_merge.specs.Internal.Looks.{IsLookedTo, NothingNoted, gone_at, goes_inside, inner_at, is_passed, name_of, noted}
 use Rattle.rd_merge.specs.Internal.Marks.{AreMarked, box_mark, box_marks}
 use Rattle.rd_merge.proofs.Marked.{mark_small, unmarked}
 
@@ -216,3 +216,7 @@ module _ {A : Type 0} (touched : BoxKey → Bool) (es : List (Entry A)) (names :
 
   pub nothing_more : (i j k : ℕ) → Nothing i j → Nothing j (j + 1) → k ≡ j + 1 → Nothing i k
   nothing_more i j k n m e = subst (λ (z : ℕ). Nothing i z) (sym e) (nothing_joined i j (j + 1) n m)
+
+  -- and then one need not look there
+  pub looked_on : (i j : ℕ) (gone : List ℕ) (found : List (Option ℕ)) (inner : List ℕ) → IsLookedTo touched es names i gone found inner → Nothing i j → IsLookedTo touched es names j gone found inner
+  looked_on i j gone found inner l n = record { gone_are = l.gone_are ∙ sym n.gone; found_are = l.found_are ∙ sym n.found; inner_are = l.inner_are ∙ sym n.inner }

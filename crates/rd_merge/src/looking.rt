@@ -1,31 +1,33 @@
 //! A look at a kept level: which entries go, where the names of the new level stand, and in which groups something goes.
-ghost use Rattle.std.specs.Prelude.{◌≡◌, ◌<◌, ◌≤◌, ◌+◌, ◌&&◌, not, true, if◌then◌else◌, [], ◌∷◌, ◌++◌, length, map, None, IfOk, IfSome, OnOk};
+ghost use Rattle.std.specs.Prelude.{◌≡◌, ◌<◌, ◌≤◌, ◌+◌, ◌&&◌, not, false, true, if◌then◌else◌, [], ◌∷◌, ◌++◌, drop, length, map, take, None, IfOk, IfSome, OnOk};
 ghost use Rattle.rd_graph.specs.Names.{place_of, same_entry};
 ghost use Rattle.rd_graph.specs.Orders.{Once};
-ghost use Rattle.rd_list.specs.Blocks.{Covers};
+ghost use Rattle.rd_list.specs.Blocks.{Covers, Tells};
 ghost use Rattle.rd_list.specs.Entries.{is_empty};
 ghost use Rattle.rd_list.specs.EntryNames.{kept_leaves};
 ghost use Rattle.rd_list.specs.KeptView.{kept_entries};
-ghost use Rattle.rd_merge.specs.Internal.Looks.{gone_at, goes_inside, has_touched, inner_at, name_of, noted};
+ghost use Rattle.rd_merge.specs.Internal.Looks.{IsLookedTo, gone_at, goes_inside, has_touched, inner_at, name_of, noted};
+ghost use Rattle.rd_merge.specs.Internal.Marks.{AreMarked, AreRunsMarked};
 ghost use Rattle.rd_merge.specs.Internal.Sought.{AreChained};
 ghost use Rattle.rd_merge.specs.Looking.{IsLooked, kept_names};
 
 use crate::going::{Touches, key_of, stays_at};
 use crate::marks::Marks;
-use crate::passing::next_noted;
+use crate::passing::{is_quiet, next_before};
 use crate::sought::Sought;
 use rd_keys::EntryKey;
-use rd_list::{Block, Entry, FIRST};
+use rd_list::{Block, Entry};
 use std::alloc::{AllocError, Global};
 use std::sync::ledger::Ledger;
 
 /// Places in a kept level: of the entries that go, of each name of the new level, and of the groups to go into although the new level does
-/// not name them.
+/// not name them. And the number of the name that may be found next, after the last one that was.
 #[derive(Drop)]
 pub(crate) struct Looked {
     pub(crate) gone: Vec<usize>,
     pub(crate) found: Vec<Option<usize>>,
     pub(crate) inner: Vec<usize>,
+    next: usize,
 }
 
 /// Is there no entry?
@@ -77,13 +79,15 @@ fn is_inner<A: Ledger, T: Touches>(stays: bool, is_new: bool, entry: &Entry<A>, 
     stays && !is_new && goes_inside(entry, tree)
 }
 
-/// The place of a name is noted, where the name is found.
-fn note(found: &mut Vec<Option<usize>>, name: Option<usize>, place: usize)
+/// The place of a name is noted, where the name is found. The name after it comes next.
+#[inline(always)]
+fn note(found: &mut Vec<Option<usize>>, next: &mut usize, name: Option<usize>, place: usize)
     requires { IfSome name (λ j. j < length found.old.items) }
     ensures { found.new.items ≡ noted name place found.old.items }
 {
     if let Some(j) = name {
         found[j] = Some(place);
+        *next = j + 1;
     }
 }
 
@@ -99,6 +103,7 @@ fn push_if(places: &mut Vec<usize>, is_wanted: bool, place: usize) -> Result<(),
 }
 
 /// Notes what is found at one entry.
+#[inline(always)]
 fn look_at<A: Ledger, T: Touches>(
     looked: &mut Looked,
     sought: &Sought,
@@ -117,8 +122,8 @@ fn look_at<A: Ledger, T: Touches>(
     ensures inner { OnOk result (looked.new.inner.items
         ≡ looked.old.inner.items ++ inner_at (T.is_touched tree.now) names.now place entry.now) }
 {
-    let name = sought.find(names, key_of(entry));
-    note(&mut looked.found, name, place);
+    let name = sought.find_from(names, key_of(entry), looked.next);
+    note(&mut looked.found, &mut looked.next, name, place);
     let stays = stays_at(entry, tree);
     push_if(&mut looked.gone, !stays, place)?;
     let is_inner = is_inner(stays, name.is_some(), entry, tree);
@@ -140,10 +145,107 @@ fn nothing(alloc: Global, names: &[EntryKey]) -> Result<Looked, AllocError>
         gone: Vec::new(alloc),
         found,
         inner: Vec::new(alloc),
+        next: 0,
     })
 }
 
+/// Passes over entries before an end of which nothing is noted, and notes what is found at the next one, if there is one. All entries
+/// before them have been looked at. The place after it.
+#[inline(always)]
+fn look_on<A: Ledger, T: Touches>(
+    looked: &mut Looked,
+    sought: &Sought,
+    marks: &Marks,
+    names: &[EntryKey],
+    entries: &[Entry<A>],
+    from: usize,
+    end: usize,
+    tree: &T,
+) -> Result<usize, AllocError>
+    requires sought { AreChained sought.now.is_wide names.now sought.now.lasts.items sought.now.befores.items }
+    requires marks { AreMarked marks.now.is_wide names.now marks.now.marks.items }
+    requires names { Once names.now }
+    requires entries { Once (kept_names (kept_entries entries.now)) }
+    requires from { from < end }
+    requires end { end ≤ length entries.now }
+    requires looked { IsLookedTo (T.is_touched tree.now) entries.now names.now from
+        looked.old.gone.items looked.old.found.items looked.old.inner.items }
+    ensures after { IfOk result (λ n. from < n) }
+    ensures within { IfOk result (λ n. n ≤ end) }
+    ensures looked { IfOk result (λ n. IsLookedTo (T.is_touched tree.now) entries.now names.now n
+        looked.new.gone.items looked.new.found.items looked.new.inner.items) }
+{
+    let place = next_before(entries, from, end, marks.is_wide, &marks.marks, names, tree);
+    if place == end {
+        return Ok(end);
+    }
+    look_at(looked, sought, names, place, &entries[place], tree)?;
+    Ok(place + 1)
+}
+
+/// Notes what is found at the entries from one place up to another, where all before them have been looked at.
+#[inline(always)]
+fn look_between<A: Ledger, T: Touches>(
+    looked: &mut Looked,
+    sought: &Sought,
+    marks: &Marks,
+    names: &[EntryKey],
+    entries: &[Entry<A>],
+    from: usize,
+    end: usize,
+    tree: &T,
+) -> Result<(), AllocError>
+    requires sought { AreChained sought.now.is_wide names.now sought.now.lasts.items sought.now.befores.items }
+    requires marks { AreMarked marks.now.is_wide names.now marks.now.marks.items }
+    requires names { Once names.now }
+    requires entries { Once (kept_names (kept_entries entries.now)) }
+    requires from { from ≤ end }
+    requires end { end ≤ length entries.now }
+    requires looked { IsLookedTo (T.is_touched tree.now) entries.now names.now from
+        looked.old.gone.items looked.old.found.items looked.old.inner.items }
+    ensures { OnOk result (IsLookedTo (T.is_touched tree.now) entries.now names.now end
+        looked.new.gone.items looked.new.found.items looked.new.inner.items) }
+{
+    let mut place = from;
+    while place < end {
+        place = look_on(looked, sought, marks, names, entries, place, end, tree)?;
+    }
+    Ok(())
+}
+
+/// The same of the entries of a block, which is passed as a whole where nothing is noted of it.
+#[inline(always)]
+fn look_in_block<A: Ledger, T: Touches>(
+    looked: &mut Looked,
+    sought: &Sought,
+    marks: &Marks,
+    names: &[EntryKey],
+    entries: &[Entry<A>],
+    block: &Block,
+    start: usize,
+    tree: &T,
+) -> Result<(), AllocError>
+    requires sought { AreChained sought.now.is_wide names.now sought.now.lasts.items sought.now.befores.items }
+    requires marks { AreMarked marks.now.is_wide names.now marks.now.marks.items }
+    requires runs { AreRunsMarked names.now marks.now.runs.items }
+    requires names { Once names.now }
+    requires entries { Once (kept_names (kept_entries entries.now)) }
+    requires end { start + block.now.count ≤ length entries.now }
+    requires told { block.now.is_open ≡ false → Tells block.now (take block.now.count (drop start entries.now)) }
+    requires looked { IsLookedTo (T.is_touched tree.now) entries.now names.now start
+        looked.old.gone.items looked.old.found.items looked.old.inner.items }
+    ensures { OnOk result (IsLookedTo (T.is_touched tree.now) entries.now names.now (start + block.now.count)
+        looked.new.gone.items looked.new.found.items looked.new.inner.items) }
+{
+    if is_quiet(block, &marks.runs, tree) {
+        return Ok(());
+    }
+    let end = start + block.count;
+    look_between(looked, sought, marks, names, entries, start, end, tree)
+}
+
 /// One pass over the entries of a kept level, for the names of a new one.
+#[inline(never)]
 pub(crate) fn look<A: Ledger, T: Touches>(
     alloc: Global,
     entries: &[Entry<A>],
@@ -164,11 +266,29 @@ pub(crate) fn look<A: Ledger, T: Touches>(
     let is_wide = names.len() > 128 && entries.len() > 4096;
     let marks = Marks::new(alloc, is_wide, names)?;
     let sought = Sought::new(alloc, names)?;
-    let mut seek = FIRST;
-    let mut place = next_noted(entries, blocks, &mut seek, 0, &marks, names, tree);
-    while place < entries.len() {
-        look_at(&mut looked, &sought, names, place, &entries[place], tree)?;
-        place = next_noted(entries, blocks, &mut seek, place + 1, &marks, names, tree);
+    let mut place = 0;
+    for block in blocks {
+        look_in_block(
+            &mut looked,
+            &sought,
+            &marks,
+            names,
+            entries,
+            block,
+            place,
+            tree,
+        )?;
+        place += block.count;
     }
+    look_between(
+        &mut looked,
+        &sought,
+        &marks,
+        names,
+        entries,
+        place,
+        entries.len(),
+        tree,
+    )?;
     Ok(looked)
 }

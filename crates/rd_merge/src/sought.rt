@@ -102,4 +102,22 @@ impl Sought {
         }
         None
     }
+
+    /// The same, where the name is perhaps that of this number, which is looked at first.
+    #[inline(always)]
+    pub(crate) fn find_from(
+        &self,
+        names: &[EntryKey],
+        name: EntryKey,
+        first: usize,
+    ) -> Option<usize>
+        requires chained { AreChained self.now.is_wide names.now self.now.lasts.items self.now.befores.items }
+        requires once { Once names.now }
+        ensures { result ≡ place_of same_entry names.now name }
+    {
+        if first < names.len() && is_same(names[first], name) {
+            return Some(first);
+        }
+        self.find(names, name)
+    }
 }

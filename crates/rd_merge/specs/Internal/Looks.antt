@@ -63,3 +63,9 @@ module _ {A : Type 0} where
     pub gone : gone_before touched es end ≡ gone_before touched es from
     pub found : found_before es names end ≡ found_before es names from
     pub inner : inner_before touched names es end ≡ inner_before touched names es from
+
+  -- what is to be noted of the first so many entries of a level is
+  pub record IsLookedTo (touched : BoxKey → Bool) (es : List (Entry A)) (names : List EntryKey) (n : ℕ) (gone : List ℕ) (found : List (Option ℕ)) (inner : List ℕ) : Type 0 where
+    pub gone_are : gone ≡ gone_before touched es n
+    pub found_are : found ≡ found_before es names n
+    pub inner_are : inner ≡ inner_before touched names es n

@@ -1,4 +1,4 @@
-use Rattle.std.proofs.Common.{◌≤◌, ◌-◌, length}
+use Rattle.std.proofs.Common.{◌≤◌, ◌-◌}
 use Rattle.rd_merge.specs.Internal.Looks.{NothingNoted}
 use Rattle.rd_merge.proofs.passing.next_before.Given as goal
 
