@@ -1,5 +1,5 @@
 -- A pass over a kept level, entry by entry.
-use Rattle.std.proofs.Common.{◌≡◌, refl, ap, ◌∙◌, sym, subst, ℕ, zero, suc, ◌+◌, ◌<◌, Bool, true, false, not, cond, ◌&&◌, List, [], ◌∷◌, ◌++◌, length, map, take, get_or, arith, inl, inr, Option, Some, None, is_some, append_assoc, append-nil}
+use Rattle.std.proofs.Common.{◌≡◌, refl, ap, ◌∙◌, sym, subst, ℕ, zero, suc, ◌+◌, ◌<◌, ◌≤◌, Bool, true, false, not, cond, ◌&&◌, List, [], ◌∷◌, ◌++◌, length, map, take, get_or, arith, inl, inr, Option, Some, None, is_some, append_assoc, append-nil}
 use Rattle.std.specs.Prelude.{IfSome}
 use Rattle.std.proofs.lemmas.List.{take_more, length-take-le}
 use Rattle.rd_keys.specs.Keys.{BoxKey}
@@ -17,7 +17,7 @@ use Rattle.rd_list.specs.declared.kept.Entry.{Entry}
 use Rattle.rd_list.specs.declared.kept.Entry.TheVariants as kept
 use Rattle.rd_merge.specs.Going.{any_stays, is_untouched}
 use Rattle.rd_merge.specs.Looking.{any_goes, gone_places, inner_places, kept_names}
-use Rattle.rd_merge.specs.Internal.Looks.{IsLookedTo, NothingNoted, gone_at, goes_inside, inner_at, is_passed, name_of, noted}
+use Rattle.rd_merge.specs.Internal.Looks.{IsLookedTo, LeavesStay, NothingNoted, gone_at, goes_inside, inner_at, is_passed, name_of, noted}
 use Rattle.rd_merge.specs.Internal.Marks.{AreMarked, box_mark, box_marks}
 use Rattle.rd_merge.proofs.Marked.{mark_small, unmarked}
 
@@ -220,3 +220,7 @@ module _ {A : Type 0} (touched : BoxKey → Bool) (es : List (Entry A)) (names :
   -- and then one need not look there
   pub looked_on : (i j : ℕ) (gone : List ℕ) (found : List (Option ℕ)) (inner : List ℕ) → IsLookedTo touched es names i gone found inner → Nothing i j → IsLookedTo touched es names j gone found inner
   looked_on i j gone found inner l n = record { gone_are = l.gone_are ∙ sym n.gone; found_are = l.found_are ∙ sym n.found; inner_are = l.inner_are ∙ sym n.inner }
+
+  -- leaves that stay do so in a part too
+  pub leaves_within : (from end i j : ℕ) → LeavesStay touched es from end → from ≤ i → j ≤ end → LeavesStay touched es i j
+  leaves_within from end i j s l h = λ p lower upper x e. s p (omega (arith, l, lower)) (omega (arith, h, upper)) x e

@@ -1,5 +1,5 @@
 -- Blocks of which nothing is noted, since none of their boxes is touched, and none is sought.
-use Rattle.std.proofs.Common.{◌≡◌, refl, ap, ◌∙◌, sym, subst, ℕ, zero, suc, ◌+◌, ◌<◌, ◌≤◌, Bool, true, false, not, List, [], ◌∷◌, ◌++◌, length, take, drop, get_or, arith, Option}
+use Rattle.std.proofs.Common.{◌≡◌, refl, ap, ◌∙◌, sym, subst, ℕ, zero, suc, ◌+◌, ◌-◌, ◌<◌, ◌≤◌, Bool, true, false, not, List, [], ◌∷◌, ◌++◌, length, take, drop, get_or, arith, Option}
 use Rattle.std.proofs.lemmas.List.{get_or-take, get_or-drop, length-take-le, length-drop}
 use Rattle.rd_keys.specs.Keys.{BoxKey}
 use Rattle.rd_keys.specs.Ranges.{IsAmong}
@@ -20,7 +20,7 @@ use Rattle.rd_list.specs.declared.kept.Entry.TheVariants as kept
 use Rattle.rd_list.proofs.Admitting.{named_at, read_some}
 use Rattle.rd_merge.specs.Going.{any_stays, is_untouched}
 use Rattle.rd_merge.specs.Looking.{any_goes, kept_names}
-use Rattle.rd_merge.specs.Internal.Looks.{NothingNoted, gone_at, inner_at, name_of, noted}
+use Rattle.rd_merge.specs.Internal.Looks.{LeafStays, LeavesStay, NothingNoted, gone_at, inner_at, name_of, noted}
 use Rattle.rd_merge.specs.Internal.Marks.{AreRunsMarked, run_mark}
 use Rattle.rd_merge.proofs.Looks.{add_none, ends, gone_next, inner_next, named_next, nothing_itself, nothing_more}
 use Rattle.rd_merge.proofs.Marked.{run_small, unmarked}
@@ -34,6 +34,21 @@ module _ (touched : BoxKey → Bool) (keys : KeyRange) (quiet : (k : BoxKey) →
   some_stays nil a e = absurd (cc)
   some_stays (leaf m rest) a e = rw (stays m.leaf a.0) refl
   some_stays (group g inner rest) a e = rw (some_stays inner a.2 a.1) refl
+
+  leaf_stays : {A : Type 0} (x : Entry A) → AreNamed keys (kept_entries (x ∷ [])) → LeafStays touched x
+  leaf_stays (kept.Leaf m) a = stays m.leaf a.0
+  leaf_stays (kept.Group g) a = tt
+
+  -- the leaves of so many entries
+  pub still_leaves : {A : Type 0} (es : List (Entry A)) (start n : ℕ) → start + n ≤ length es → AreNamed keys (kept_entries (take n (drop start es))) → LeavesStay touched es start (start + n)
+  still_leaves es start n l a = λ p lower upper x e.
+      let m = p - start in
+      let at : p ≡ start + m = omega (arith, lower) in
+      let is : x ≡ get_or es (start + m) x = subst (λ (i : ℕ). x ≡ get_or es i x) at e in
+      let there : x ≡ get_or (take n (drop start es)) m x = is ∙ sym (get_or-drop start es m x) ∙ sym (get_or-take n (drop start es) m x (omega (arith, lower, upper))) in
+      let d = length-drop start es in
+      let t = length-take-le n (drop start es) (omega (arith, d, l)) in
+      leaf_stays x (named_at keys (take n (drop start es)) a m x (omega (arith, t, lower, upper)) there)
 
   has_entry : (xs : Entries (Ordered EntryKey Wrapper) Made) → is_empty xs ≡ false → is_empty (kept_leaves xs) ≡ false
   has_entry nil e = absurd (cc)

@@ -6,14 +6,14 @@ ghost use Rattle.rd_list.specs.Blocks.{Covers, Tells};
 ghost use Rattle.rd_list.specs.Entries.{is_empty};
 ghost use Rattle.rd_list.specs.EntryNames.{kept_leaves};
 ghost use Rattle.rd_list.specs.KeptView.{kept_entries};
-ghost use Rattle.rd_merge.specs.Internal.Looks.{IsLookedTo, gone_at, goes_inside, has_touched, inner_at, name_of, noted};
+ghost use Rattle.rd_merge.specs.Internal.Looks.{IsLookedTo, LeavesStay, gone_at, goes_inside, has_touched, inner_at, name_of, noted};
 ghost use Rattle.rd_merge.specs.Internal.Marks.{AreMarked, AreRunsMarked};
 ghost use Rattle.rd_merge.specs.Internal.Sought.{AreChained};
 ghost use Rattle.rd_merge.specs.Looking.{IsLooked, kept_names};
 
 use crate::going::{Touches, key_of, stays_at};
-use crate::marks::Marks;
-use crate::passing::{is_quiet, next_before};
+use crate::marks::{Marks, are_unnamed};
+use crate::passing::{next_before, stands_still};
 use crate::sought::Sought;
 use rd_keys::EntryKey;
 use rd_list::{Block, Entry};
@@ -158,6 +158,7 @@ fn look_on<A: Ledger, T: Touches>(
     marks: &Marks,
     names: &[EntryKey],
     entries: &[Entry<A>],
+    is_still: bool,
     from: usize,
     end: usize,
     tree: &T,
@@ -168,6 +169,7 @@ fn look_on<A: Ledger, T: Touches>(
     requires entries { Once (kept_names (kept_entries entries.now)) }
     requires from { from < end }
     requires end { end ≤ length entries.now }
+    requires still { is_still ≡ true → LeavesStay (T.is_touched tree.now) entries.now from end }
     requires looked { IsLookedTo (T.is_touched tree.now) entries.now names.now from
         looked.old.gone.items looked.old.found.items looked.old.inner.items }
     ensures after { IfOk result (λ n. from < n) }
@@ -175,7 +177,16 @@ fn look_on<A: Ledger, T: Touches>(
     ensures looked { IfOk result (λ n. IsLookedTo (T.is_touched tree.now) entries.now names.now n
         looked.new.gone.items looked.new.found.items looked.new.inner.items) }
 {
-    let place = next_before(entries, from, end, marks.is_wide, &marks.marks, names, tree);
+    let place = next_before(
+        entries,
+        from,
+        end,
+        is_still,
+        marks.is_wide,
+        &marks.marks,
+        names,
+        tree,
+    );
     if place == end {
         return Ok(end);
     }
@@ -186,6 +197,40 @@ fn look_on<A: Ledger, T: Touches>(
 /// Notes what is found at the entries from one place up to another, where all before them have been looked at.
 #[inline(always)]
 fn look_between<A: Ledger, T: Touches>(
+    looked: &mut Looked,
+    sought: &Sought,
+    marks: &Marks,
+    names: &[EntryKey],
+    entries: &[Entry<A>],
+    is_still: bool,
+    from: usize,
+    end: usize,
+    tree: &T,
+) -> Result<(), AllocError>
+    requires sought { AreChained sought.now.is_wide names.now sought.now.lasts.items sought.now.befores.items }
+    requires marks { AreMarked marks.now.is_wide names.now marks.now.marks.items }
+    requires names { Once names.now }
+    requires entries { Once (kept_names (kept_entries entries.now)) }
+    requires from { from ≤ end }
+    requires end { end ≤ length entries.now }
+    requires still { is_still ≡ true → LeavesStay (T.is_touched tree.now) entries.now from end }
+    requires looked { IsLookedTo (T.is_touched tree.now) entries.now names.now from
+        looked.old.gone.items looked.old.found.items looked.old.inner.items }
+    ensures { OnOk result (IsLookedTo (T.is_touched tree.now) entries.now names.now end
+        looked.new.gone.items looked.new.found.items looked.new.inner.items) }
+{
+    let mut place = from;
+    while place < end {
+        place = look_on(
+            looked, sought, marks, names, entries, is_still, place, end, tree,
+        )?;
+    }
+    Ok(())
+}
+
+/// The same, where boxes may be touched.
+#[inline(never)]
+fn look_anywhere<A: Ledger, T: Touches>(
     looked: &mut Looked,
     sought: &Sought,
     marks: &Marks,
@@ -206,11 +251,9 @@ fn look_between<A: Ledger, T: Touches>(
     ensures { OnOk result (IsLookedTo (T.is_touched tree.now) entries.now names.now end
         looked.new.gone.items looked.new.found.items looked.new.inner.items) }
 {
-    let mut place = from;
-    while place < end {
-        place = look_on(looked, sought, marks, names, entries, place, end, tree)?;
-    }
-    Ok(())
+    look_between(
+        looked, sought, marks, names, entries, false, from, end, tree,
+    )
 }
 
 /// The same of the entries of a block, which is passed as a whole where nothing is noted of it.
@@ -237,11 +280,16 @@ fn look_in_block<A: Ledger, T: Touches>(
     ensures { OnOk result (IsLookedTo (T.is_touched tree.now) entries.now names.now (start + block.now.count)
         looked.new.gone.items looked.new.found.items looked.new.inner.items) }
 {
-    if is_quiet(block, &marks.runs, tree) {
+    let end = start + block.count;
+    if !stands_still(block, tree) {
+        return look_anywhere(looked, sought, marks, names, entries, start, end, tree);
+    }
+    if are_unnamed(&marks.runs, block.told.keys) {
         return Ok(());
     }
-    let end = start + block.count;
-    look_between(looked, sought, marks, names, entries, start, end, tree)
+    look_between(
+        looked, sought, marks, names, entries, true, start, end, tree,
+    )
 }
 
 /// One pass over the entries of a kept level, for the names of a new one.
@@ -280,7 +328,7 @@ pub(crate) fn look<A: Ledger, T: Touches>(
         )?;
         place += block.count;
     }
-    look_between(
+    look_anywhere(
         &mut looked,
         &sought,
         &marks,

@@ -1,5 +1,5 @@
 -- What a look at one entry of a kept level finds.
-use Rattle.std.specs.Prelude.{◌≡◌, ℕ, ◌&&◌, not, Bool, false, List, [], ◌∷◌, map, take, slice_index_or, slice_set, Option, Some, None}
+use Rattle.std.specs.Prelude.{◌≡◌, ℕ, ◌<◌, ◌≤◌, ◌&&◌, not, Bool, true, false, List, [], ◌∷◌, map, take, slice_index_or, slice_set, Option, Some, None}
 use Rattle.rd_keys.specs.Keys.{BoxKey}
 use Rattle.rd_keys.specs.declared.entry.EntryKey.{EntryKey}
 use Rattle.rd_keys.specs.declared.entry.EntryKey.TheVariants as key
@@ -34,6 +34,15 @@ module _ {A : Type 0} where
   abbrev pub is_passed : (BoxKey → Bool) → Bool → List Bool → Entry A → Bool
   is_passed touched wide marks (Leaf i) = not (slice_index_or marks (box_mark wide i.leaf.owner) false) && is_untouched touched i.leaf
   is_passed touched wide marks (Group g) = false
+
+  -- a leaf of an untouched box, or a group
+  abbrev pub LeafStays : (BoxKey → Bool) → Entry A → Type 0
+  LeafStays touched (Leaf i) = is_untouched touched i.leaf ≡ true
+  LeafStays touched (Group g) = Unit {0}
+
+  -- the boxes of the leaves from one place up to another are untouched
+  abbrev pub LeavesStay : (BoxKey → Bool) → List (Entry A) → ℕ → ℕ → Type 0
+  LeavesStay touched es from end = (p : ℕ) → from ≤ p → p < end → (x : Entry A) → x ≡ slice_index_or es p x → LeafStays touched x
 
   -- is it a group of which something goes?
   abbrev pub goes_inside : (BoxKey → Bool) → Entry A → Bool

@@ -32,7 +32,7 @@ returns g c =
     let t = g.T.Touches.is_touched c.args.tree.now in
     let es = c.args.entries.now in
     let n = length es in
-    let l = c.in_ok-look_between.ensures in
+    let l = c.in_ok-look_anywhere.ensures in
     let all = take_whole es n (omega arith) in
     record {
       gone_are = l.gone_are ∙ ap (λ xs. gone_places entry_names (is_untouched t) 0 (kept_leaves (kept_entries xs))) all;
