@@ -1,5 +1,5 @@
 -- What the functions that plan a level ask and give, one after another.
-use Rattle.std.proofs.Common.{◌≡◌, refl, ap, ◌∙◌, sym, subst, ℕ, zero, suc, ◌+◌, ◌<◌, ◌≤◌, Bool, true, false, not, ◌&&◌, List, [], ◌∷◌, ◌++◌, length, take, drop, get_or, arith, inl, inr}
+use Rattle.std.proofs.Common.{◌≡◌, refl, ap, ◌∙◌, sym, subst, ℕ, zero, suc, ◌+◌, ◌<◌, ◌≤◌, Bool, true, false, not, ◌&&◌, List, [], ◌∷◌, ◌++◌, length, take, drop, get_or, arith, inl, inr, append_assoc, append-nil}
 use Rattle.std.specs.Prelude.{Option, Some, None, map, is_some, unwrap_or}
 use Rattle.std.proofs.lemmas.List.{take_more, take-append-drop}
 use Rattle.std.specs.declared.vec.Vec.{Vec}
@@ -36,6 +36,7 @@ use Rattle.rd_merge.specs.Plans.{Steps, PlanList, old_list, IsGroupPlace}
 use Rattle.rd_merge.specs.PlanView.{steps_seen}
 use Rattle.rd_merge.specs.declared.plan.Step.{Step}
 use Rattle.rd_merge.specs.declared.plan.Step.TheVariants as step
+use Rattle.rd_merge.specs.Internal.Adding.{AddsSteps}
 use Rattle.rd_merge.specs.Internal.Planning.{EntriesFit, GroupFits, GroupsFit, NewSteps, InnerSteps, place_in}
 use Rattle.rd_merge.proofs.Finding.{old_is, within_is, within_new_is, within_new_none, fits_in_group}
 use Rattle.rd_merge.proofs.Places.{HasGroup, is_inner, inner_next}
@@ -78,12 +79,30 @@ module _ (touched : BoxKey → Bool) (xs : Olds) where
   inner_join (i ∷ is) js (leaf q s) u h k = absurd h
   inner_join (i ∷ is) js (group g inner s) u h k = (h.0, inner_join is js s u h.1 k)
 
-  pub new_next : {A : Type 0} (es : List (NewEntry A)) (i : ℕ) (x : NewEntry A) (now then : List (Step A)) (s : Step A) → i < length es → x ≡ get_or es i x → NewSteps touched xs (new_entries (take i es)) (steps_seen now)
-      → NewSteps touched xs (new_entries (x ∷ [])) (steps_seen (s ∷ [])) → then ≡ now ++ s ∷ [] → NewSteps touched xs (new_entries (take (i + 1) es)) (steps_seen then)
-  new_next es i x now then s h is was this e =
-      subst (λ (z : News). NewSteps touched xs z (steps_seen then)) (sym (ap new_entries (take_more es i x h ∙ ap (λ y. take i es ++ y ∷ []) (sym is)) ∙ new-append (take i es) (x ∷ [])))
-      (subst (λ (z : Steps). NewSteps touched xs (new_entries (take i es) ▷ new_entries (x ∷ [])) z) (sym (ap steps_seen e ∙ steps_append now (s ∷ [])))
-      (new_join (new_entries (take i es)) (new_entries (x ∷ [])) (steps_seen now) (steps_seen (s ∷ [])) was this))
+  -- what comes after other steps
+
+  pub adds_none : {A : Type 0} (old : List (Step A)) → AddsSteps touched xs nil old old
+  adds_none old = ([], sym (append-nil old), tt)
+
+  pub adds_one : {A : Type 0} (fresh : News) (old new : List (Step A)) (s : Step A) → new ≡ old ++ s ∷ [] → NewSteps touched xs fresh (steps_seen (s ∷ [])) → AddsSteps touched xs fresh old new
+  adds_one fresh old new s e h = (s ∷ [], e, h)
+
+  pub leaf_step : {A : Type 0} (x : NewEntry A) (m : Made) (place : Option ℕ) → x ≡ new.Leaf m → place ∷ [] ≡ map (λ k. place_in touched xs k) (new_names (new_entries (x ∷ []))) → NewSteps touched xs (new_entries (x ∷ [])) (leaf place nil)
+  leaf_step (new.Leaf m) n place e h = (let same : place ∷ [] ≡ place_in touched xs (entry_names.leaf m.leaf) ∷ [] = h in cc, tt)
+  leaf_step (new.Group k o inner) n place e h = absurd (cc)
+
+  adds_join : {A : Type 0} (fs bs : News) (old now then : List (Step A)) → AddsSteps touched xs fs old now → AddsSteps touched xs bs now then → AddsSteps touched xs (fs ▷ bs) old then
+  adds_join fs bs old now then a b = (
+    a.0 ++ b.0,
+    b.1 ∙ ap (λ zs. zs ++ b.0) a.1 ∙ append_assoc old a.0 b.0,
+    subst (λ (z : Steps). NewSteps touched xs (fs ▷ bs) z) (sym (steps_append a.0 b.0)) (new_join fs bs (steps_seen a.0) (steps_seen b.0) a.2 b.2),
+  )
+
+  pub adds_next : {A : Type 0} (es : List (NewEntry A)) (i : ℕ) (x : NewEntry A) (old now then : List (Step A)) → i < length es → x ≡ get_or es i x → AddsSteps touched xs (new_entries (take i es)) old now
+      → AddsSteps touched xs (new_entries (x ∷ [])) now then → AddsSteps touched xs (new_entries (take (i + 1) es)) old then
+  adds_next es i x old now then h is was this =
+      subst (λ (z : News). AddsSteps touched xs z old then) (sym (ap new_entries (take_more es i x h ∙ ap (λ y. take i es ++ y ∷ []) (sym is)) ∙ new-append (take i es) (x ∷ [])))
+      (adds_join (new_entries (take i es)) (new_entries (x ∷ [])) old now then was this)
 
   pub inner_next_step : {A : Type 0} (places : List ℕ) (i : ℕ) (now then : List (Step A)) (s : Step A) → i < length places → InnerSteps touched xs (take i places) (steps_seen now)
       → InnerSteps touched xs (get_or places i 0 ∷ []) (steps_seen (s ∷ [])) → then ≡ now ++ s ∷ [] → InnerSteps touched xs (take (i + 1) places) (steps_seen then)

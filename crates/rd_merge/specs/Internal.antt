@@ -1,4 +1,5 @@
 -- What private contracts say. No public clause cites it, so a reader need not read it.
+pub mod Adding
 pub mod Looks
 pub mod Marks
 pub mod Moving

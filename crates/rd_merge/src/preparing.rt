@@ -1,5 +1,5 @@
 //! The first half of a merge: all memory is taken, and nothing is changed.
-ghost use Rattle.std.specs.Prelude.{◌≡◌, ◌∷◌, [], Some, IfOk, map};
+ghost use Rattle.std.specs.Prelude.{◌≡◌, ◌∷◌, [], Some, IfOk, OnOk, map};
 ghost use Rattle.rd_graph.specs.Patches.{line_of};
 ghost use Rattle.rd_list.specs.Entries as list;
 ghost use Rattle.rd_list.specs.EntryNames.{new_names};
@@ -10,6 +10,7 @@ ghost use Rattle.rd_merge.specs.Fitting.{FitsFor};
 ghost use Rattle.rd_merge.specs.Merging.{CanBeMerged, IsPlan, MergedInto, StandsAfter};
 ghost use Rattle.rd_merge.specs.Plans.{PlacesFit, filled, old_list};
 ghost use Rattle.rd_merge.specs.PlanView.{steps_seen};
+ghost use Rattle.rd_merge.specs.Internal.Adding.{AddsSteps};
 ghost use Rattle.rd_merge.specs.Internal.PlanRoom.{HasLineRoom};
 ghost use Rattle.rd_merge.specs.Internal.Planning.{EntriesFit, GroupFits, GroupsFit, NewSteps, InnerSteps, place_in};
 
@@ -77,30 +78,20 @@ fn part_room(alloc: Global, patch: &Patch, had: usize) -> Result<Vec<Block>, All
     }
 }
 
-/// How many blocks new entries may need.
-fn new_blocks<A: Ledger>(steps: &[Step<A>]) -> usize {
-    let mut count = steps.len() / 16;
-    for step in steps {
-        match step {
-            Step::Leaf(_) => {}
-            Step::Group { .. } => count = count.saturating_add(2),
-        }
-    }
-    count
-}
-
-/// Room for the blocks of the result: those that were there, two more for each run of a line, and those of new entries.
-fn block_room<A: Ledger>(
+/// Room for the blocks of the result: those that were there, two more for each run of a line, one for each sixteen of so many steps, and
+/// two for each of so many groups.
+fn block_room(
     alloc: Global,
     patch: &Patch,
     had: usize,
-    steps: &[Step<A>],
+    steps: usize,
+    groups: usize,
 ) -> Result<Vec<Block>, AllocError>
     ensures { IfOk result (λ v. v.items ≡ []) }
 {
-    let runs = run_count(patch).saturating_mul(2);
-    let count = had.saturating_add(runs).saturating_add(new_blocks(steps));
-    Vec::with_capacity(alloc, count.saturating_add(2))
+    let pairs = run_count(patch).saturating_add(groups).saturating_add(1);
+    let singles = had.saturating_add(steps / 16);
+    Vec::with_capacity(alloc, singles.saturating_add(pairs.saturating_mul(2)))
 }
 
 #[cycle(planning)]
@@ -118,14 +109,15 @@ fn plan_level<A: Ledger, T: Touches>(
     let patch = kept
         .graph
         .patch(alloc, &looked.gone, &names, &looked.found)?;
-    let mut steps = plan_entries(alloc, kept, &new.runs, &looked.found, tree)?;
+    let mut groups = looked.inner.len();
+    let mut steps = plan_entries(alloc, kept, &new.runs, &looked.found, tree, &mut groups)?;
     let mut inner = plan_groups(alloc, kept, &looked.inner, tree)?;
     steps.append(&mut inner)?;
     let made = Vec::with_capacity(alloc, names.len())?;
     let aside = aside_room(alloc, &patch)?;
     let room = line_room(alloc, &patch)?;
     let parts = part_room(alloc, &patch, kept.blocks.len())?;
-    let blocks = block_room(alloc, &patch, kept.blocks.len(), &steps)?;
+    let blocks = block_room(alloc, &patch, kept.blocks.len(), steps.len(), groups)?;
     Ok(Plan {
         alloc,
         patch,
@@ -139,7 +131,7 @@ fn plan_level<A: Ledger, T: Touches>(
 }
 
 /// The steps of the entries of these runs of a new level, which have these places in the kept one. Groups that the new
-/// level does not name and in which nothing is touched have no step: they stand as they were.
+/// level does not name and in which nothing is touched have no step: they stand as they were. The groups among the entries are counted.
 #[cycle(planning)]
 fn plan_entries<A: Ledger, T: Touches>(
     alloc: Global,
@@ -147,6 +139,7 @@ fn plan_entries<A: Ledger, T: Touches>(
     runs: &[Vec<NewEntry<A>>],
     found: &[Option<usize>],
     tree: &T,
+    groups: &mut usize,
 ) -> Result<Vec<Step<A>>, AllocError>
     requires fit { EntriesFit (T.is_touched tree.now) kept.now.entries (in_runs runs.now) }
     requires found { found.now
@@ -158,59 +151,66 @@ fn plan_entries<A: Ledger, T: Touches>(
     let mut rest = found;
     for run in runs {
         let (here, after) = rest.split_at(run.len());
-        let mut more = plan_run(alloc, kept, run, here, tree)?;
-        steps.append(&mut more)?;
+        push_run(alloc, kept, run, here, tree, groups, &mut steps)?;
         rest = after;
     }
     Ok(steps)
 }
 
-/// The steps of the entries of a run, which have these places in the kept level.
+/// The steps of the entries of a run, which have these places in the kept level, come after others.
 #[cycle(planning)]
-fn plan_run<A: Ledger, T: Touches>(
+fn push_run<A: Ledger, T: Touches>(
     alloc: Global,
     kept: &Kept<A>,
     new: &[NewEntry<A>],
     found: &[Option<usize>],
     tree: &T,
-) -> Result<Vec<Step<A>>, AllocError>
+    groups: &mut usize,
+    steps: &mut Vec<Step<A>>,
+) -> Result<(), AllocError>
     requires fit { EntriesFit (T.is_touched tree.now) kept.now.entries (new_entries new.now) }
     requires found { found.now
         ≡ map (λ k. place_in (T.is_touched tree.now) kept.now.entries k) (new_names (new_entries new.now)) }
-    ensures { IfOk result (λ v.
-        NewSteps (T.is_touched tree.now) kept.now.entries (new_entries new.now) (steps_seen v.items)) }
+    ensures { OnOk result (
+        AddsSteps (T.is_touched tree.now) kept.now.entries (new_entries new.now) steps.old.items steps.new.items) }
 {
-    let mut steps = Vec::with_capacity(alloc, new.len())?;
     for (i, entry) in new.iter().enumerate() {
-        let step = plan_entry(alloc, kept, entry, found[i], tree)?;
-        steps.push(step)?;
+        push_step(alloc, kept, entry, found[i], tree, groups, steps)?;
     }
-    Ok(steps)
+    Ok(())
 }
 
-/// The step of a new entry, which has this place in the kept level.
+/// The step of a new entry, which has this place in the kept level, comes after others.
 #[cycle(planning)]
-fn plan_entry<A: Ledger, T: Touches>(
+#[inline(always)]
+fn push_step<A: Ledger, T: Touches>(
     alloc: Global,
     kept: &Kept<A>,
     entry: &NewEntry<A>,
     place: Option<usize>,
     tree: &T,
-) -> Result<Step<A>, AllocError>
+    groups: &mut usize,
+    steps: &mut Vec<Step<A>>,
+) -> Result<(), AllocError>
     requires fit { EntriesFit (T.is_touched tree.now) kept.now.entries (new_entries (entry.now ∷ [])) }
     requires place { place ∷ []
         ≡ map (λ k. place_in (T.is_touched tree.now) kept.now.entries k) (new_names (new_entries (entry.now ∷ []))) }
-    ensures { IfOk result (λ s.
-        NewSteps (T.is_touched tree.now) kept.now.entries (new_entries (entry.now ∷ [])) (steps_seen (s ∷ []))) }
+    ensures { OnOk result (
+        AddsSteps (T.is_touched tree.now) kept.now.entries (new_entries (entry.now ∷ [])) steps.old.items steps.new.items) }
 {
     match entry {
-        NewEntry::Leaf(_) => Ok(Step::Leaf(place)),
+        NewEntry::Leaf(_) => steps.push(Step::Leaf(place))?,
         NewEntry::Group {
             key,
             opacity,
             inner,
-        } => plan_group_step(alloc, kept, *key, *opacity, inner, place, tree),
+        } => {
+            let step = plan_group_step(alloc, kept, *key, *opacity, inner, place, tree)?;
+            *groups = groups.saturating_add(1);
+            steps.push(step)?;
+        }
     }
+    Ok(())
 }
 
 /// The step of a new group with this list, which has this place in the kept level.

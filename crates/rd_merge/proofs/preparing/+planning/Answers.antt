@@ -1,4 +1,4 @@
-use Rattle.std.proofs.Common.{arith, ap, ◌∙◌, sym, subst, refl, length, List, [], Some}
+use Rattle.std.proofs.Common.{arith, ap, ◌∙◌, sym, subst, refl, length, List, [], ◌∷◌, Some}
 use Rattle.std.specs.Prelude.{IfOk, map}
 use Rattle.rd_graph.specs.Orders.{Once}
 use Rattle.rd_graph.specs.Patches.{FitsPatch}
@@ -14,8 +14,9 @@ use Rattle.rd_merge.specs.Looking.{kept_names}
 use Rattle.rd_merge.specs.Merging.{IsPlan}
 use Rattle.rd_merge.specs.Plans.{IsGroupPlace, old_list, made_count}
 use Rattle.rd_merge.specs.PlanView.{steps_seen}
+use Rattle.rd_merge.specs.Internal.Adding.{AddsSteps}
 use Rattle.rd_merge.specs.Internal.Planning.{EntriesFit, GroupsFit, NewSteps, InnerSteps, place_in}
-use Rattle.rd_merge.proofs.PlanLoops.{steps_append, whole_take, run_within, run_found, run_after, run_fits, run_steps, run_size_at, new_next, inner_next_step, fit_at, place_here, found_long, groups_at, new_size_at, group_within, group_no_leaf, group_list, group_size, list_fits, list_plan, none_fits, entries_fit, groups_fit, looked_as, can_patch_as, is_patched_as}
+use Rattle.rd_merge.proofs.PlanLoops.{steps_append, whole_take, run_within, run_found, run_after, run_fits, run_steps, run_size_at, adds_none, adds_next, adds_one, leaf_step, inner_next_step, fit_at, place_here, found_long, groups_at, new_size_at, group_within, group_no_leaf, group_list, group_size, list_fits, list_plan, none_fits, entries_fit, groups_fit, looked_as, can_patch_as, is_patched_as}
 use Rattle.rd_merge.proofs.PlannedLevel.{can_patch, planned, few_made}
 use Rattle.rd_merge.proofs.preparing.+planning.Goals as goal
 
@@ -31,8 +32,8 @@ pub plan_entries-split_at-requires : goal.plan_entries-split_at-requires
 plan_entries-split_at-requires g t c =
     run_within (g.T.Touches.is_touched c.args.tree.now) c.args.kept.now.entries c.args.runs.now c.loop-run.run-index c.run-item.result c.loop-run-test.true c.run-item.is c.len.result (c.len.ensures ∙ c.run-item.result.ok.0) c.loop-run.rest.now c.loop-run.invariant.rest
 
-pub plan_entries-plan_run-requires : goal.plan_entries-plan_run-requires
-plan_entries-plan_run-requires g t c κs within =
+pub plan_entries-push_run-requires : goal.plan_entries-push_run-requires
+plan_entries-push_run-requires g t c κs within =
     let touched = g.T.Touches.is_touched c.args.tree.now in
     let xs = c.args.kept.now.entries in
     let size = run_size_at touched xs c.args.runs.now c.loop-run.run-index c.run-item.result c.loop-run-test.true c.run-item.is c.deref.result.now c.deref.ensures.value in (
@@ -52,8 +53,10 @@ plan_entries-plan_run-requires g t c κs within =
 
 pub plan_entries-loop-run-preserved : goal.plan_entries-loop-run-preserved
 plan_entries-loop-run-preserved g t c = record {
-  steps = run_steps (g.T.Touches.is_touched c.args.tree.now) c.args.kept.now.entries c.args.runs.now c.loop-run.run-index c.run-item.result c.loop-run-test.true c.run-item.is c.deref.result.now c.loop-run.steps.items c.in_ok-more.more.items c.append.new.self.items
-      c.deref.ensures.value c.loop-run.invariant.steps c.in_ok-more.ensures c.in_ok-append.ensures.items;
+  steps =
+      let a = c.in_ok-push_run.ensures in
+      run_steps (g.T.Touches.is_touched c.args.tree.now) c.args.kept.now.entries c.args.runs.now c.loop-run.run-index c.run-item.result c.loop-run-test.true c.run-item.is c.deref.result.now c.loop-run.steps.items a.0 _
+      c.deref.ensures.value c.loop-run.invariant.steps a.2 a.1;
   rest = c.split_at.ensures.back
       ∙ run_after (g.T.Touches.is_touched c.args.tree.now) c.args.kept.now.entries c.args.runs.now c.loop-run.run-index c.run-item.result c.loop-run-test.true c.run-item.is c.len.result (c.len.ensures ∙ c.run-item.result.ok.0) c.loop-run.rest.now c.loop-run.invariant.rest;
 }
@@ -62,16 +65,16 @@ pub plan_entries-returns : goal.plan_entries-returns
 plan_entries-returns g t c =
     subst (λ es. NewSteps (g.T.Touches.is_touched c.args.tree.now) c.args.kept.now.entries (in_runs es) (steps_seen c.loop-run.steps.items)) (whole_take c.args.runs.now c.loop-run.run-index c.loop-run-test.false) c.loop-run.invariant.steps
 
--- ---- plan_run
+-- ---- push_run
 
-pub plan_run-loop-i-init : goal.plan_run-loop-i-init
-plan_run-loop-i-init g t c = record { steps = subst (λ us. NewSteps (g.T.Touches.is_touched c.args.tree.now) c.args.kept.now.entries nil (steps_seen us)) (sym c.in_ok-steps.ensures.items) tt }
+pub push_run-loop-i-init : goal.push_run-loop-i-init
+push_run-loop-i-init g t c = record { steps = adds_none (g.T.Touches.is_touched c.args.tree.now) c.args.kept.now.entries _ }
 
-pub plan_run-bounds-found-i : goal.plan_run-bounds-found-i
-plan_run-bounds-found-i g t c = found_long (g.T.Touches.is_touched c.args.tree.now) c.args.kept.now.entries c.args.new.now c.loop-i.i c.args.found.now c.loop-i-test.true c.requires.found
+pub push_run-bounds-found-i : goal.push_run-bounds-found-i
+push_run-bounds-found-i g t c = found_long (g.T.Touches.is_touched c.args.tree.now) c.args.kept.now.entries c.args.new.now c.loop-i.i c.args.found.now c.loop-i-test.true c.requires.found
 
-pub plan_run-plan_entry-requires : goal.plan_run-plan_entry-requires
-plan_run-plan_entry-requires g t c κs within =
+pub push_run-push_step-requires : goal.push_run-push_step-requires
+push_run-push_step-requires g t c κs within =
     let touched = g.T.Touches.is_touched c.args.tree.now in
     let xs = c.args.kept.now.entries in
     let size = new_size_at c.args.new.now c.loop-i.i c.index-new-i.result c.loop-i-test.true c.index-new-i.is in (
@@ -88,15 +91,30 @@ plan_run-plan_entry-requires g t c κs within =
       ),
     )
 
-pub plan_run-loop-i-preserved : goal.plan_run-loop-i-preserved
-plan_run-loop-i-preserved g t c = record {
-  steps = new_next (g.T.Touches.is_touched c.args.tree.now) c.args.kept.now.entries c.args.new.now c.loop-i.i c.index-new-i.result c.loop-i.steps.items c.push.new.self.items c.in_ok-step.step c.loop-i-test.true c.index-new-i.is c.loop-i.invariant.steps c.in_ok-step.ensures
-      c.in_ok-push.ensures.items;
+pub push_run-loop-i-preserved : goal.push_run-loop-i-preserved
+push_run-loop-i-preserved g t c = record {
+  steps = adds_next (g.T.Touches.is_touched c.args.tree.now) c.args.kept.now.entries c.args.new.now c.loop-i.i c.index-new-i.result c.args.steps.now.items c.loop-i.steps.items _ c.loop-i-test.true c.index-new-i.is c.loop-i.invariant.steps c.in_ok-push_step.ensures;
 }
 
-pub plan_run-returns : goal.plan_run-returns
-plan_run-returns g t c =
-    subst (λ es. NewSteps (g.T.Touches.is_touched c.args.tree.now) c.args.kept.now.entries (new_entries es) (steps_seen c.loop-i.steps.items)) (whole_take c.args.new.now c.loop-i.i c.loop-i-test.false) c.loop-i.invariant.steps
+pub push_run-returns : goal.push_run-returns
+push_run-returns g t c =
+    subst (λ es. AddsSteps (g.T.Touches.is_touched c.args.tree.now) c.args.kept.now.entries (new_entries es) c.args.steps.now.items c.loop-i.steps.items) (whole_take c.args.new.now c.loop-i.i c.loop-i-test.false) c.loop-i.invariant.steps
+
+-- ---- push_step
+
+pub push_step-returns-in_ok-push-in-Leaf : goal.push_step-returns-in_ok-push-in-Leaf
+push_step-returns-in_ok-push-in-Leaf g t c =
+    let touched = g.T.Touches.is_touched c.args.tree.now in
+    let xs = c.args.kept.now.entries in
+    adds_one touched xs (new_entries (c.args.entry.now ∷ [])) _ _ _ c.in_ok-push-in-Leaf.ensures.items (leaf_step touched xs c.args.entry.now c.in-Leaf.field-0 c.args.place c.in-Leaf.is c.requires.place)
+
+pub push_step-returns-in_ok-push-in-Group : goal.push_step-returns-in_ok-push-in-Group
+push_step-returns-in_ok-push-in-Group g t c =
+    let touched = g.T.Touches.is_touched c.args.tree.now in
+    let xs = c.args.kept.now.entries in
+    let step = c.in_ok-step-in-Group.step in
+    adds_one touched xs (new_entries (c.args.entry.now ∷ [])) _ _ step c.in_ok-push-in-Group.ensures.items
+    (subst (λ x. NewSteps touched xs (new_entries (x ∷ [])) (steps_seen (step ∷ []))) (sym c.in-Group.is) c.in_ok-step-in-Group.ensures)
 
 -- ---- plan_groups
 

@@ -5,6 +5,7 @@ use Rattle.rd_list.specs.Entries.{group, list_size, nil}
 use Rattle.rd_list.specs.NewView.{new_entries, in_runs}
 use Rattle.rd_list.specs.Wrappers.{wrapper}
 use Rattle.rd_merge.specs.PlanView.{steps_seen}
+use Rattle.rd_merge.specs.Internal.Adding.{AddsSteps}
 use Rattle.rd_merge.specs.Internal.Planning.{NewSteps, InnerSteps, place_in}
 use Rattle.rd_merge.proofs.preparing.+planning.Given as goal
 
@@ -14,11 +15,11 @@ decreases-plan_level g l = 6 * (list_size l.kept.now.entries + list_size l.new.n
 abbrev pub decreases-plan_entries : goal.decreases-plan_entries
 decreases-plan_entries g l = 6 * (list_size l.kept.now.entries + list_size (in_runs l.runs.now)) + 3
 
-abbrev pub decreases-plan_run : goal.decreases-plan_run
-decreases-plan_run g l = 6 * (list_size l.kept.now.entries + list_size (new_entries l.new.now)) + 2
+abbrev pub decreases-push_run : goal.decreases-push_run
+decreases-push_run g l = 6 * (list_size l.kept.now.entries + list_size (new_entries l.new.now)) + 2
 
-abbrev pub decreases-plan_entry : goal.decreases-plan_entry
-decreases-plan_entry g l = 6 * (list_size l.kept.now.entries + list_size (new_entries (l.entry.now ∷ []))) + 1
+abbrev pub decreases-push_step : goal.decreases-push_step
+decreases-push_step g l = 6 * (list_size l.kept.now.entries + list_size (new_entries (l.entry.now ∷ []))) + 1
 
 abbrev pub decreases-plan_group_step : goal.decreases-plan_group_step
 decreases-plan_group_step g l = 6 * (list_size l.kept.now.entries + list_size (group (wrapper l.key l.opacity) l.inner.now nil))
@@ -32,8 +33,8 @@ decreases-plan_groups g l = 6 * list_size l.kept.now.entries + 1
 abbrev pub decreases-plan_kept_group : goal.decreases-plan_kept_group
 decreases-plan_kept_group g l = 6 * list_size l.kept.now.entries
 
-abbrev pub invariant-plan_run-loop-i : goal.invariant-plan_run-loop-i
-invariant-plan_run-loop-i g l = record { steps : NewSteps (g.T.Touches.is_touched l.tree) l.kept.entries (new_entries (take l.i l.new)) (steps_seen l.steps.items) }
+abbrev pub invariant-push_run-loop-i : goal.invariant-push_run-loop-i
+invariant-push_run-loop-i g l = record { steps : AddsSteps (g.T.Touches.is_touched l.tree) l.kept.entries (new_entries (take l.i l.new)) l.fn.steps.items l.steps.items }
 
 abbrev pub invariant-plan_entries-loop-run : goal.invariant-plan_entries-loop-run
 invariant-plan_entries-loop-run g l = record {
