@@ -1,5 +1,5 @@
 -- New lists of the nodes of a chain.
-use Rattle.std.proofs.Common.{◌≡◌, refl, ap, ◌∙◌, sym, subst, ℕ, ◌+◌, ◌<◌, Bool, true, false, cond, List, [], ◌∷◌, ◌++◌, length, take, get_or, Option, Some, None, inl, inr, ◌⊎◌}
+use Rattle.std.proofs.Common.{◌≡◌, refl, ap, ◌∙◌, sym, subst, ℕ, ◌+◌, ◌<◌, Bool, true, false, cond, List, [], ◌∷◌, ◌++◌, length, take, get_or, Option, Some, None, inl, inr, ◌⊎◌, arith}
 use Rattle.std.specs.Prelude.{Contains, ◌↔◌}
 use Rattle.std.proofs.lemmas.List.{take_more, append-nil}
 use Rattle.rd_keys.specs.declared.entry.EntryKey.{EntryKey}
@@ -41,6 +41,10 @@ module _ (gone : EntryKey → Bool) (resolves : List EntryKey → List EntryKey)
 
   pub along_none : (old : List (ℕ × List EntryKey)) → Along [] old old
   along_none old = record { within = λ h. h; lists = λ k x h. refl }
+
+  -- there is no node
+  pub along_no_node : (old : List (ℕ × List EntryKey)) → length g ≡ 0 → Along chain old old
+  along_no_node old e = record { within = λ h. h; lists = λ k x h. absurd (let l = h.0 in omega (arith, e, l)) }
 
   -- a name that is not this one
   along_other : (i : ℕ) (d : EntryKey) (x : EntryKey × List EntryKey) (ps : List EntryKey) → i < length chain → same_entry (get_or chain i d) x.0 ≡ false

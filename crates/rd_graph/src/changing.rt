@@ -316,6 +316,29 @@ fn keeps_list(gone: &Gone, node: &Node, name: Option<EntryKey>) -> bool
     !some_goes(gone, &node.before) && has_edge(&node.before, name)
 }
 
+/// A node of the chain that stays, and does not keep the list that it has, gets a new one.
+#[inline(never)]
+fn relist_along(
+    alloc: Global,
+    gone: &Gone,
+    notes: &[Before],
+    lists: &mut Vec<(usize, Before)>,
+    place: usize,
+    node: &Node,
+    name: Option<EntryKey>,
+) -> Result<(), AllocError>
+    requires marked { AreMarked gone.now.marks.items gone.now.names }
+    requires stays { has_it gone.now.names node.now.key ≡ false }
+    requires changes { keeps (has_it gone.now.names) same_entry (listed name) (seen_one node.now) ≡ false }
+    ensures { OnOk result (AddsAlong (has_it gone.now.names) same_entry (resolved_by gone.now.names notes.now)
+        (listed name) place (seen_one node.now) (lists_seen lists.old.items) (lists_seen lists.new.items)) }
+{
+    let before = own(alloc, gone, notes, node)?;
+    let before = with_edge(before, name)?;
+    push_list(lists, place, before)?;
+    Ok(())
+}
+
 /// A node of the chain that stays gets a new list, unless it keeps the one that it has.
 fn stay_along(
     alloc: Global,
@@ -334,8 +357,25 @@ fn stay_along(
     if keeps_list(gone, node, name) {
         return Ok(());
     }
-    let before = own(alloc, gone, notes, node)?;
-    let before = with_edge(before, name)?;
+    relist_along(alloc, gone, notes, lists, place, node, name)
+}
+
+/// A node of the chain that goes has the edge of the chain alone.
+#[inline(never)]
+fn lead_along(
+    alloc: Global,
+    gone: &Gone,
+    notes: &[Before],
+    lists: &mut Vec<(usize, Before)>,
+    place: usize,
+    node: &Node,
+    name: Option<EntryKey>,
+) -> Result<(), AllocError>
+    requires { has_it gone.now.names node.now.key ≡ true }
+    ensures { OnOk result (AddsAlong (has_it gone.now.names) same_entry (resolved_by gone.now.names notes.now)
+        (listed name) place (seen_one node.now) (lists_seen lists.old.items) (lists_seen lists.new.items)) }
+{
+    let before = with_edge(nothing(alloc), name)?;
     push_list(lists, place, before)?;
     Ok(())
 }
@@ -354,15 +394,13 @@ fn go_along(
     ensures { OnOk result (AddsAlong (has_it gone.now.names) same_entry (resolved_by gone.now.names notes.now)
         (listed name) place (seen_one node.now) (lists_seen lists.old.items) (lists_seen lists.new.items)) }
 {
-    if !goes(gone, node.key) {
-        return stay_along(alloc, gone, notes, lists, place, node, name);
+    if goes(gone, node.key) {
+        return lead_along(alloc, gone, notes, lists, place, node, name);
     }
-    let before = with_edge(nothing(alloc), name)?;
-    push_list(lists, place, before)?;
-    Ok(())
+    stay_along(alloc, gone, notes, lists, place, node, name)
 }
 
-/// The node of the chain at a place gets a new list, unless it keeps the one that it has.
+/// The node of the name at `i` of the chain, if it is found at a place, gets a new list, unless it keeps the one that it has.
 fn go_along_at(
     alloc: Global,
     nodes: &[Node],
@@ -370,14 +408,17 @@ fn go_along_at(
     notes: &[Before],
     lists: &mut Vec<(usize, Before)>,
     place: Option<usize>,
-    name: Option<EntryKey>,
+    chain: &[EntryKey],
+    i: usize,
 ) -> Result<(), AllocError>
+    requires i { i < length chain.now }
     requires within { IfSome place (λ p. p < length nodes.now) }
     requires marked { AreMarked gone.now.marks.items gone.now.names }
     ensures { OnOk result (GoesAlongAt (has_it gone.now.names) same_entry (resolved_by gone.now.names notes.now)
-        (listed name) place (seen nodes.now) (lists_seen lists.old.items) (lists_seen lists.new.items)) }
+        (before_place chain.now (Some i)) place (seen nodes.now) (lists_seen lists.old.items) (lists_seen lists.new.items)) }
 {
     if let Some(place) = place {
+        let name = name_before(chain, i);
         go_along(alloc, gone, notes, lists, place, &nodes[place], name)?;
         return Ok(());
     }
@@ -401,9 +442,11 @@ fn go_along_all(
     ensures { OnOk result (GoesAlong (has_it gone.now.names) same_entry (resolved_by gone.now.names notes.now)
         chain.now chain.now (seen nodes.now) (lists_seen lists.old.items) (lists_seen lists.new.items)) }
 {
+    if nodes.is_empty() {
+        return Ok(());
+    }
     for (i, place) in found.iter().enumerate() {
-        let name = name_before(chain, i);
-        go_along_at(alloc, nodes, gone, notes, lists, *place, name)?;
+        go_along_at(alloc, nodes, gone, notes, lists, *place, chain, i)?;
     }
     Ok(())
 }

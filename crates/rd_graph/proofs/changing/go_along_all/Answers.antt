@@ -1,4 +1,4 @@
-use Rattle.std.proofs.Common.{subst, List}
+use Rattle.std.proofs.Common.{◌≡◌, refl, ◌∙◌, subst, List, length, rules}
 use Rattle.rd_keys.specs.declared.entry.EntryKey.{EntryKey}
 use Rattle.rd_graph.specs.Names.{same_entry}
 use Rattle.rd_graph.specs.Internal.Patching.{lists_seen}
@@ -6,7 +6,8 @@ use Rattle.rd_graph.specs.Internal.Relisting.{GoesAlong}
 use Rattle.rd_graph.specs.Internal.Seen.{seen}
 use Rattle.rd_graph.specs.Internal.Tables.{has_it}
 use Rattle.rd_graph.specs.Internal.Words.{resolved_by}
-use Rattle.rd_graph.proofs.Along.{along_none, along_next}
+use Rattle.rd_graph.proofs.Along.{along_none, along_next, along_no_node}
+use Rattle.rd_graph.proofs.LineFacts.{seen_length}
 use Rattle.rd_graph.proofs.Marks.{take_whole}
 use Rattle.rd_graph.proofs.Rising.{any_of, found_at, found_whole, found_within}
 use Rattle.rd_graph.proofs.changing.go_along_all.Goals as goal
@@ -20,16 +21,21 @@ loop-i-preserved c =
     let d = any_of c.args.chain.now c.loop-i.i f.0 in
     record {
       so_far = along_next (has_it c.args.gone.now.names) (resolved_by c.args.gone.now.names c.args.notes.now) c.args.chain.now (seen c.args.nodes.now) c.requires.sound c.requires.once c.loop-i.i d (lists_seen c.args.lists.now.items)
-          (lists_seen c.loop-i.lists.items) (lists_seen c.go_along_at.new.lists.items) f.0 c.loop-i.invariant.so_far _ (f.1 d) _ c.name_before-name.ensures c.in_ok-go_along_at.ensures;
+          (lists_seen c.loop-i.lists.items) (lists_seen c.go_along_at.new.lists.items) f.0 c.loop-i.invariant.so_far _ (f.1 d) _ refl c.in_ok-go_along_at.ensures;
     }
 
-pub name_before-name-requires : goal.name_before-name-requires
-name_before-name-requires c = (found_at c.args.chain.now (seen c.args.nodes.now) c.args.found.now c.loop-i.i c.requires.found_are c.loop-i-test.true).0
+pub go_along_at-requires-clause-i : goal.go_along_at-requires-clause-i
+go_along_at-requires-clause-i c = (found_at c.args.chain.now (seen c.args.nodes.now) c.args.found.now c.loop-i.i c.requires.found_are c.loop-i-test.true).0
 
 pub go_along_at-requires-clause-within : goal.go_along_at-requires-clause-within
 go_along_at-requires-clause-within c =
     let f = found_at c.args.chain.now (seen c.args.nodes.now) c.args.found.now c.loop-i.i c.requires.found_are c.loop-i-test.true in
     found_within c.args.nodes.now _ _ (f.1 (any_of c.args.chain.now c.loop-i.i f.0))
+
+pub returns-then-is_empty : goal.returns-then-is_empty
+returns-then-is_empty c =
+    let empty : length c.args.nodes.now ≡ 0 = search rules in
+    along_no_node (has_it c.args.gone.now.names) (resolved_by c.args.gone.now.names c.args.notes.now) c.args.chain.now (seen c.args.nodes.now) c.requires.sound c.requires.once (lists_seen c.args.lists.now.items) (seen_length c.args.nodes.now ∙ empty)
 
 pub returns : goal.returns
 returns c =
