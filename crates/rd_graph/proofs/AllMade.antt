@@ -11,18 +11,6 @@ use Rattle.rd_graph.specs.declared.runs.Run.{Run}
 use Rattle.rd_graph.proofs.PutInPlace.{gathered_map}
 use Rattle.rd_graph.proofs.RunLines.{gathered_up, none_long, up-length}
 
--- ---- places from the first one on
-
-up_at : (p n k d : ℕ) → k < n → get_or (up_from p n) k d ≡ p + k
-up_at p zero k d l = absurd (omega (arith, l))
-up_at p (suc n) zero d l = omega arith
-up_at p (suc n) (suc k) d l = up_at (p + 1) n k d (omega (arith, l)) ∙ (let e : p + 1 + k ≡ p + suc k = omega arith in e)
-
--- places of which each is the number of those before it
-pub first_ones : (ps : List ℕ) → ((k : ℕ) → k < length ps → get_or ps k 0 ≡ k) → ps ≡ up_from 0 (length ps)
-first_ones ps f =
-    same_lists ps (up_from 0 (length ps)) (sym (up-length 0 (length ps))) (λ k d l. get_or_default ps k d 0 l ∙ f k l ∙ sym (up_at 0 (length ps) k d l ∙ (let e : 0 + k ≡ k = omega arith in e)))
-
 -- the only run of a line
 pub only_run : (rs : List Run) (r : Run) (n : ℕ) → length rs ≡ 1 → r ≡ get_or rs 0 r → r.from ≡ 0 → r.count ≡ n → places_of rs ≡ up_from 0 n
 only_run [] r n l is f c = absurd (omega (arith, l))

@@ -4,12 +4,12 @@ ghost use Rattle.rd_graph.specs.Patches.{AreRising, CanBePatched, IsArranged};
 ghost use Rattle.rd_graph.specs.Graphs.{IsInOrder};
 ghost use Rattle.rd_graph.specs.Internal.Ranks.{IsLineOf};
 ghost use Rattle.rd_graph.specs.Internal.Seen.{seen};
-ghost use Rattle.rd_graph.specs.Runs.{places_of};
+ghost use Rattle.rd_graph.specs.Runs.{places_of, up_from};
 ghost use Rattle.rd_graph.specs.Internal.Walks.{counted, place_or, free_after, IsMet, RisesTo};
 
 use crate::graph::{Node, OrderGraph};
 use crate::ranking::ranked_line;
-use crate::runs::Run;
+use crate::runs::{Run, push_run};
 use crate::walking::walked_line;
 use rd_keys::EntryKey;
 use std::alloc::{AllocError, Global};
@@ -129,6 +129,15 @@ fn moving_line(
     ranked_line(alloc, nodes, gone, chain, found, places)
 }
 
+/// So many places from the first one on, as a run: the line of made nodes alone.
+fn first_places(alloc: Global, count: usize) -> Result<Vec<Run>, AllocError>
+    ensures { IfOk result (λ v. places_of v.items ≡ up_from 0 count) }
+{
+    let mut line = Vec::new(alloc);
+    push_run(&mut line, 0, count, false)?;
+    Ok(line)
+}
+
 /// The places of the nodes of a merge in an order in which each edge goes forward, as runs. None where every node may stay at its
 /// place.
 pub(crate) fn arrange(
@@ -142,6 +151,10 @@ pub(crate) fn arrange(
     ensures { IfOk result (λ l. IsArranged gone.now chain.now found.now graph.now (option_map (λ v. places_of v.items) l)) }
 {
     let nodes: &[Node] = &graph.nodes;
+    if nodes.is_empty() && !found.is_empty() {
+        let line = first_places(alloc, found.len())?;
+        return Ok(Some(line));
+    }
     let places = counted_places(alloc, nodes, found)?;
     if stands_still(gone, &places, nodes.len()) {
         return Ok(None);

@@ -46,7 +46,7 @@ fn push_made(
 fn missing(found: &[Option<usize>]) -> usize {
     let mut count: usize = 0;
     for place in found {
-        count = count.saturating_add(usize::from(place.is_none()));
+        count = count.wrapping_add(usize::from(place.is_none()));
     }
     count
 }

@@ -4,7 +4,7 @@ ghost use Rattle.rd_graph.specs.Graphs.{IsInOrder};
 ghost use Rattle.rd_graph.specs.Patches.{CanBePatched};
 ghost use Rattle.rd_graph.specs.Internal.Ranks.{IsLineOf};
 ghost use Rattle.rd_graph.specs.Internal.Seen.{seen};
-ghost use Rattle.rd_graph.specs.Runs.{places_of, up_from};
+ghost use Rattle.rd_graph.specs.Runs.{places_of};
 ghost use Rattle.rd_graph.specs.Internal.Walks.{stays_at, staying, counted, from_after, led_to, walk, RisesWhere, IsBehind, IsAhead};
 
 use crate::graph::Node;
@@ -89,18 +89,6 @@ fn push_led(
     Ok(from)
 }
 
-/// Are the places all from the first one on, in their order?
-fn are_first(places: &[usize]) -> bool
-    ensures { IsTrue result → places.now ≡ up_from 0 (length places.now) }
-{
-    for i in 0..places.len() {
-        if places[i] != i {
-            return false;
-        }
-    }
-    true
-}
-
 /// The whole walk, with the places of the chain.
 pub(crate) fn walked(
     alloc: Global,
@@ -110,10 +98,6 @@ pub(crate) fn walked(
     ensures { IfOk result (λ v. places_of v.items ≡ walk stays.now 0 places.now) }
 {
     let mut line = Vec::new(alloc);
-    if stays.is_empty() && are_first(places) {
-        push_run(&mut line, 0, places.len(), false)?;
-        return Ok(line);
-    }
     let mut from = 0;
     for place in places {
         from = push_led(&mut line, stays, from, *place)?;

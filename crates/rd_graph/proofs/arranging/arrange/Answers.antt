@@ -1,11 +1,18 @@
-use Rattle.std.proofs.Common.{refl, ap, ◌∙◌, sym, subst, List, Some, length}
+use Rattle.std.proofs.Common.{◌≡◌, refl, rules, ap, ◌∙◌, sym, subst, List, Some, length}
 use Rattle.rd_graph.specs.Graphs.{IsInOrder}
 use Rattle.rd_graph.specs.Patches.{CanBePatched, IsArranged}
 use Rattle.rd_graph.specs.Internal.Seen.{seen}
 use Rattle.rd_graph.specs.Runs.{places_of}
 use Rattle.rd_graph.specs.declared.graph.Node.{Node}
 use Rattle.rd_graph.proofs.StandingStill.{still_line}
+use Rattle.rd_graph.proofs.MadeLines.{made_line_of}
 use Rattle.rd_graph.proofs.arranging.arrange.Goals as goal
+
+pub returns-then-not-is_empty : goal.returns-then-not-is_empty
+returns-then-not-is_empty c =
+    let empty : length c.deref-nodes.result.now ≡ 0 = search rules in
+    made_line_of c.args.gone.now c.args.chain.now c.args.found.now c.args.graph.now c.requires (subst IsInOrder c.graph.view_is c.graph.invariant)
+    c.graph.inside.nodes.items c.deref-nodes.result.now (places_of c.in_ok-line.line.items) c.graph.view_is c.deref-nodes.ensures.value empty c.in_ok-line.ensures
 
 pub returns-then-stands_still : goal.returns-then-stands_still
 returns-then-stands_still c =
@@ -23,4 +30,4 @@ pub moving_line-requires-clause-places : goal.moving_line-requires-clause-places
 moving_line-requires-clause-places c = c.deref-2.ensures.value ∙ c.in_ok-places.ensures
 
 pub returns : goal.returns
-returns c = subst (λ g. IsArranged c.args.gone.now c.args.chain.now c.args.found.now g (Some (places_of c.in_ok-line.line.items))) (ap seen c.deref-nodes.ensures.value ∙ c.graph.view_is) c.in_ok-line.ensures
+returns c = subst (λ g. IsArranged c.args.gone.now c.args.chain.now c.args.found.now g (Some (places_of c.in_ok-line-2.line.items))) (ap seen c.deref-nodes.ensures.value ∙ c.graph.view_is) c.in_ok-line-2.ensures
