@@ -42,7 +42,7 @@ fn next_near<'a, B: Ledger, W: Wanted>(
     ensures { MatchOption result (PassesWanted (W.wants wanted.now) tree.now first None looks.old looks.new)
         (λ v. IsNextNear (W.wants wanted.now) tree.now first v looks.old looks.new) }
 {
-    match tree.look_for_hull(first, *frame, looks) {
+    match tree.look_on_for_hull(first, frame, looks) {
         Some(view) => Some(looked_of(view)),
         None => None,
     }

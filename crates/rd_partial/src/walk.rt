@@ -151,6 +151,7 @@ fn aside<A: Ledger, B: Ledger, W: Wanted>(
 
 /// Drops a float.
 #[cycle(build)]
+#[inline(never)]
 fn float<A: Ledger, B: Ledger, W: Wanted>(
     alloc: Global,
     tree: &Tree<B>,
@@ -183,6 +184,7 @@ fn float<A: Ledger, B: Ledger, W: Wanted>(
 
 /// Drops an atomic inline.
 #[cycle(build)]
+#[inline(never)]
 fn atom<A: Ledger, B: Ledger, W: Wanted>(
     alloc: Global,
     tree: &Tree<B>,
@@ -249,7 +251,7 @@ fn inline<A: Ledger, B: Ledger, W: Wanted>(
 }
 
 /// Drops a block itself.
-#[inline(never)]
+#[inline(always)]
 fn block_itself<A: Ledger, W: Wanted>(
     wanted: &W,
     number: u64,
@@ -512,6 +514,7 @@ fn one<A: Ledger, B: Ledger, W: Wanted>(
 
 /// Drops a layer.
 #[cycle(build)]
+#[inline(never)]
 fn layer<A: Ledger, B: Ledger, W: Wanted>(
     alloc: Global,
     tree: &Tree<B>,

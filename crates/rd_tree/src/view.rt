@@ -1,6 +1,7 @@
 //! What a look at a box gives.
 
 ghost use Rattle.std.specs.Prelude.{◌≡◌, ◌&&◌, ◌||◌, Some, int_lt, nat_lt, option_map};
+ghost use Rattle.rd_geom.specs.Plane.{bottom, right};
 ghost use Rattle.rd_keys.specs.Keys.{same_key};
 ghost use Rattle.rd_keys.specs.Arena.{value};
 ghost use Rattle.rd_tree.specs.Seeking as seeking;
@@ -102,19 +103,26 @@ fn is_before(a: i32, b: i32) -> bool
     a < b
 }
 
-/// Does a begin before b ends, and b before a ends?
+/// Is there a column that both may reach?
 #[inline(always)]
-fn overlap(a: i32, a_end: i32, b: i32, b_end: i32) -> bool
-    ensures { result ≡ (int_lt a b_end && int_lt b a_end) }
+fn reaches_across(r: &Rect, hull: &Rect) -> bool
+    ensures { result ≡ (int_lt hull.now.x (right r.now) && int_lt r.now.x (right hull.now)) }
 {
-    is_before(a, b_end) && is_before(b, a_end)
+    is_before(hull.x(), r.right()) && is_before(r.x(), hull.right())
 }
 
-/// Are there a column and a row that both may reach?
+/// Is there a row that both may reach?
+#[inline(always)]
+fn reaches_down(r: &Rect, hull: &Rect) -> bool
+    ensures { result ≡ (int_lt hull.now.y (bottom r.now) && int_lt r.now.y (bottom hull.now)) }
+{
+    is_before(hull.y(), r.bottom()) && is_before(r.y(), hull.bottom())
+}
+
+/// Are there a column and a row that both may reach? Each edge is read only where those before it leave that open.
 #[inline(always)]
 pub(crate) fn reaches(r: &Rect, hull: &Rect) -> bool
     ensures { result ≡ seeking.reaches r.now hull.now }
 {
-    overlap(hull.x(), hull.right(), r.x(), r.right())
-        && overlap(hull.y(), hull.bottom(), r.y(), r.bottom())
+    reaches_across(r, hull) && reaches_down(r, hull)
 }

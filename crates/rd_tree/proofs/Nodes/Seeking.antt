@@ -81,6 +81,31 @@ dead_begins a root (Some k) t h = at (value a k.slot k.generation) refl where
   at None e = none_met a root k t (sym e)
   at (Some x) e = absurd (never (is_some (value a k.slot k.generation)) (ap is_some e) h)
 
+-- A first key from which boxes begin is live,
+pub live_first : (a : Arena inner.Node) (root : BoxKey) (first : Option BoxKey) → IsTree a root → first ≡ head (from_some same_key first (seen a root))
+    → IsLiveIfAny a first
+live_first a root None t e = refl
+live_first a root (Some k) t e = at (value a k.slot k.generation) refl where
+  at : (o : Option inner.Node) → value a k.slot k.generation ≡ o → is_some (value a k.slot k.generation) ≡ true
+  at (Some x) h = ap is_some h
+  at None h =
+      let none : Some k ≡ None = e ∙ ap head (none_met a root k t (sym h)) in
+      cc (none)
+
+-- and boxes begin from one that is live.
+pub first_live : (a : Arena inner.Node) (root : BoxKey) (first : Option BoxKey) → IsTree a root → IsLiveIfAny a first
+    → first ≡ head (from_some same_key first (seen a root))
+first_live a root None t l = refl
+first_live a root (Some k) t l = at (value a k.slot k.generation) refl where
+  at : (o : Option inner.Node) → value a k.slot k.generation ≡ o → Some k ≡ head (starting_at same_key k (seen a root))
+  at None h =
+      let none : false ≡ true = sym (ap is_some h) ∙ l in
+      cc (none)
+  at (Some x) h =
+      let m : Met (seen a root) k (glance_of k.generation x) (summary_of k (seen a root)) = met a root k (glance_of k.generation x)
+      (summary_of k (seen a root)) t (sym (ap (option_map (glance_of k.generation)) h)) (λ u. refl) in
+      sym (ap head m.is)
+
 -- The sibling after a box is live.
 pub next_live : (a : Arena inner.Node) (root k : BoxKey) (y : Glance) (row : Summary) → IsTree a root → Met (seen a root) k y row → IsLiveIfAny a y.next
 next_live a root k y row t m = at y.next refl where

@@ -46,6 +46,15 @@ pub(crate) fn row_at(table: &[Summary], key: BoxKey) -> Summary
     table[key.slot() as usize]
 }
 
+/// The row of a box, where it stands.
+#[inline(always)]
+pub(crate) fn row_of(table: &[Summary], key: BoxKey) -> &Summary
+    requires { key.slot < length table.now }
+    ensures { result.now ≡ summary_at table.now key }
+{
+    &table[key.slot() as usize]
+}
+
 /// Writes the row of a slot that has one.
 pub(crate) fn write(table: &mut Vec<Summary>, key: BoxKey, row: Summary)
     requires { key.slot < length table.old.items }

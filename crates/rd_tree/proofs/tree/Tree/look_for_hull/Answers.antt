@@ -1,61 +1,11 @@
-use Rattle.std.proofs.Common.{◌≡◌, sym, ap, ◌∙◌, refl, true, arith, length, subst}
+use Rattle.std.proofs.Common.{◌≡◌, sym, ◌∙◌, refl, arith}
 use Rattle.rd_keys.specs.Keys.{same_key}
-use Rattle.rd_tree.specs.Forest.{empty, has, from_some}
-use Rattle.rd_tree.specs.Shown.{shown}
-use Rattle.rd_tree.specs.Seeking.{reaches, hull_reaches}
-use Rattle.rd_tree.specs.Internal.Summaries.{summary_of, summary_at}
+use Rattle.rd_tree.specs.Forest.{empty, from_some}
 use Rattle.rd_tree.specs.Internal.Linked.{seen}
-use Rattle.rd_tree.proofs.Nodes.Glances.{glance_within}
-use Rattle.rd_tree.proofs.Nodes.Looking.{looks, apart_seen}
+use Rattle.rd_tree.proofs.Nodes.Looking.{apart_seen}
 use Rattle.rd_tree.proofs.Nodes.Naming.{fits_seen}
-use Rattle.rd_tree.proofs.Nodes.Seeking.{IsLiveIfAny, Met, met, dead_begins, next_live, seek_on, seek_found, seek_fewer}
+use Rattle.rd_tree.proofs.Nodes.Seeking.{dead_begins, first_live}
 use Rattle.rd_tree.proofs.tree.Tree.look_for_hull.Goals as goal
-
-pub returns-then-reaches-clause-seen : goal.returns-then-reaches-clause-seen
-returns-then-reaches-clause-seen g c =
-    let row : has same_key c.in-Some.key (seen c.self.inside.nodes c.self.inside.root) ≡ true → c.row_at-row.result
-    ≡ summary_of c.in-Some.key (seen c.self.inside.nodes c.self.inside.root) = λ h. c.row_at-row.ensures ∙ (ap (λ rows. summary_at rows c.in-Some.key) c.deref.ensures.value
-    ∙ c.self.invariant.table.right c.in-Some.key h) in
-    let m : Met (seen c.self.inside.nodes c.self.inside.root) c.in-Some.key c.glance_at_live-glance.result c.row_at-row.result = met c.self.inside.nodes
-    c.self.inside.root c.in-Some.key c.glance_at_live-glance.result c.row_at-row.result c.self.invariant.sound.tree c.glance_at_live-glance.ensures row in
-    let found = seek_found (hull_reaches c.args.rect) (seen c.self.inside.nodes c.self.inside.root) c.args.first c.loop-at.at c.args.steps.now c.loop-at.steps c.tick.new.self
-    c.loop-at.invariant.seeks c.in-Some.key c.glance_at_live-glance.result c.row_at-row.result m c.in-Some.is (ap (reaches c.args.rect) (sym m.hull) ∙ (sym c.reaches.ensures ∙ c.if-reaches.true)) c.tick.ensures in
-    rw (← c.self.view_is) (c.view_at.ensures ∙ (looks c.self.inside.nodes c.self.inside.root c.in-Some.key c.row_at-row.result
-    c.self.invariant.sound.tree row ∙ ap (shown c.self.inside.root) found.0))
-
-pub returns-then-reaches-clause-ticks : goal.returns-then-reaches-clause-ticks
-returns-then-reaches-clause-ticks g c =
-    let row : has same_key c.in-Some.key (seen c.self.inside.nodes c.self.inside.root) ≡ true → c.row_at-row.result
-    ≡ summary_of c.in-Some.key (seen c.self.inside.nodes c.self.inside.root) = λ h. c.row_at-row.ensures ∙ (ap (λ rows. summary_at rows c.in-Some.key) c.deref.ensures.value
-    ∙ c.self.invariant.table.right c.in-Some.key h) in
-    let m : Met (seen c.self.inside.nodes c.self.inside.root) c.in-Some.key c.glance_at_live-glance.result c.row_at-row.result = met c.self.inside.nodes
-    c.self.inside.root c.in-Some.key c.glance_at_live-glance.result c.row_at-row.result c.self.invariant.sound.tree c.glance_at_live-glance.ensures row in
-    let found = seek_found (hull_reaches c.args.rect) (seen c.self.inside.nodes c.self.inside.root) c.args.first c.loop-at.at c.args.steps.now c.loop-at.steps c.tick.new.self
-    c.loop-at.invariant.seeks c.in-Some.key c.glance_at_live-glance.result c.row_at-row.result m c.in-Some.is (ap (reaches c.args.rect) (sym m.hull) ∙ (sym c.reaches.ensures ∙ c.if-reaches.true)) c.tick.ensures in
-    rw (← c.self.view_is) found.1
-
-pub loop-at-smaller : goal.loop-at-smaller
-loop-at-smaller g c =
-    let row : has same_key c.in-Some.key (seen c.self.inside.nodes c.self.inside.root) ≡ true → c.row_at-row.result
-    ≡ summary_of c.in-Some.key (seen c.self.inside.nodes c.self.inside.root) = λ h. c.row_at-row.ensures ∙ (ap (λ rows. summary_at rows c.in-Some.key) c.deref.ensures.value
-    ∙ c.self.invariant.table.right c.in-Some.key h) in
-    let m : Met (seen c.self.inside.nodes c.self.inside.root) c.in-Some.key c.glance_at_live-glance.result c.row_at-row.result = met c.self.inside.nodes
-    c.self.inside.root c.in-Some.key c.glance_at_live-glance.result c.row_at-row.result c.self.invariant.sound.tree c.glance_at_live-glance.ensures row in
-    seek_fewer (hull_reaches c.args.rect) (seen c.self.inside.nodes c.self.inside.root) c.args.first c.loop-at.at c.args.steps.now c.loop-at.steps c.tick.new.self c.loop-at.invariant.seeks
-    c.in-Some.key c.glance_at_live-glance.result c.row_at-row.result m c.in-Some.is
-
-pub loop-at-preserved : goal.loop-at-preserved
-loop-at-preserved g c =
-    let row : has same_key c.in-Some.key (seen c.self.inside.nodes c.self.inside.root) ≡ true → c.row_at-row.result
-    ≡ summary_of c.in-Some.key (seen c.self.inside.nodes c.self.inside.root) = λ h. c.row_at-row.ensures ∙ (ap (λ rows. summary_at rows c.in-Some.key) c.deref.ensures.value
-    ∙ c.self.invariant.table.right c.in-Some.key h) in
-    let m : Met (seen c.self.inside.nodes c.self.inside.root) c.in-Some.key c.glance_at_live-glance.result c.row_at-row.result = met c.self.inside.nodes
-    c.self.inside.root c.in-Some.key c.glance_at_live-glance.result c.row_at-row.result c.self.invariant.sound.tree c.glance_at_live-glance.ensures row in
-    record {
-      seeks = seek_on (hull_reaches c.args.rect) (seen c.self.inside.nodes c.self.inside.root) c.args.first c.loop-at.at c.args.steps.now c.loop-at.steps c.tick.new.self c.loop-at.invariant.seeks
-          c.in-Some.key c.glance_at_live-glance.result c.row_at-row.result m c.in-Some.is (ap (reaches c.args.rect) (sym m.hull) ∙ (sym c.reaches.ensures ∙ c.if-reaches.false)) c.tick.ensures;
-      live = next_live c.self.inside.nodes c.self.inside.root c.in-Some.key c.glance_at_live-glance.result c.row_at-row.result c.self.invariant.sound.tree m;
-    }
 
 pub returns-then-not-is_live_or_none-clause-seen : goal.returns-then-not-is_live_or_none-clause-seen
 returns-then-not-is_live_or_none-clause-seen g c =
@@ -69,34 +19,14 @@ returns-then-not-is_live_or_none-clause-ticks g c =
     c.self.invariant.sound.tree (sym c.is_live_or_none.ensures ∙ c.if-not-is_live_or_none.true) in
     rw (← c.self.view_is, none) (omega (arith))
 
-pub returns-then-reaches-clause-apart : goal.returns-then-reaches-clause-apart
-returns-then-reaches-clause-apart g c = rw (← c.self.view_is) (apart_seen c.self.inside.nodes c.self.inside.root c.self.invariant.sound.tree)
-
-pub returns-then-reaches-clause-limits : goal.returns-then-reaches-clause-limits
-returns-then-reaches-clause-limits g c = rw (← c.self.view_is) (fits_seen c.self.inside.nodes c.self.inside.root c.self.inside.ids c.self.invariant.sound)
-
 pub returns-then-not-is_live_or_none-clause-apart : goal.returns-then-not-is_live_or_none-clause-apart
 returns-then-not-is_live_or_none-clause-apart g c = rw (← c.self.view_is) (apart_seen c.self.inside.nodes c.self.inside.root c.self.invariant.sound.tree)
 
 pub returns-then-not-is_live_or_none-clause-limits : goal.returns-then-not-is_live_or_none-clause-limits
 returns-then-not-is_live_or_none-clause-limits g c = rw (← c.self.view_is) (fits_seen c.self.inside.nodes c.self.inside.root c.self.inside.ids c.self.invariant.sound)
 
-pub returns-clause-apart : goal.returns-clause-apart
-returns-clause-apart g c = rw (← c.self.view_is) (apart_seen c.self.inside.nodes c.self.inside.root c.self.invariant.sound.tree)
-
-pub returns-clause-limits : goal.returns-clause-limits
-returns-clause-limits g c = rw (← c.self.view_is) (fits_seen c.self.inside.nodes c.self.inside.root c.self.inside.ids c.self.invariant.sound)
-
-pub row_at-row-requires : goal.row_at-row-requires
-row_at-row-requires g c = omega (
-  arith,
-  ap length c.deref.ensures.value,
-  c.self.invariant.table.all_rows,
-  glance_within c.self.inside.nodes c.in-Some.key c.glance_at_live-glance.result c.glance_at_live-glance.ensures,
-)
-
-pub view_at-requires : goal.view_at-requires
-view_at-requires g c = c.glance_at_live-glance.ensures
-
-pub glance_at_live-glance-requires : goal.glance_at_live-glance-requires
-glance_at_live-glance-requires g c = record { live = subst (IsLiveIfAny c.self.inside.nodes) c.in-Some.is c.loop-at.invariant.live }
+pub look_on_for_hull-requires : goal.look_on_for_hull-requires
+look_on_for_hull-requires g c = record {
+  live = rw (← c.self.view_is) (first_live c.self.inside.nodes c.self.inside.root c.args.first
+      c.self.invariant.sound.tree (sym c.is_live_or_none.ensures ∙ c.if-not-is_live_or_none.false));
+}
