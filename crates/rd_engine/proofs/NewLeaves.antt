@@ -1,5 +1,5 @@
 -- The leaves of new lists, entry by entry and run by run.
-use Rattle.std.proofs.Common.{◌≡◌, ap, ◌∙◌, sym, ℕ, zero, suc, ◌+◌, ◌<◌, ◌≤◌, List, [], ◌∷◌, ◌++◌, length, take, drop, get_or, arith}
+use Rattle.std.proofs.Common.{◌≡◌, ap, ◌∙◌, sym, subst, ℕ, zero, suc, ◌+◌, ◌<◌, ◌≤◌, List, [], ◌∷◌, ◌++◌, length, take, drop, get_or, arith}
 use Rattle.std.proofs.lemmas.List.{take_more, length-append}
 use Rattle.std.specs.declared.vec.Vec.{Vec}
 use Rattle.rd_item.specs.Items.{Made}
@@ -8,8 +8,10 @@ use Rattle.rd_list.specs.Entries.{Entries, ◌▷◌, flat, list_size}
 use Rattle.rd_list.specs.Internal.NewFalls.{size-join}
 use Rattle.rd_list.specs.NewView.{new_entries, in_runs}
 use Rattle.rd_list.specs.declared.fresh.NewEntry.{NewEntry}
+use Rattle.rd_list.specs.declared.fresh.NewEntry.TheVariants.{Leaf, Group}
+use Rattle.rd_engine.specs.Internal.Counting.{AreLeaves}
 use Rattle.rd_list.proofs.Levelling.{flat-join}
-use Rattle.rd_list.proofs.News.{new-append, runs-append, runs_next, runs_from}
+use Rattle.rd_list.proofs.News.{new-append, runs-append, runs_next}
 
 abbrev count : Entries Wrapper Made → ℕ
 count xs = length (flat xs)
@@ -62,6 +64,43 @@ module _ {A : Type 0} (es : List (NewEntry A)) (i : ℕ) (x : NewEntry A) (h : i
 
   pub count_within : length (flat (new_entries (take i es))) + length (flat (new_entries (x ∷ []))) ≤ length (flat (new_entries es))
   count_within = part_within (new_entries es) (new_entries (take i es)) (new_entries (x ∷ [])) (new_entries (drop (suc i) es)) (new_entries (take (i + 1) es)) whole next
+
+  -- one leaf more
+  pub leaf_next : AreLeaves (x ∷ []) 0 1 → AreLeaves es i (i + 1)
+  leaf_next a =
+      let n = count_more in
+      let s = size_more in
+      let l = a.leaves in
+      let e = a.entries in
+      record { order = omega arith; leaves = omega (arith, n, l); entries = omega (arith, s, e) }
+
+module _ {A : Type 0} where
+  -- leaves, and then more
+  pub leaves_on : (es : List (NewEntry A)) (i j k : ℕ) → AreLeaves es i j → AreLeaves es j k → AreLeaves es i k
+  leaves_on es i j k a b = record {
+    order = omega (arith, a.order, b.order);
+    leaves = omega (arith, a.leaves, b.leaves, a.order, b.order);
+    entries = omega (arith, a.entries, b.entries, a.order, b.order);
+  }
+
+  pub four_leaves : (es : List (NewEntry A)) (i : ℕ) → AreLeaves es i (i + 1) → AreLeaves es (i + 1) (i + 1 + 1) → AreLeaves es (i + 2) (i + 2 + 1) → AreLeaves es (i + 3) (i + 3 + 1) → AreLeaves es i (i + 4)
+  four_leaves es i a b d e =
+      let two : i + 1 + 1 ≡ i + 2 = omega arith in
+      let three : i + 2 + 1 ≡ i + 3 = omega arith in
+      let four : i + 3 + 1 ≡ i + 4 = omega arith in
+      leaves_on es i (i + 1) (i + 4) a
+      (leaves_on es (i + 1) (i + 2) (i + 4) (subst (AreLeaves es (i + 1)) two b) (leaves_on es (i + 2) (i + 3) (i + 4) (subst (AreLeaves es (i + 2)) three d) (subst (AreLeaves es (i + 3)) four e)))
+
+  -- the first entries have no more leaves than all
+  pub count_front : (es : List (NewEntry A)) (i : ℕ) → length (flat (new_entries (take i es))) ≤ length (flat (new_entries es))
+  count_front es zero = omega arith
+  count_front [] (suc i) = omega arith
+  count_front (Leaf m ∷ es) (suc i) = let r = count_front es i in omega (arith, r)
+  count_front (Group k o inner ∷ es) (suc i) =
+      let r = count_front es i in
+      let a = length-append (flat inner) (flat (new_entries (take i es))) in
+      let b = length-append (flat inner) (flat (new_entries es)) in
+      omega (arith, r, a, b)
 
 module _ {A B : Type 0} (rs : List (Vec (NewEntry A) B)) (i : ℕ) (r : Vec (NewEntry A) B) (es : List (NewEntry A)) (h : i < length rs) (is : r ≡ get_or rs i r) (e : es ≡ r.items) where
   whole_runs : in_runs rs ≡ in_runs (take i rs) ▷ (new_entries es ▷ in_runs (drop (suc i) rs))

@@ -11,7 +11,7 @@ ghost use Rattle.rd_engine.specs.Painted.{IsAllTouched, IsBegun, IsSettled, IsJo
 ghost use Rattle.rd_engine.specs.Painted.{remade, half_looks, most_looks, shown_at};
 ghost use Rattle.rd_engine.specs.Internal.Parts.{IsInvalidArea, IsRemade, IsPlanned, IsPrepared};
 
-use crate::counting::{entries_of, leaves_of};
+use crate::counting::counts_of;
 use crate::note::PaintNote;
 use crate::prepared::Prepared;
 use rd_area::Area;
@@ -256,12 +256,12 @@ impl<A: Ledger, B: Ledger> Engine<A, B> {
     }
 
     /// Rows for the groups of the list, and room to look in each row at the entries alone that may show in it: in the area
-    /// these are entries of the new list.
-    fn rows(&self, new: &NewList<A>) -> Result<Buffers, NoMemory>
+    /// these are entries of the new list, of which there are so many.
+    fn rows(&self, entries: usize) -> Result<Buffers, NoMemory>
         ensures { IfOk result (λ b. b ≡ record { size = self.now.tree.canvas; rows = 256 }) }
     {
         let mut buffers = Buffers::new(self.alloc, self.tree.canvas(), MOST_GROUPS)?;
-        buffers.make_room(entries_of(new))?;
+        buffers.make_room(entries)?;
         Ok(buffers)
     }
 
@@ -276,14 +276,14 @@ impl<A: Ledger, B: Ledger> Engine<A, B> {
         let area = self.invalid_area(looks)?;
         let new = self.renewed(&area, made, looks)?;
         let plan = self.planned(&new)?;
-        let built = leaves_of(&new);
-        let buffers = self.rows(&new)?;
+        let counts = counts_of(&new);
+        let buffers = self.rows(counts.entries)?;
         Ok(Prepared {
             area,
             new,
             plan,
             buffers,
-            built,
+            built: counts.leaves,
         })
     }
 

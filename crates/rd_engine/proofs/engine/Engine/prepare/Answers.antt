@@ -7,8 +7,8 @@ planned-requires g c = c.in_ok-new.ensures.new
 pub same-new : goal.same-new
 same-new g c = refl
 
-pub leaves_of-built-requires : goal.leaves_of-built-requires
-leaves_of-built-requires g c = c.in_ok-new.ensures.new.few
+pub counts_of-counts-requires : goal.counts_of-counts-requires
+counts_of-counts-requires g c = c.in_ok-new.ensures.new.few
 
 pub same-area : goal.same-area
 same-area g c = refl
