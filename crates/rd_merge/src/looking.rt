@@ -14,7 +14,7 @@ ghost use Rattle.rd_merge.specs.Looking.{IsLooked, kept_names};
 use crate::going::{Touches, key_of, stays_at};
 use crate::marks::{Marks, are_unnamed};
 use crate::passing::{next_before, stands_still};
-use crate::sought::Sought;
+use crate::sought::Finder;
 use rd_keys::EntryKey;
 use rd_list::{Block, Entry};
 use std::alloc::{AllocError, Global};
@@ -106,15 +106,18 @@ fn push_if(places: &mut Vec<usize>, is_wanted: bool, place: usize) -> Result<(),
 #[inline(always)]
 fn look_at<A: Ledger, T: Touches>(
     looked: &mut Looked,
-    sought: &Sought,
+    finder: &mut Finder,
+    marks: &Marks,
     names: &[EntryKey],
     place: usize,
     entry: &Entry<A>,
     tree: &T,
 ) -> Result<(), AllocError>
-    requires sought { AreChained sought.now.is_wide names.now sought.now.lasts.items sought.now.befores.items }
+    requires finder { IfSome finder.old.table (λ s. AreChained s.is_wide names.now s.lasts.items s.befores.items) }
+    requires marks { AreMarked marks.now.is_wide names.now marks.now.marks.items }
     requires once { Once names.now }
     requires found { length looked.old.found.items ≡ length names.now }
+    ensures finder { OnOk result (IfSome finder.new.table (λ s. AreChained s.is_wide names.now s.lasts.items s.befores.items)) }
     ensures gone { OnOk result (looked.new.gone.items
         ≡ looked.old.gone.items ++ gone_at (T.is_touched tree.now) place entry.now) }
     ensures found { OnOk result (looked.new.found.items
@@ -122,7 +125,7 @@ fn look_at<A: Ledger, T: Touches>(
     ensures inner { OnOk result (looked.new.inner.items
         ≡ looked.old.inner.items ++ inner_at (T.is_touched tree.now) names.now place entry.now) }
 {
-    let name = sought.find_from(names, key_of(entry), looked.next);
+    let name = finder.find_from(marks, names, key_of(entry), looked.next)?;
     note(&mut looked.found, &mut looked.next, name, place);
     let stays = stays_at(entry, tree);
     push_if(&mut looked.gone, !stays, place)?;
@@ -154,7 +157,7 @@ fn nothing(alloc: Global, names: &[EntryKey]) -> Result<Looked, AllocError>
 #[inline(always)]
 fn look_on<A: Ledger, T: Touches>(
     looked: &mut Looked,
-    sought: &Sought,
+    finder: &mut Finder,
     marks: &Marks,
     names: &[EntryKey],
     entries: &[Entry<A>],
@@ -163,7 +166,7 @@ fn look_on<A: Ledger, T: Touches>(
     end: usize,
     tree: &T,
 ) -> Result<usize, AllocError>
-    requires sought { AreChained sought.now.is_wide names.now sought.now.lasts.items sought.now.befores.items }
+    requires finder { IfSome finder.old.table (λ s. AreChained s.is_wide names.now s.lasts.items s.befores.items) }
     requires marks { AreMarked marks.now.is_wide names.now marks.now.marks.items }
     requires names { Once names.now }
     requires entries { Once (kept_names (kept_entries entries.now)) }
@@ -172,6 +175,7 @@ fn look_on<A: Ledger, T: Touches>(
     requires still { is_still ≡ true → LeavesStay (T.is_touched tree.now) entries.now from end }
     requires looked { IsLookedTo (T.is_touched tree.now) entries.now names.now from
         looked.old.gone.items looked.old.found.items looked.old.inner.items }
+    ensures finder { IfOk result (λ n. IfSome finder.new.table (λ s. AreChained s.is_wide names.now s.lasts.items s.befores.items)) }
     ensures after { IfOk result (λ n. from < n) }
     ensures within { IfOk result (λ n. n ≤ end) }
     ensures looked { IfOk result (λ n. IsLookedTo (T.is_touched tree.now) entries.now names.now n
@@ -190,7 +194,7 @@ fn look_on<A: Ledger, T: Touches>(
     if place == end {
         return Ok(end);
     }
-    look_at(looked, sought, names, place, &entries[place], tree)?;
+    look_at(looked, finder, marks, names, place, &entries[place], tree)?;
     Ok(place + 1)
 }
 
@@ -198,7 +202,7 @@ fn look_on<A: Ledger, T: Touches>(
 #[inline(always)]
 fn look_between<A: Ledger, T: Touches>(
     looked: &mut Looked,
-    sought: &Sought,
+    finder: &mut Finder,
     marks: &Marks,
     names: &[EntryKey],
     entries: &[Entry<A>],
@@ -207,7 +211,7 @@ fn look_between<A: Ledger, T: Touches>(
     end: usize,
     tree: &T,
 ) -> Result<(), AllocError>
-    requires sought { AreChained sought.now.is_wide names.now sought.now.lasts.items sought.now.befores.items }
+    requires finder { IfSome finder.old.table (λ s. AreChained s.is_wide names.now s.lasts.items s.befores.items) }
     requires marks { AreMarked marks.now.is_wide names.now marks.now.marks.items }
     requires names { Once names.now }
     requires entries { Once (kept_names (kept_entries entries.now)) }
@@ -216,13 +220,14 @@ fn look_between<A: Ledger, T: Touches>(
     requires still { is_still ≡ true → LeavesStay (T.is_touched tree.now) entries.now from end }
     requires looked { IsLookedTo (T.is_touched tree.now) entries.now names.now from
         looked.old.gone.items looked.old.found.items looked.old.inner.items }
-    ensures { OnOk result (IsLookedTo (T.is_touched tree.now) entries.now names.now end
+    ensures finder { OnOk result (IfSome finder.new.table (λ s. AreChained s.is_wide names.now s.lasts.items s.befores.items)) }
+    ensures looked { OnOk result (IsLookedTo (T.is_touched tree.now) entries.now names.now end
         looked.new.gone.items looked.new.found.items looked.new.inner.items) }
 {
     let mut place = from;
     while place < end {
         place = look_on(
-            looked, sought, marks, names, entries, is_still, place, end, tree,
+            looked, finder, marks, names, entries, is_still, place, end, tree,
         )?;
     }
     Ok(())
@@ -232,7 +237,7 @@ fn look_between<A: Ledger, T: Touches>(
 #[inline(never)]
 fn look_anywhere<A: Ledger, T: Touches>(
     looked: &mut Looked,
-    sought: &Sought,
+    finder: &mut Finder,
     marks: &Marks,
     names: &[EntryKey],
     entries: &[Entry<A>],
@@ -240,7 +245,7 @@ fn look_anywhere<A: Ledger, T: Touches>(
     end: usize,
     tree: &T,
 ) -> Result<(), AllocError>
-    requires sought { AreChained sought.now.is_wide names.now sought.now.lasts.items sought.now.befores.items }
+    requires finder { IfSome finder.old.table (λ s. AreChained s.is_wide names.now s.lasts.items s.befores.items) }
     requires marks { AreMarked marks.now.is_wide names.now marks.now.marks.items }
     requires names { Once names.now }
     requires entries { Once (kept_names (kept_entries entries.now)) }
@@ -248,11 +253,12 @@ fn look_anywhere<A: Ledger, T: Touches>(
     requires end { end ≤ length entries.now }
     requires looked { IsLookedTo (T.is_touched tree.now) entries.now names.now from
         looked.old.gone.items looked.old.found.items looked.old.inner.items }
-    ensures { OnOk result (IsLookedTo (T.is_touched tree.now) entries.now names.now end
+    ensures finder { OnOk result (IfSome finder.new.table (λ s. AreChained s.is_wide names.now s.lasts.items s.befores.items)) }
+    ensures looked { OnOk result (IsLookedTo (T.is_touched tree.now) entries.now names.now end
         looked.new.gone.items looked.new.found.items looked.new.inner.items) }
 {
     look_between(
-        looked, sought, marks, names, entries, false, from, end, tree,
+        looked, finder, marks, names, entries, false, from, end, tree,
     )
 }
 
@@ -260,7 +266,7 @@ fn look_anywhere<A: Ledger, T: Touches>(
 #[inline(always)]
 fn look_in_block<A: Ledger, T: Touches>(
     looked: &mut Looked,
-    sought: &Sought,
+    finder: &mut Finder,
     marks: &Marks,
     names: &[EntryKey],
     entries: &[Entry<A>],
@@ -268,7 +274,7 @@ fn look_in_block<A: Ledger, T: Touches>(
     start: usize,
     tree: &T,
 ) -> Result<(), AllocError>
-    requires sought { AreChained sought.now.is_wide names.now sought.now.lasts.items sought.now.befores.items }
+    requires finder { IfSome finder.old.table (λ s. AreChained s.is_wide names.now s.lasts.items s.befores.items) }
     requires marks { AreMarked marks.now.is_wide names.now marks.now.marks.items }
     requires runs { AreRunsMarked names.now marks.now.runs.items }
     requires names { Once names.now }
@@ -277,18 +283,19 @@ fn look_in_block<A: Ledger, T: Touches>(
     requires told { block.now.is_open ≡ false → Tells block.now (take block.now.count (drop start entries.now)) }
     requires looked { IsLookedTo (T.is_touched tree.now) entries.now names.now start
         looked.old.gone.items looked.old.found.items looked.old.inner.items }
-    ensures { OnOk result (IsLookedTo (T.is_touched tree.now) entries.now names.now (start + block.now.count)
+    ensures finder { OnOk result (IfSome finder.new.table (λ s. AreChained s.is_wide names.now s.lasts.items s.befores.items)) }
+    ensures looked { OnOk result (IsLookedTo (T.is_touched tree.now) entries.now names.now (start + block.now.count)
         looked.new.gone.items looked.new.found.items looked.new.inner.items) }
 {
     let end = start + block.count;
     if !stands_still(block, tree) {
-        return look_anywhere(looked, sought, marks, names, entries, start, end, tree);
+        return look_anywhere(looked, finder, marks, names, entries, start, end, tree);
     }
     if are_unnamed(&marks.runs, block.told.keys) {
         return Ok(());
     }
     look_between(
-        looked, sought, marks, names, entries, true, start, end, tree,
+        looked, finder, marks, names, entries, true, start, end, tree,
     )
 }
 
@@ -313,12 +320,12 @@ pub(crate) fn look<A: Ledger, T: Touches>(
     }
     let is_wide = names.len() > 128 && entries.len() > 4096;
     let marks = Marks::new(alloc, is_wide, names)?;
-    let sought = Sought::new(alloc, names)?;
+    let mut finder = Finder::new(alloc);
     let mut place = 0;
     for block in blocks {
         look_in_block(
             &mut looked,
-            &sought,
+            &mut finder,
             &marks,
             names,
             entries,
@@ -330,7 +337,7 @@ pub(crate) fn look<A: Ledger, T: Touches>(
     }
     look_anywhere(
         &mut looked,
-        &sought,
+        &mut finder,
         &marks,
         names,
         entries,

@@ -26,7 +26,7 @@ pub(crate) struct Marks {
 fn mark_count(is_wide: bool) -> usize
     ensures { result ≡ box_marks is_wide }
 {
-    if is_wide { 16384 } else { 2048 }
+    if is_wide { 32768 } else { 2048 }
 }
 
 /// Where a box has its mark.
@@ -36,7 +36,7 @@ fn mark_of(is_wide: bool, owner: BoxKey) -> usize
     ensures within { result < box_marks is_wide }
 {
     let slot = owner.slot() as usize;
-    if is_wide { slot % 16384 } else { slot % 2048 }
+    if is_wide { slot % 32768 } else { slot % 2048 }
 }
 
 /// Where the 64 slots of a box have their mark.
@@ -49,7 +49,7 @@ fn run_of(owner: BoxKey) -> usize
 }
 
 /// The box of a name.
-fn box_of(name: EntryKey) -> BoxKey
+pub(crate) fn box_of(name: EntryKey) -> BoxKey
     ensures { result ≡ box_of name }
 {
     match name {

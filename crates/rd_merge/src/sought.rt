@@ -1,16 +1,18 @@
 //! Names that are sought in a kept level.
-ghost use Rattle.std.specs.Prelude.{◌≡◌, ◌<◌, IfOk, [], slice_index_or};
+ghost use Rattle.std.specs.Prelude.{◌≡◌, ◌<◌, IfOk, IfSome, None, [], slice_index_or};
 ghost use Rattle.rd_graph.specs.Names.{place_of, same_entry};
 ghost use Rattle.rd_graph.specs.Orders.{Once};
+ghost use Rattle.rd_merge.specs.Internal.Marks.{AreMarked};
 ghost use Rattle.rd_merge.specs.Internal.Sought.{AreChained, mark_count, mark_of};
 
+use crate::marks::{Marks, box_of, has_mark};
 use rd_keys::EntryKey;
 use std::alloc::{AllocError, Global};
 
 /// Names by their marks, of which there are more where there are many names. At each mark the number of the last name
 /// there, and for each name that of the one before it at its mark. Names are numbered from one, and zero is none.
 #[derive(Drop)]
-pub(crate) struct Sought {
+struct Sought {
     is_wide: bool,
     lasts: Vec<usize>,
     befores: Vec<usize>,
@@ -55,7 +57,7 @@ fn none_sought(alloc: Global) -> Sought
 
 impl Sought {
     /// These names by their marks.
-    pub(crate) fn new(alloc: Global, names: &[EntryKey]) -> Result<Sought, AllocError>
+    fn new(alloc: Global, names: &[EntryKey]) -> Result<Sought, AllocError>
         ensures { IfOk result (λ s. AreChained s.is_wide names.now s.lasts.items s.befores.items) }
     {
         if names.is_empty() {
@@ -87,7 +89,7 @@ impl Sought {
     }
 
     /// The place of a name among those that are sought. None exactly where it is not one of them.
-    pub(crate) fn find(&self, names: &[EntryKey], name: EntryKey) -> Option<usize>
+    fn find(&self, names: &[EntryKey], name: EntryKey) -> Option<usize>
         requires chained { AreChained self.now.is_wide names.now self.now.lasts.items self.now.befores.items }
         requires once { Once names.now }
         ensures { result ≡ place_of same_entry names.now name }
@@ -102,21 +104,59 @@ impl Sought {
         }
         None
     }
+}
 
-    /// The same, where the name is perhaps that of this number, which is looked at first.
+/// Finds names. A table of them is made once, as soon as a name is sought that is perhaps one of them and does not come next.
+#[derive(Drop)]
+pub(crate) struct Finder {
+    alloc: Global,
+    table: Option<Sought>,
+}
+
+impl Finder {
+    /// No table is made as yet.
+    pub(crate) fn new(alloc: Global) -> Finder
+        ensures { result.table ≡ None }
+    {
+        Finder { alloc, table: None }
+    }
+
+    /// The place of a name, by the table.
+    fn find(&mut self, names: &[EntryKey], name: EntryKey) -> Result<Option<usize>, AllocError>
+        requires table { IfSome self.old.table (λ s. AreChained s.is_wide names.now s.lasts.items s.befores.items) }
+        requires once { Once names.now }
+        ensures table { IfOk result (λ p. IfSome self.new.table (λ s. AreChained s.is_wide names.now s.lasts.items s.befores.items)) }
+        ensures place { IfOk result (λ p. p ≡ place_of same_entry names.now name) }
+    {
+        if let Some(table) = &self.table {
+            return Ok(table.find(names, name));
+        }
+        let table = Sought::new(self.alloc, names)?;
+        let place = table.find(names, name);
+        self.table = Some(table);
+        Ok(place)
+    }
+
+    /// The place of a name, which is perhaps the one of this number. The box of each name is marked.
     #[inline(always)]
     pub(crate) fn find_from(
-        &self,
+        &mut self,
+        marks: &Marks,
         names: &[EntryKey],
         name: EntryKey,
         first: usize,
-    ) -> Option<usize>
-        requires chained { AreChained self.now.is_wide names.now self.now.lasts.items self.now.befores.items }
+    ) -> Result<Option<usize>, AllocError>
+        requires table { IfSome self.old.table (λ s. AreChained s.is_wide names.now s.lasts.items s.befores.items) }
+        requires marks { AreMarked marks.now.is_wide names.now marks.now.marks.items }
         requires once { Once names.now }
-        ensures { result ≡ place_of same_entry names.now name }
+        ensures table { IfOk result (λ p. IfSome self.new.table (λ s. AreChained s.is_wide names.now s.lasts.items s.befores.items)) }
+        ensures place { IfOk result (λ p. p ≡ place_of same_entry names.now name) }
     {
         if first < names.len() && is_same(names[first], name) {
-            return Some(first);
+            return Ok(Some(first));
+        }
+        if !has_mark(marks.is_wide, &marks.marks, box_of(name)) {
+            return Ok(None);
         }
         self.find(names, name)
     }

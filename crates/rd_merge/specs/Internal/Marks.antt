@@ -6,7 +6,7 @@ use Rattle.rd_keys.specs.declared.entry.EntryKey.TheVariants as key
 
 -- how many marks there are
 abbrev pub box_marks : Bool → ℕ
-box_marks true = 16384
+box_marks true = 32768
 box_marks false = 2048
 
 -- where a box has its mark

@@ -25,14 +25,14 @@ loop-block-preserved g c =
     let a = ahead_first c.args.blocks.now c.args.entries.now c.loop-block.block-index c.loop-block.place c.block-item.result c.loop-block-test.true c.block-item.is c.loop-block.invariant.within c.loop-block.invariant.ahead in
     let l = a.0 in
     let w = c.loop-block.invariant.within in
-    record { within = omega (arith, l, w); ahead = a.2; looked = c.in_ok-look_in_block.ensures }
+    record { within = omega (arith, l, w); ahead = a.2; finder = c.in_ok-look_in_block.ensures.finder; looked = c.in_ok-look_in_block.ensures.looked }
 
 pub returns : goal.returns
 returns g c =
     let t = g.T.Touches.is_touched c.args.tree.now in
     let es = c.args.entries.now in
     let n = length es in
-    let l = c.in_ok-look_anywhere.ensures in
+    let l = c.in_ok-look_anywhere.ensures.looked in
     let all = take_whole es n (omega arith) in
     record {
       gone_are = l.gone_are ∙ ap (λ xs. gone_places entry_names (is_untouched t) 0 (kept_leaves (kept_entries xs))) all;

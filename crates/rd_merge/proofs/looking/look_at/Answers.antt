@@ -4,11 +4,11 @@ use Rattle.rd_merge.proofs.Looks.{inner_one, name_is, place_within}
 use Rattle.rd_merge.proofs.looking.look_at.Goals as goal
 
 pub note-requires : goal.note-requires
-note-requires g c = place_within c.find_from-name.result c.args.names.now c.key_of.result _ c.find_from-name.ensures c.requires.found
+note-requires g c = place_within c.in_ok-name.name c.args.names.now c.key_of.result _ c.in_ok-name.ensures.place c.requires.found
 
 pub returns-clause-inner : goal.returns-clause-inner
 returns-clause-inner g c =
     c.in_ok-push_if-2.ensures
     ∙ ap (λ ps. c.args.looked.now.inner.items ++ ps) (inner_one (g.T.Touches.is_touched c.args.tree.now) c.args.names.now c.args.entry.now c.args.place c.stays_at-stays.result c.is_some.result c.is_inner-is_inner.result c.stays_at-stays.ensures
-    (c.is_some.ensures ∙ ap is_some (c.find_from-name.ensures ∙ ap (place_of same_entry c.args.names.now) (name_is c.args.entry.now c.key_of.result c.key_of.ensures)))
+    (c.is_some.ensures ∙ ap is_some (c.in_ok-name.ensures.place ∙ ap (place_of same_entry c.args.names.now) (name_is c.args.entry.now c.key_of.result c.key_of.ensures)))
     c.is_inner-is_inner.ensures)

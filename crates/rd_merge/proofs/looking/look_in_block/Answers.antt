@@ -4,8 +4,8 @@ use Rattle.rd_merge.proofs.Looks.{looked_on}
 use Rattle.rd_merge.proofs.Quiet.{quiet_block, still_leaves}
 use Rattle.rd_merge.proofs.looking.look_in_block.Goals as goal
 
-pub returns-then-are_unnamed : goal.returns-then-are_unnamed
-returns-then-are_unnamed g c =
+pub returns-then-are_unnamed-clause-looked : goal.returns-then-are_unnamed-clause-looked
+returns-then-are_unnamed-clause-looked g c =
     let touched = g.T.Touches.is_touched c.args.tree.now in
     let es = c.args.entries.now in
     let b = c.args.block.now in
