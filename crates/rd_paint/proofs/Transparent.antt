@@ -36,8 +36,8 @@ none_if (suc n) t = absurd (let some : (suc n == 0) ≡ false = search rules in 
 
 module _ (p : ℤ → ℤ → Type 0) where
   -- a leaf of no opacity shows nothing
-  pub leaf_clear : (l : item.Leaf) (c : Color) → c ≡ l.color → IsTrue (c.a == 0) → SameWhere p nil (leaf l nil)
-  leaf_clear l c e z x y d h = sym (clear_laid (covers l x y) (premultiplied l.color) d (ap premultiplied (sym e) ∙ premultiplied_none c (none_if c.a z)))
+  pub leaf_clear : (l : item.Leaf) (c : Color) → c ≡ l.color → c.a ≡ 0 → SameWhere p nil (leaf l nil)
+  leaf_clear l c e z x y d h = sym (clear_laid (covers l x y) (premultiplied l.color) d (ap premultiplied (sym e) ∙ premultiplied_none c z))
 
   -- a group of no opacity shows nothing
   pub group_clear : (w : Wrapper) (inner : Entries Wrapper item.Leaf) → IsTrue (w.opacity == 0) → SameWhere p nil (group w inner nil)

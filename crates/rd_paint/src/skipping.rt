@@ -31,16 +31,17 @@ fn misses(r: Rect, columns: Span, rows: Span) -> bool
     r.bottom() <= rows.x0
 }
 
-/// Is nothing of the item to be seen in these columns of these rows, since it is beside them or transparent?
+/// Is nothing of the item to be seen in these columns of these rows, since it is transparent or beside them? That it is
+/// transparent takes one comparison.
 #[inline(always)]
 fn is_item_unseen<A: Ledger>(item: &Item<A>, columns: Span, rows: Span) -> bool
     ensures { IsTrue result → SameWhere (InSpans columns rows) list.nil (list.leaf item.now.leaf list.nil) }
 {
-    if misses(item.visible(), columns, rows) {
+    let color = item.color();
+    if color.a == 0 {
         return true;
     }
-    let color = item.color();
-    color.a == 0
+    misses(item.visible(), columns, rows)
 }
 
 /// Is the entry such a leaf, or a group of no opacity?
