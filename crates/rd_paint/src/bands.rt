@@ -1,6 +1,6 @@
 //! Painting bands of rows, each with picks of those entries alone that may show in it.
 
-ghost use Rattle.std.specs.Prelude.{◌≡◌, ℕ, ℤ, pos, ◌+◌, ◌-◌, ◌*◌, ◌^◌, ◌≤◌, ◌<◌, ◌+ℤ◌, ◌≤ℤ◌, ◌<ℤ◌, ◌∷◌, [], IsTrue, IsFalse, length, get_or, unsigned_abs, vec_capacity};
+ghost use Rattle.std.specs.Prelude.{◌≡◌, ℕ, ℤ, pos, ◌+◌, ◌-◌, ◌*◌, ◌^◌, ◌≤◌, ◌<◌, ◌+ℤ◌, ◌≤ℤ◌, ◌<ℤ◌, ◌∷◌, [], IsTrue, IsFalse, IfSome, length, get_or, take, unsigned_abs, vec_capacity};
 ghost use Rattle.rd_geom.specs.Areas.{spans_at};
 ghost use Rattle.rd_area.specs.Rows.{IsRising};
 ghost use Rattle.rd_list.specs.Blocks.{Covers};
@@ -11,12 +11,12 @@ ghost use Rattle.rd_list.specs.Lists.{pixel};
 ghost use Rattle.rd_list.specs.Views.{levels};
 ghost use Rattle.rd_paint.specs.Internal.Bands.{IsBandPainted};
 ghost use Rattle.rd_paint.specs.Internal.Blocks.{IsBlockChanged, IsRunPainted};
-ghost use Rattle.rd_paint.specs.Internal.Picks.{picked};
+ghost use Rattle.rd_paint.specs.Internal.Picks.{InAreaWithin, SameWhere, picked};
 ghost use Rattle.rd_paint.specs.Pictures.{size_of};
 ghost use Rattle.rd_paint.specs.Repainted.{IsRepainted};
 
 use crate::blocks::{lay_picks_in, whiten};
-use crate::buffers::open_for;
+use crate::buffers::{ROOMS, fill_room, open_for};
 use crate::canvas::Canvas;
 use crate::covering::cover;
 use crate::frame::{frame_of, meets_part};
@@ -213,6 +213,38 @@ fn paint_half<A: Ledger>(
     paint_band(canvas, entries, own, area, y0, y1, rows, rest);
 }
 
+/// So many picks are tried first: most paints have use for no more.
+const FIRST_PICKS: usize = 1_024;
+
+/// Writes picks of the entries that may show in the area, as `gather` does, into room of which no more is filled than that
+/// takes. All of it is where the picks are many; in room for their bands too.
+fn gather_all<A: Ledger>(
+    entries: &[Entry<A>],
+    blocks: &[Block],
+    area: &Area,
+    columns: Span,
+    rows: Span,
+    room: &mut Vec<Pick>,
+) -> Option<usize>
+    requires few { length room.old.items < 2 ^ 32 }
+    requires covers { Covers blocks.now entries.now }
+    ensures few { length room.new.items < 2 ^ 32 }
+    ensures within { IfSome result (λ n. n ≤ length room.new.items) }
+    ensures same { IfSome result (λ n. SameWhere (InAreaWithin area.now columns rows)
+        (picked (take n room.new.items) (shown entries.now)) (shown entries.now)) }
+    ensures levels { IfSome result (λ n. levels (picked (take n room.new.items) (shown entries.now))
+        ≤ levels (shown entries.now)) }
+{
+    fill_room(room, FIRST_PICKS);
+    if let Some(count) = gather(entries, blocks, area, columns, rows, room) {
+        fill_room(room, count * ROOMS);
+        return Some(count);
+    }
+    let most = room.capacity();
+    fill_room(room, most);
+    gather(entries, blocks, area, columns, rows, room)
+}
+
 /// Paints all rows of the entries of a level. False where the room is too small for picks of all entries that may show: then nothing is painted.
 fn paint_all<A: Ledger>(
     canvas: &mut Canvas,
@@ -220,21 +252,24 @@ fn paint_all<A: Ledger>(
     blocks: &[Block],
     area: &Area,
     rows: &mut Vec<Px>,
-    room: &mut [Pick],
+    room: &mut Vec<Pick>,
 ) -> bool
     requires wide { canvas.old.width ≤ 4096 }
     requires high { canvas.old.height ≤ 4096 }
     requires area { area.now.size ≡ size_of canvas.old }
     requires rows { canvas.old.width * (levels (kept_entries entries.now) - 1) ≤ vec_capacity rows.old }
-    requires few { length room.old < 2 ^ 32 }
+    requires few { length room.old.items < 2 ^ 32 }
     requires covers { Covers blocks.now entries.now }
+    ensures few { length room.new.items < 2 ^ 32 }
     ensures rows { vec_capacity rows.old ≤ vec_capacity rows.new }
     ensures painted { IsTrue result → IsRepainted (shown entries.now) area.now canvas.old canvas.new }
     ensures same { IsFalse result → canvas.new ≡ canvas.old }
 {
     let size = canvas.size();
     let frame = frame_of(area, size.w as usize, size.h as usize);
-    let Some(count) = gather(entries, blocks, area, frame.columns(), frame.rows(), room) else {
+    let columns = frame.columns();
+    let lines = frame.rows();
+    let Some(count) = gather_all(entries, blocks, area, columns, lines, room) else {
         return false;
     };
     let (own, rest) = room.split_at_mut(count);
@@ -258,13 +293,14 @@ pub(crate) fn paint_kept<A: Ledger>(
     list: &Kept<A>,
     area: &Area,
     rows: &mut Vec<Px>,
-    room: &mut [Pick],
+    room: &mut Vec<Pick>,
 ) -> bool
     requires wide { canvas.old.width ≤ 4096 }
     requires high { canvas.old.height ≤ 4096 }
     requires area { area.now.size ≡ size_of canvas.old }
     requires rows { canvas.old.width * (levels list.now.entries - 1) ≤ vec_capacity rows.old }
-    requires few { length room.old < 2 ^ 32 }
+    requires few { length room.old.items < 2 ^ 32 }
+    ensures few { length room.new.items < 2 ^ 32 }
     ensures rows { vec_capacity rows.old ≤ vec_capacity rows.new }
     ensures painted { IsTrue result → IsRepainted (kept_leaves list.now.entries) area.now canvas.old canvas.new }
     ensures same { IsFalse result → canvas.new ≡ canvas.old }

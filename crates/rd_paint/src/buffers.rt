@@ -1,6 +1,6 @@
 //! The rows that groups are painted into.
 
-ghost use Rattle.std.specs.Prelude.{◌≡◌, ℕ, ℤ, pos, ◌-◌, ◌*◌, ◌≤◌, ◌<◌, ◌^◌, ◌+ℤ◌, ◌≤ℤ◌, ◌<ℤ◌, IfOk, length, get_or, drop, unsigned_abs, vec_capacity};
+ghost use Rattle.std.specs.Prelude.{◌≡◌, ℕ, ℤ, pos, ◌-◌, ◌*◌, ◌≤◌, ◌<◌, ◌^◌, ◌+ℤ◌, ◌≤ℤ◌, ◌<ℤ◌, IfOk, length, get_or, take, drop, unsigned_abs, vec_capacity};
 ghost use Rattle.rd_geom.specs.Canvas.{IsCanvas};
 ghost use Rattle.rd_geom.specs.Colors.{white, clear};
 ghost use Rattle.rd_item.specs.declared.leaf.Leaf as item;
@@ -36,7 +36,8 @@ pub struct Buffers {
     /// It has memory for all rows, and as many pixels as the paints had use for.
     pixels: Vec<Px>,
 
-    /// Room for picks of the entries that may show in a band of rows.
+    /// Room for picks of the entries that may show in a band of rows: memory for all, and filled as far as the paints had
+    /// use for it.
     room: Vec<Pick>,
 }
 
@@ -79,21 +80,32 @@ impl Buffers {
 }
 
 /// How many picks there is room for by each entry: one for the whole list, and others for its bands.
-const ROOMS: usize = 3;
+pub(crate) const ROOMS: usize = 3;
 
 /// How many more: those of groups of which it is not yet known that nothing shows, and one behind all.
 const SPARE: usize = 257;
 
-/// Makes room for so many picks, if there is less.
+/// Takes memory for so many picks, if there is less.
 fn grow(room: &mut Vec<Pick>, count: usize) -> Result<(), NoMemory>
-    requires few { count < 2 ^ 32 }
-    requires room { length room.old.items < 2 ^ 32 }
-    ensures { length room.new.items < 2 ^ 32 }
+    ensures { room.new.items ≡ room.old.items }
 {
     if room.len() < count {
-        room.resize(count, Pick::FIRST)?;
+        room.reserve(count - room.len())?;
     }
     Ok(())
+}
+
+/// Fills room for so many picks, as far as there is memory for them. Picks that stand there stay.
+pub(crate) fn fill_room(room: &mut Vec<Pick>, count: usize)
+    requires { length room.old.items < 2 ^ 32 }
+    ensures few { length room.new.items < 2 ^ 32 }
+    ensures kept { (n : ℕ) → n ≤ length room.old.items → take n room.new.items ≡ take n room.old.items }
+    ensures long { length room.old.items ≤ length room.new.items }
+{
+    let most = count.min(room.capacity()).min(MOST);
+    if room.len() < most && room.resize(most, Pick::FIRST).is_err() {
+        return;
+    }
 }
 
 /// Makes at least so many pixels. There is memory for them.

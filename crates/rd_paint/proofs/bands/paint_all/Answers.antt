@@ -1,4 +1,4 @@
-use Rattle.std.proofs.Common.{◌≤◌, ◌-◌, List, length, ap, sym, subst, arith, rules}
+use Rattle.std.proofs.Common.{◌≤◌, ◌-◌, List, length, take, ap, ◌∙◌, sym, subst, arith, rules}
 use Rattle.std.proofs.lemmas.Int.{ints}
 use Rattle.std.proofs.Math.Nat.{mul-le-mul_left}
 use Rattle.rd_geom.specs.declared.rect.Size.{Size}
@@ -13,18 +13,19 @@ use Rattle.rd_paint.proofs.bands.paint_all.Goals as goal
 
 pub paint_band-requires-clause-rows : goal.paint_band-requires-clause-rows
 paint_band-requires-clause-rows g c =
-    let own = ap (λ (ps : List Pick). picked ps (shown c.args.entries.now)) c.split_at_mut-own.ensures.front in
+    let front = c.split_at_mut-own.ensures.front ∙ ap (take c.in-Some.count) c.deref_mut.ensures.value in
+    let own = ap (λ (ps : List Pick). picked ps (shown c.args.entries.now)) front in
     let fewer = levels_by _ _ own in
     let all = levels-leaves (kept_entries c.args.entries.now) in
     let l : levels (picked c.split_at_mut-own.result.0.now (shown c.args.entries.now)) - 1 ≤ levels (kept_entries c.args.entries.now) - 1 = omega (arith, fewer, all, c.in-Some.ensures.levels) in
     let p = mul-le-mul_left c.args.canvas.now.width l in
     let width = ap (λ (s : Size). s.w) c.size-size.ensures.value in
-    let made = ap length c.deref_mut.ensures.value in
+    let made = ap length c.deref_mut-2.ensures.value in
     let opened = rows_opened _ c.args.canvas.now.width (levels (picked c.split_at_mut-own.result.0.now (shown c.args.entries.now)) - 1) _ _ (omega (arith, ints, width)) (c.open_for.ensures.long (shown c.args.entries.now)) (omega (arith, p, c.requires.rows)) in
     omega (arith, opened, made)
 
 pub returns-clause-painted : goal.returns-clause-painted
 returns-clause-painted g c = λ t.
-    frame_painted (shown c.args.entries.now) (picked c.split_at_mut-own.result.0.now (shown c.args.entries.now)) c.args.area.now c.frame_of-frame.result c.columns.result c.rows.result c.args.canvas.now c.paint_band.new.canvas
-    (search rules) c.columns.ensures c.rows.ensures
-    (subst (λ (ps : List Pick). SameWhere (InAreaWithin c.args.area.now c.columns.result c.rows.result) (picked ps (shown c.args.entries.now)) (shown c.args.entries.now)) (sym c.split_at_mut-own.ensures.front) c.in-Some.ensures.same) c.paint_band.ensures
+    frame_painted (shown c.args.entries.now) (picked c.split_at_mut-own.result.0.now (shown c.args.entries.now)) c.args.area.now c.frame_of-frame.result c.columns-columns.result c.rows-lines.result c.args.canvas.now c.paint_band.new.canvas
+    (search rules) c.columns-columns.ensures c.rows-lines.ensures
+    (subst (λ (ps : List Pick). SameWhere (InAreaWithin c.args.area.now c.columns-columns.result c.rows-lines.result) (picked ps (shown c.args.entries.now)) (shown c.args.entries.now)) (sym (c.split_at_mut-own.ensures.front ∙ ap (take c.in-Some.count) c.deref_mut.ensures.value)) c.in-Some.ensures.same) c.paint_band.ensures
