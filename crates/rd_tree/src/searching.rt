@@ -36,18 +36,18 @@ fn pass_to_hull<B: Ledger>(
 {
     let mut at = first;
     while let Some(key) = at {
-        let glance = nodes.glance_at_live(key);
         steps.tick();
         let row = row_of(table, key);
         if reaches(rect, &row.hull) {
             return Some(key);
         }
-        at = glance.next;
+        at = nodes.glance_at_live(key).next;
     }
     None
 }
 
-/// The same, where it is likely the first one.
+/// The same, where it is likely the first one. The search beyond it reads a copy of the rectangle, so that whoever asks again
+/// and again keeps its own in registers.
 #[inline(always)]
 pub(crate) fn first_in_reach<B: Ledger>(
     nodes: &Nodes,
@@ -74,7 +74,8 @@ pub(crate) fn first_in_reach<B: Ledger>(
             if reaches(rect, &row.hull) {
                 Some(key)
             } else {
-                pass_to_hull(nodes, table, root, glance.next, rect, steps)
+                let apart = *rect;
+                pass_to_hull(nodes, table, root, glance.next, &apart, steps)
             }
         }
         None => None,

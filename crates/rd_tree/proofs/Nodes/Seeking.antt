@@ -63,6 +63,16 @@ met a root k y row t v table = at (value a k.slot k.generation) refl v where
         hull = ap (λ z. z.hull) r ∙ own;
       }
 
+-- Of a live key something is read.
+pub glance_there : (a : Arena inner.Node) (k : BoxKey) → is_some (value a k.slot k.generation) ≡ true
+    → (y : Glance) × (Some y ≡ option_map (glance_of k.generation) (value a k.slot k.generation))
+glance_there a k l = at (value a k.slot k.generation) refl where
+  at : (o : Option inner.Node) → value a k.slot k.generation ≡ o → (y : Glance) × (Some y ≡ option_map (glance_of k.generation) (value a k.slot k.generation))
+  at None h =
+      let none : false ≡ true = sym (ap is_some h) ∙ l in
+      cc (none)
+  at (Some x) h = (glance_of k.generation x, sym (ap (option_map (glance_of k.generation)) h))
+
 -- From a key that is not live no box begins.
 pub none_met : (a : Arena inner.Node) (root k : BoxKey) → IsTree a root → None ≡ value a k.slot k.generation → starting_at same_key k (seen a root) ≡ empty
 none_met a root k t h =
