@@ -1,14 +1,14 @@
 -- Steps of a plan, one after another.
-use Rattle.std.proofs.Common.{◌≡◌, refl, ap, ◌∙◌, sym, subst, ℕ, suc, ◌+◌, Bool, true, false, List, [], ◌∷◌, length, arith, Box, Global}
+use Rattle.std.proofs.Common.{◌≡◌, refl, ap, ◌∙◌, sym, subst, ℕ, suc, ◌+◌, ◌<◌, set, Bool, true, false, List, [], ◌∷◌, length, arith, Box, Global}
 use Rattle.std.specs.Prelude.{Option, Some, None, is_some, unwrap_or}
 use Rattle.std.specs.declared.vec.Vec.{Vec}
 use Rattle.rd_graph.specs.Gathered.{IsLine}
 use Rattle.rd_item.specs.Items.{Made}
 use Rattle.rd_keys.specs.declared.entry.EntryKey.{EntryKey}
 use Rattle.rd_list.specs.Wrappers.{Wrapper}
-use Rattle.rd_list.specs.Entries.{Entries, nil, ◌▷◌, list_size}
+use Rattle.rd_list.specs.Entries.{Entries, nil, leaf, ◌▷◌, list_size}
 use Rattle.rd_list.specs.Kept.{KeptList}
-use Rattle.rd_merge.specs.Plans.{PlanList, Steps, IsGroupPlace, IsNamed, IsPlace, MakesNone, PlacesFit, StepsFit, filled, grouped_as, list_for, made_count, old_list, put_entry, size_of, stepped, wrapper_for}
+use Rattle.rd_merge.specs.Plans.{PlanList, Steps, IsGroupPlace, IsNamed, IsPlace, MakesNone, PlacesFit, StepsFit, filled, first_leaf, grouped_as, list_for, made_count, old_list, put_entry, size_of, stepped, wrapper_for}
 use Rattle.rd_merge.specs.PlanView.{steps_seen}
 use Rattle.rd_merge.specs.Internal.Moving.{IsSameBut, NoneMade, left_after}
 use Rattle.rd_merge.specs.Internal.PlanRoom.{HasLineRoom}
@@ -17,8 +17,9 @@ use Rattle.rd_merge.specs.declared.plan.Step.{Step}
 use Rattle.rd_merge.specs.declared.plan.Step.TheVariants as step
 use Rattle.rd_list.specs.KeptView.{kept_entries}
 use Rattle.rd_list.specs.declared.kept.Entry.{Entry}
-use Rattle.rd_list.proofs.Joins.{join-nil}
-use Rattle.rd_merge.proofs.InPlace.{Olds, group_at-join, with-join, wrapper_at-join}
+use Rattle.rd_list.specs.declared.kept.Entry.TheVariants as kept
+use Rattle.rd_list.proofs.Joins.{join_assoc, join-nil}
+use Rattle.rd_merge.proofs.InPlace.{Olds, put_at, group_at-join, with-join, wrapper_at-join}
 
 abbrev pub News : Type 0
 News = Entries Wrapper Made
@@ -141,3 +142,23 @@ module _ {A : Type 0} (s : Step A) (o : Option ℕ) (b : Bool) (boxed : Box (Pla
         put_same k m o k2 entry so.0.0 z same
         ∙ ap (λ (x : Olds). put_entry o x (k ▷ m)) (made ∙ ap (λ p. grouped_as (wrapper_for b o k n) (filled p (old_list o k) (list_for b n))) unboxed ∙ sym (ap (λ w. grouped_as w (filled boxed.value (old_list o (k ▷ m)) (list_for b n))) (wrapper_for-join k m b o n so.0.0) ∙ ap (λ (x : KeptList EntryKey Wrapper Made). grouped_as (wrapper_for b o k n) (filled boxed.value x (list_for b n))) (old_list-join k m o so.0.0)))
         ∙ sym (ap (λ (t : Step A). stepped (steps_seen (t ∷ [])) (k ▷ m) n) is)
+
+-- ---- what the step of a leaf comes to
+
+module _ {A : Type 0} (s : Step A) (o : Option ℕ) (is : s ≡ step.Leaf o) (n : News) where
+  -- one that is made stands on top
+  pub leaf_made : o ≡ None → (k m m2 : Olds) → m2 ≡ m ▷ first_leaf n → k ▷ m2 ≡ stepped (steps_seen (s ∷ [])) (k ▷ m) n
+  leaf_made none k m m2 e =
+      ap (λ (x : Olds). k ▷ x) e ∙ sym (join_assoc k m (first_leaf n))
+      ∙ sym (ap (λ (t : Step A). stepped (steps_seen (t ∷ [])) (k ▷ m) n) (is ∙ ap step.Leaf none))
+
+  -- one that has a place stands there
+  pub leaf_there : {B : Type 0} (i : ℕ) → o ≡ Some i → (es fs ms : List (Entry B)) (item : Made) → i < length es → fs ≡ set es i (kept.Leaf item) → leaf item nil ≡ first_leaf n
+      → kept_entries fs ▷ kept_entries ms ≡ stepped (steps_seen (s ∷ [])) (kept_entries es ▷ kept_entries ms) n
+  leaf_there i some es fs ms item h e this =
+      put_at es fs ms o i (kept.Leaf item) some h e
+      ∙ ap (λ (x : Olds). put_entry o x (kept_entries es ▷ kept_entries ms)) this
+      ∙ sym (ap (λ (t : Step A). stepped (steps_seen (t ∷ [])) (kept_entries es ▷ kept_entries ms) n) is)
+
+  pub leaf_within : (i : ℕ) → o ≡ Some i → (size : ℕ) (k : Olds) → StepsFit size (steps_seen (s ∷ [])) k n → i < size
+  leaf_within i some size k fits = (subst (λ (t : Step A). StepsFit size (steps_seen (t ∷ [])) k n) (is ∙ ap step.Leaf some) fits).0

@@ -1,17 +1,16 @@
 //! The blocks of a level through a merge: what is said of entries goes with them to their places. Nothing takes memory.
-ghost use Rattle.std.specs.Prelude.{◌≡◌, ℕ, ◌<◌, ◌≤◌, ◌+◌, ◌-◌, ◌++◌, ◌∷◌, [], IfNone, IfSome, List, length, take, drop, option_map, vec_len, vec_capacity};
+ghost use Rattle.std.specs.Prelude.{◌≡◌, ℕ, ◌<◌, ◌≤◌, ◌+◌, ◌-◌, ◌++◌, ◌∷◌, [], IfNone, IfSome, List, length, take, drop, option_map, slice_set, vec_len, vec_capacity};
 ghost use Rattle.rd_graph.specs.Gathered.{ArePlaces, IsLine, arranged, gathered};
 ghost use Rattle.rd_graph.specs.Runs.{places_of, up_from};
 ghost use Rattle.rd_list.specs.Blocks.{Covers, CoversAll, IsAt, IsLeaf, IsTold};
 ghost use Rattle.rd_list.specs.declared.kept.Entry.{Entry as KeptEntry};
 ghost use Rattle.rd_list.specs.KeptView.{kept_entries};
-ghost use Rattle.rd_list.specs.Entries as list;
 ghost use Rattle.rd_list.specs.Entries.{◌▷◌};
 ghost use Rattle.rd_list.specs.declared.kept.Entry.TheVariants as variants;
 ghost use Rattle.rd_merge.specs.Plans.{IsPlace, one_made, put_entry};
 ghost use Rattle.rd_merge.specs.Internal.Moving.{ChangesAt, PartsTo, PartsAll};
 
-use crate::moving::{put, put_item};
+use crate::moving::{put, put_item_at};
 use rd_graph::Run;
 use rd_item::Item;
 use rd_list::{Block, Entry, FIRST, Seek, Told, admit, item_told, part_at, push_block};
@@ -40,33 +39,26 @@ fn told_for_leaf<A: Ledger>(old: &Entry<A>, item: &Item<A>) -> Option<Told>
     }
 }
 
-/// Puts a leaf at its place, or on top of the ones that are made, and into the block of the place.
+/// Puts a leaf at its place, and into the block of the place.
 #[inline(always)]
 pub(crate) fn put_item_in_block<A: Ledger>(
     blocks: &mut Vec<Block>,
     last: Seek,
     entries: &mut Vec<Entry<A>>,
-    made: &mut Vec<Entry<A>>,
-    place: Option<usize>,
+    place: usize,
     item: Item<A>,
 ) -> Seek
-    requires place { IsPlace place (vec_len entries.old) }
-    requires room { vec_len made.old + one_made place ≤ vec_capacity made.old }
+    requires place { place < vec_len entries.old }
     requires at { IsAt blocks.old.items last.at last.start }
     requires covers { Covers blocks.old.items entries.old.items }
-    ensures put { kept_entries entries.new.items ▷ kept_entries made.new.items
-        ≡ put_entry place (list.leaf item list.nil) (kept_entries entries.old.items ▷ kept_entries made.old.items) }
+    ensures put { entries.new.items ≡ slice_set entries.old.items place (variants.Leaf item) }
     ensures entries { vec_len entries.new ≡ vec_len entries.old }
-    ensures made { vec_len made.new ≡ vec_len made.old + one_made place }
-    ensures room { vec_capacity made.old ≤ vec_capacity made.new }
     ensures at { IsAt blocks.new.items result.at result.start }
     ensures covers { Covers blocks.new.items entries.new.items }
 {
-    let seek = match place {
-        Some(place) => admit::<A>(blocks, last, place, told_for_leaf(&entries[place], &item)),
-        None => last,
-    };
-    put_item(entries, made, place, item);
+    let told = told_for_leaf(&entries[place], &item);
+    let seek = admit::<A>(blocks, last, place, told);
+    put_item_at(entries, place, item);
     seek
 }
 

@@ -10,7 +10,7 @@ ghost use Rattle.rd_merge.specs.Internal.Untaken.{untaken};
 
 use crate::blocking::{clear, in_line_blocks, put_in_block, put_item_in_block};
 use crate::moving::in_line;
-use crate::opening::{next_item, open};
+use crate::opening::{next_item, open, push_next};
 use crate::plan::{Plan, Step};
 use crate::taking::NewEntries;
 use rd_list::{Block, Entry, FIRST, Group, Kept, NewList, Seek, renew_blocks};
@@ -87,9 +87,13 @@ fn finish_step<A: Ledger>(
     ensures covers { Covers blocks.new.items entries.new.items }
 {
     match step {
-        Step::Leaf(place) => {
+        Step::Leaf(None) => {
+            push_next(made, fresh);
+            last
+        }
+        Step::Leaf(Some(place)) => {
             let item = next_item(fresh);
-            put_item_in_block(blocks, last, entries, made, place, item)
+            put_item_in_block(blocks, last, entries, place, item)
         }
         Step::Group { old, is_new, plan } => {
             let seek = clear::<A>(blocks, last, old);

@@ -3,7 +3,6 @@ ghost use Rattle.std.specs.Prelude.{◌≡◌, ℕ, ◌<◌, ◌≤◌, ◌+◌,
 ghost use Rattle.rd_graph.specs.Gathered.{arranged, gathered, ArePlaces, IsLine};
 ghost use Rattle.rd_graph.specs.Internal.Taking.{KeepsBut, KeepsOthers, KeepsOutside};
 ghost use Rattle.rd_graph.specs.Runs.{places_aside, places_of, up_from};
-ghost use Rattle.rd_list.specs.Entries as list;
 ghost use Rattle.rd_list.specs.Entries.{◌▷◌};
 ghost use Rattle.rd_list.specs.declared.kept.Entry.TheVariants as variants;
 ghost use Rattle.rd_list.specs.KeptView.{kept_entries};
@@ -71,7 +70,7 @@ pub(crate) fn put<A: Ledger>(
 
 /// Puts a leaf at a place: its item, where a leaf stands there.
 #[inline(always)]
-fn put_item_at<A: Ledger>(entries: &mut Vec<Entry<A>>, i: usize, item: Item<A>)
+pub(crate) fn put_item_at<A: Ledger>(entries: &mut Vec<Entry<A>>, i: usize, item: Item<A>)
     requires { i < vec_len entries.old }
     ensures put { entries.new.items ≡ slice_set entries.old.items i (variants.Leaf item) }
     ensures len { vec_len entries.new ≡ vec_len entries.old }
@@ -79,29 +78,6 @@ fn put_item_at<A: Ledger>(entries: &mut Vec<Entry<A>>, i: usize, item: Item<A>)
     match &mut entries[i] {
         Entry::Leaf(old) => *old = item,
         Entry::Group(_) => entries[i] = Entry::Leaf(item),
-    }
-}
-
-/// Puts a leaf at its place, or on top of the ones that are made.
-#[inline(always)]
-pub(crate) fn put_item<A: Ledger>(
-    entries: &mut Vec<Entry<A>>,
-    made: &mut Vec<Entry<A>>,
-    place: Option<usize>,
-    item: Item<A>,
-)
-    requires place { IsPlace place (vec_len entries.old) }
-    requires room { vec_len made.old + one_made place ≤ vec_capacity made.old }
-    ensures put { kept_entries entries.new.items ▷ kept_entries made.new.items
-        ≡ put_entry place (list.leaf item list.nil) (kept_entries entries.old.items ▷ kept_entries made.old.items) }
-    ensures there { PutsAt place (variants.Leaf item) entries.old.items entries.new.items }
-    ensures entries { vec_len entries.new ≡ vec_len entries.old }
-    ensures made { vec_len made.new ≡ vec_len made.old + one_made place }
-    ensures room { vec_capacity made.old ≤ vec_capacity made.new }
-{
-    match place {
-        None => push_made(made, Entry::Leaf(item)),
-        Some(i) => put_item_at(entries, i, item),
     }
 }
 

@@ -1,6 +1,7 @@
 //! New entries are taken one after another, and groups out of their places.
-ghost use Rattle.std.specs.Prelude.{◌≡◌, ◌∷◌, [], true, Some, is_some, vec_len};
+ghost use Rattle.std.specs.Prelude.{◌≡◌, ◌<◌, ◌≤◌, ◌+◌, ◌∷◌, [], true, Some, is_some, vec_len, vec_capacity};
 ghost use Rattle.rd_list.specs.Entries as list;
+ghost use Rattle.rd_list.specs.Entries.{◌▷◌};
 ghost use Rattle.rd_list.specs.KeptView.{kept_entries};
 ghost use Rattle.rd_list.specs.NewView.{new_entries};
 ghost use Rattle.rd_list.specs.Views.{group_at};
@@ -56,6 +57,20 @@ pub(crate) fn next_item<A: Ledger>(fresh: &mut NewEntries<A>) -> Item<A>
         Some(entry) => as_item(entry),
         None => unreachable!(),
     }
+}
+
+/// Puts the next new entry, which is a leaf, on top of the ones that are made. There is room for it.
+#[inline(always)]
+pub(crate) fn push_next<A: Ledger>(made: &mut Vec<Entry<A>>, fresh: &mut NewEntries<A>)
+    requires leaf { size_of (first_leaf (untaken fresh.old)) ≡ 1 }
+    requires room { vec_len made.old < vec_capacity made.old }
+    ensures put { kept_entries made.new.items ≡ kept_entries made.old.items ▷ first_leaf (untaken fresh.old) }
+    ensures left { untaken fresh.new ≡ later (untaken fresh.old) }
+    ensures len { vec_len made.new ≡ vec_len made.old + 1 }
+    ensures room { vec_capacity made.old ≤ vec_capacity made.new }
+{
+    let item = next_item(fresh);
+    made.push_reserved(Entry::Leaf(item));
 }
 
 /// The next new entry, which is a group.

@@ -1,5 +1,5 @@
 use Rattle.std.proofs.Common.{arith, refl, ap, sym, subst, length, ◌∙◌, ◌≡◌, ◌+◌, ◌∷◌, ◌++◌, []}
-use Rattle.std.specs.Prelude.{option_map, vec_len}
+use Rattle.std.specs.Prelude.{option_map, vec_len, None, Some}
 use Rattle.rd_graph.specs.Patches.{line_of}
 use Rattle.rd_graph.proofs.PutInPlace.{fits}
 use Rattle.rd_list.specs.Entries.{◌▷◌, list_size}
@@ -10,7 +10,7 @@ use Rattle.rd_merge.specs.Internal.Untaken.{untaken}
 use Rattle.rd_merge.specs.Plans.{size_of, made_count}
 use Rattle.rd_merge.specs.PlanView.{steps_seen}
 use Rattle.rd_merge.proofs.InPlace.{kept-size}
-use Rattle.rd_merge.proofs.Stepping.{start_level, start_fits, start_stepped, first_made, first_size, none_counted, now_fits, then_fits, then_stepped, line_so, none_made, room_so, group_size, group_there, group_named, group_fits, group_stepped}
+use Rattle.rd_merge.proofs.Stepping.{start_level, start_fits, start_stepped, first_made, first_size, none_counted, now_fits, then_fits, then_stepped, line_so, none_made, room_so, group_size, group_there, group_named, group_fits, group_stepped, leaf_made, leaf_there, leaf_within}
 use Rattle.rd_merge.proofs.finishing.+finishing.Goals as goal
 
 pub finish-loop-step-init : goal.finish-loop-step-init
@@ -187,3 +187,18 @@ finish_step-returns-in-Group-clause-stepped g t c =
     c.put_in_block.ensures.put
     ∙ group_stepped c.args.step i.old i.is_new i.plan i.is c.into_inner.result c.into_inner.ensures (vec_len c.args.entries.now) k m n long c.requires.fits (kept_entries c.finish_group-entry.new.entries.items) (kept_entries (c.finish_group-entry.result ∷ []))
     (omega (arith, size, size_later, ok.0, later.0, len)) c.finish_group-entry.ensures.others c.finish_group-entry.ensures.made
+
+pub finish_step-returns-in-Leaf-None-clause-stepped : goal.finish_step-returns-in-Leaf-None-clause-stepped
+finish_step-returns-in-Leaf-None-clause-stepped g t c =
+    let i = c.in-Leaf-None in
+    let none : i.field-0 ≡ None = rw i.is at i.field-0-is in
+    leaf_made c.args.step i.field-0 i.is (untaken c.args.fresh.now) none (kept_entries c.args.entries.now.items) (kept_entries c.args.made.now.items) (kept_entries c.push_next.new.made.items) c.push_next.ensures.put
+
+pub finish_step-returns-in-Leaf-Some-clause-stepped : goal.finish_step-returns-in-Leaf-Some-clause-stepped
+finish_step-returns-in-Leaf-Some-clause-stepped g t c =
+    let i = c.in-Leaf-Some in
+    let old = c.args.entries.now in
+    let ok = old.ok in
+    let some : i.field-0 ≡ Some i.place = rw i.is at i.field-0-is in
+    let fits = leaf_within c.args.step i.field-0 i.is (untaken c.args.fresh.now) i.place some (vec_len old) (kept_entries old.items ▷ kept_entries c.args.made.now.items) c.requires.fits in
+    leaf_there c.args.step i.field-0 i.is (untaken c.args.fresh.now) i.place some old.items c.put_item_in_block.new.entries.items c.args.made.now.items c.next_item-item.result (omega (arith, ok.0, fits)) c.put_item_in_block.ensures.put c.next_item-item.ensures.leaf
