@@ -7,8 +7,6 @@ mod area;
 mod bands;
 mod row;
 mod rows;
-#[cfg(test)]
-mod tests;
 
 pub use area::Area;
 pub use rd_geom::Span;

@@ -4,7 +4,5 @@
 #![tactic(auto)]
 
 mod clips;
-#[cfg(test)]
-mod tests;
 
 pub use clips::Clips;

@@ -8,8 +8,6 @@ mod enclosing;
 mod rect;
 mod span;
 mod steps;
-#[cfg(test)]
-mod tests;
 
 pub use color::{Color, Px, mul, over, px_of, scale};
 pub use enclosing::{hull, is_within, moved_hull};

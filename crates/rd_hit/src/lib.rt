@@ -204,6 +204,3 @@ fn hit_item<A: Ledger>(item: &Item<A>, x: i32, y: i32) -> Option<BoxKey>
         None
     }
 }
-
-#[cfg(test)]
-mod tests;

@@ -19,6 +19,3 @@ pub use reading::{ReadAll, read_all};
 pub use sink::Sink;
 pub use source::{Failed, Source};
 pub use writing::write_all;
-
-#[cfg(test)]
-mod tests;

@@ -8,6 +8,3 @@ mod leaf;
 
 pub use item::Item;
 pub use leaf::{Leaf, Shape, covers};
-
-#[cfg(test)]
-mod tests;

@@ -1,12 +1,23 @@
-//! Tests of the public calls of the crates whose proofs take a minute or more. A check of a crate with tests of its own proves the
-//! whole crate once more; here the crates below stand proved, and the tests alone are checked. Tests that read what is private, and
-//! those of small crates, stand in the crates themselves.
+//! Tests of the public calls of all crates but those whose tests read what is private. A check of a crate with tests of its own proves
+//! the whole crate once more; here the crates below stand proved, and the tests alone are checked.
 #![tactic(auto)]
 
+#[cfg(test)]
+mod area;
+#[cfg(test)]
+mod clip;
 #[cfg(test)]
 mod edits;
 #[cfg(test)]
 mod generated;
+#[cfg(test)]
+mod geom;
+#[cfg(test)]
+mod hit;
+#[cfg(test)]
+mod item;
+#[cfg(test)]
+mod keys;
 #[cfg(test)]
 mod list;
 #[cfg(test)]
@@ -25,5 +36,9 @@ mod run;
 mod scene;
 #[cfg(test)]
 mod stack;
+#[cfg(test)]
+mod streams;
+#[cfg(test)]
+mod style;
 #[cfg(test)]
 mod tree;

@@ -1,6 +1,6 @@
 //! The slots and generations of keys, by hand.
 
-use crate::*;
+use rd_keys::*;
 
 #[test]
 fn the_last_generation_is_retired(rt: HostRuntime) {

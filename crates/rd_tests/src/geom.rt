@@ -1,6 +1,6 @@
 //! Tables of products, pixels and rectangles.
 
-use crate::*;
+use rd_geom::*;
 
 #[test]
 fn products_of_channels(rt: HostRuntime) {

@@ -1,7 +1,7 @@
 //! Tables of styles.
 
-use crate::*;
 use rd_geom::{Rect, Sides};
+use rd_style::*;
 
 fn styled(
     position: Position,

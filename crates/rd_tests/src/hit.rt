@@ -2,9 +2,9 @@
 
 ghost use Rattle.std.specs.Prelude.{◌≡◌, ◌<◌};
 
-use crate::hit;
 use rd_geom::{Color, Rect, Steps};
 use rd_graph::OrderGraph;
+use rd_hit::hit;
 use rd_item::{Item, Shape};
 use rd_keys::{BoxKey, Key, Part};
 use rd_list::{Entry, Group, Kept};

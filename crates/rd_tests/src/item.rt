@@ -2,8 +2,8 @@
 
 ghost use Rattle.std.specs.Prelude.{◌≡◌, ◌<◌};
 
-use crate::{Item, Shape};
 use rd_geom::{Color, Rect, Steps};
+use rd_item::{Item, Shape};
 use rd_keys::{Arena, BoxKey, BoxMark, EntryKey, Part};
 use std::marker::Brand;
 use std::sync::ledger::{Blank, Ledger};

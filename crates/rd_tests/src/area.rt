@@ -1,6 +1,6 @@
 //! Rectangles that join areas.
 
-use crate::*;
+use rd_area::*;
 use rd_geom::{NoMemory, Rect, Size};
 
 fn of(x: i32, y: i32, w: i32, h: i32) -> Rect {

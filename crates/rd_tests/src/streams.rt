@@ -1,6 +1,6 @@
 //! What no clause says: that calls succeed, and what the adapters do on real streams.
 
-use super::*;
+use rd_io::*;
 use std::alloc::Global;
 use std::collections::VecDeque;
 use std::io;

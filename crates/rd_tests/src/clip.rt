@@ -1,6 +1,6 @@
 //! Clips below some boxes.
 
-use crate::Clips;
+use rd_clip::Clips;
 use rd_geom::{Rect, Sides, Size};
 use rd_style::{Overflow, Position, Style};
 
