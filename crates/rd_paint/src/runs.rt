@@ -99,7 +99,7 @@ fn tint(out: &mut [Px], px: Px)
     }
 }
 
-/// Up to where the pixels from `from` on are the same, and those of a row too.
+/// Up to where the pixels from `from` on are the same, and those of a row too. Where the next ones are others no eight are looked at.
 fn both_same_until(out: &[Px], row: &[Px], from: usize) -> usize
     requires long { length row.now ≡ length out.now }
     requires from { from < length out.now }
@@ -111,6 +111,9 @@ fn both_same_until(out: &[Px], row: &[Px], from: usize) -> usize
     let px = out[from];
     let above = row[from];
     let mut end = from + 1;
+    if end < out.len() && !(same(out[end], px) & same(row[end], above)) {
+        return end;
+    }
     while out.len() - end >= 8 && eight_same(out, end, px) && eight_same(row, end, above) {
         end += 8;
     }
