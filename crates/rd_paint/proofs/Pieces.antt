@@ -1,10 +1,10 @@
 -- Parts of a row.
-use Rattle.std.proofs.Common.{◌≡◌, ℕ, ℤ, pos, ◌+◌, ◌-◌, ◌+ℤ◌, ◌<◌, ◌≤◌, ◌≤ℤ◌, Bool, true, false, not, ◌&&◌, ◌||◌, cond, nat_le, nat_lt, ◌⊎◌, inl, inr, suc, List, [], ◌∷◌, ◌++◌, take, drop, length, get_or, replicate, refl, sym, ap, ◌∙◌, arith}
+use Rattle.std.proofs.Common.{◌≡◌, ℕ, ℤ, pos, ◌+◌, ◌-◌, ◌+ℤ◌, ◌<◌, ◌≤◌, ◌≤ℤ◌, Bool, true, false, not, ◌&&◌, ◌||◌, cond, nat_le, nat_lt, ◌⊎◌, inl, inr, zero, suc, List, [], ◌∷◌, ◌++◌, take, drop, length, get_or, replicate, refl, sym, ap, ◌∙◌, arith}
 use Rattle.std.specs.Prelude.{int_le, int_lt, IsTrue}
 use Rattle.std.proofs.lemmas.Int.{ints}
-use Rattle.std.proofs.lemmas.List.{same_lists, length-take-le, length-append, length-drop, get_or-take, get_or-drop, get_or_append_left, get_or-append_right}
+use Rattle.std.proofs.lemmas.List.{same_lists, length-take-le, length-append, length-drop, get_or-take, get_or-drop, get_or_append_left, get_or-append_right, length-replicate, take-replicate, drop-replicate}
 use Rattle.std.proofs.lemmas.Bool.{cases_lt, le-leb, lt-leb, lt-ltb, le-ltb}
-use Rattle.rd_geom.specs.Colors.{Premultiplied, laid_over, premultiplied}
+use Rattle.rd_geom.specs.Colors.{Premultiplied, laid_over, premultiplied, clear}
 use Rattle.rd_geom.specs.Areas.{in_span}
 use Rattle.rd_geom.specs.Plane.{Rectangle, IsPlaced, IsWithin, holds_pixel, is_among, right}
 use Rattle.rd_geom.specs.declared.span.Span.{Span}
@@ -14,6 +14,7 @@ use Rattle.rd_item.specs.Leaves.{covers}
 use Rattle.rd_list.specs.Entries.{nil, leaf}
 use Rattle.rd_list.specs.Lists.{composed}
 use Rattle.rd_paint.specs.Internal.Runs.{each_from, tinted, piece_laid, round_laid, holed_laid, laid_along, laid_around}
+use Rattle.rd_paint.proofs.Depths.{over_clear}
 use Rattle.rd_paint.proofs.Places.{each_from-none, each_from-same, each_from-each_from, get_or-each_at, length-each_from, each_at-same_within}
 
 -- what a leaf covers of a row where it may not be seen
@@ -121,6 +122,34 @@ part_laid s q x ps mid a b h l t m = rw m (same_lists _ _ size at)
         let n = length-each_from 0 (λ k p. cond (in_span s (x +ℤ pos k)) (laid_over q p) p) ps in
         let l : k < length ps = omega (arith, n, size) in
         by_place k d l (cases_lt k a) (cases_lt k b) ∙ sym (whole k d l)
+
+clear_tinted : (q : Premultiplied) (i n : ℕ) → replicate n q ≡ each_from i (λ k p. laid_over q p) (replicate n clear)
+clear_tinted q i zero = refl
+clear_tinted q i (suc n) = ap (λ p. p ∷ replicate n q) (sym (over_clear q)) ∙ ap (λ t. laid_over q clear ∷ t) (clear_tinted q (suc i) n)
+
+-- clear pixels, of which the places from a up to b changed
+pub part_begun : (s : Span) (q : Premultiplied) (x : ℤ) (n a b i j k : ℕ) (before inside after : List Premultiplied) → a ≤ b → b ≤ n
+    → ((k : ℕ) → k < n → in_span s (x +ℤ pos k) ≡ (nat_le a k && nat_lt k b)) → before ≡ replicate i clear → i ≡ a → inside ≡ replicate j q → j ≡ b - a → after ≡ replicate k clear → k ≡ n - b
+    → before ++ (inside ++ after) ≡ piece_laid s q x (replicate n clear)
+part_begun s q x n a b i j k before inside after h l t first i-is mid j-is last k-is =
+    ap (λ xs. xs ++ (inside ++ after)) front ∙ ap (λ xs. take a (replicate n clear) ++ (inside ++ xs)) back
+    ∙ part_laid s q x (replicate n clear) inside a b h (let m = length-replicate n clear in omega (arith, m, l)) (λ k u. t k (let m = length-replicate n clear in omega (arith, m, u))) middle
+  where
+    behind : drop a (replicate n clear) ≡ replicate (n - a) clear
+    behind = drop-replicate a n clear
+
+    front : before ≡ take a (replicate n clear)
+    front = first ∙ ap (λ m. replicate m clear) i-is ∙ sym (take-replicate a n clear (omega (arith, h, l)))
+
+    back : after ≡ drop (b - a) (drop a (replicate n clear))
+    back =
+        let e : k ≡ n - a - (b - a) = omega (arith, h, l, k-is) in
+        last ∙ ap (λ m. replicate m clear) e ∙ sym (ap (drop (b - a)) behind ∙ drop-replicate (b - a) (n - a) clear)
+
+    middle : inside ≡ tinted q (take (b - a) (drop a (replicate n clear)))
+    middle =
+        mid ∙ ap (λ m. replicate m q) j-is ∙ clear_tinted q 0 (b - a)
+        ∙ ap (tinted q) (sym (ap (take (b - a)) behind ∙ take-replicate (b - a) (n - a) clear (omega (arith, h, l))))
 
 -- a leaf in a row where it may not be seen
 pub row_missed : (l : Leaf) (y x : ℤ) (ps : List Premultiplied) → is_among l.visible.y l.visible.h y ≡ false → ps ≡ laid_along y x (leaf l nil) ps

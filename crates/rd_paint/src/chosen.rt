@@ -1,16 +1,18 @@
 //! Painting the entries that picks name in a run of pixels.
 
-ghost use Rattle.std.specs.Prelude.{◌≡◌, ℤ, pos, ◌+◌, ◌-◌, ◌*◌, ◌≤◌, ◌+ℤ◌, ◌≤ℤ◌, ◌∷◌, [], length};
+ghost use Rattle.std.specs.Prelude.{◌≡◌, ℤ, pos, ◌+◌, ◌-◌, ◌*◌, ◌≤◌, ◌+ℤ◌, ◌≤ℤ◌, IsTrue, ◌∷◌, [], List, length, drop, replicate};
+ghost use Rattle.rd_geom.specs.Colors.{clear};
 ghost use Rattle.rd_list.specs.Displayed.{shown};
 ghost use Rattle.rd_list.specs.EntryNames.{kept_leaves};
 ghost use Rattle.rd_list.specs.Views.{levels, deeper};
 ghost use Rattle.rd_paint.specs.Internal.Picks.{chosen, picked};
 ghost use Rattle.rd_paint.specs.Internal.Runs.{laid_along, laid_along_group};
+ghost use Rattle.rd_paint.specs.declared.picks.Pick as named;
 
 use crate::picks::{Pick, pick_at};
 use crate::reaching::places;
 use crate::runs::{fill, lay_row};
-use crate::spans::lay_item;
+use crate::spans::{begin_item, lay_item};
 use rd_geom::Px;
 use rd_list::{Entry, Kept};
 use std::sync::ledger::Ledger;
@@ -104,7 +106,59 @@ pub(crate) fn lay_own<A: Ledger>(
     }
 }
 
-/// Paints what picks name of a group into the first of the rows, clear at first, and lays that over the pixels.
+/// Makes a row clear, with an entry laid over it, if that is a leaf without a hole there: was it?
+fn begin_entry<A: Ledger>(entry: &Entry<A>, y: i32, x0: i32, row: &mut [Px]) -> bool
+    requires from { pos 0 ≤ℤ x0 }
+    requires within { (x0 +ℤ pos (length row.old)) ≤ℤ pos 4096 }
+    ensures { IsTrue result → (own : List named.Pick)
+        → row.new ≡ laid_along y x0 (chosen own 0 (shown (entry.now ∷ []))) (replicate (length row.old) clear) }
+{
+    match entry {
+        Entry::Leaf(item) => begin_item(item, y, x0, row),
+        Entry::Group(_) => false,
+    }
+}
+
+/// The same with the entry at a place.
+fn begin_at<A: Ledger>(entries: &[Entry<A>], place: u32, y: i32, x0: i32, row: &mut [Px]) -> bool
+    requires from { pos 0 ≤ℤ x0 }
+    requires within { (x0 +ℤ pos (length row.old)) ≤ℤ pos 4096 }
+    ensures { IsTrue result → (own : List named.Pick)
+        → row.new ≡ laid_along y x0 (chosen own place (shown entries.now)) (replicate (length row.old) clear) }
+{
+    let index = place as usize;
+    if index < entries.len() {
+        return begin_entry(&entries[index], y, x0, row);
+    }
+    false
+}
+
+/// Begins a group's row, clear at first: how many of the picks, the lowest, are laid over it at once.
+fn begin_row<A: Ledger>(
+    entries: &[Entry<A>],
+    picks: &[Pick],
+    y: i32,
+    x0: i32,
+    row: &mut [Px],
+) -> usize
+    requires from { pos 0 ≤ℤ x0 }
+    requires within { (x0 +ℤ pos (length row.old)) ≤ℤ pos 4096 }
+    ensures within { result ≤ length picks.now }
+    ensures levels { levels (picked (drop result picks.now) (shown entries.now)) ≤ levels (picked picks.now (shown entries.now)) }
+    ensures laid { laid_along y x0 (picked (drop result picks.now) (shown entries.now)) row.new
+        ≡ laid_along y x0 (picked picks.now (shown entries.now)) (replicate (length row.old) clear) }
+{
+    if !picks.is_empty() {
+        let (place, own) = pick_at(picks, 0);
+        if begin_at(entries, place, y, x0, row) {
+            return 1 + own.len();
+        }
+    }
+    fill(row, Px::CLEAR);
+    0
+}
+
+/// Paints what picks name of a group into the first of the rows, and lays that over the pixels.
 /// Where no row is left they name no leaf.
 #[cycle(choosing)]
 fn lay_seen<A: Ledger>(
@@ -127,7 +181,8 @@ fn lay_seen<A: Ledger>(
         return;
     }
     let (row, rest) = rows.split_at_mut(n);
-    fill(row, Px::CLEAR);
-    lay_picks(&inner.entries, own, y, x0, row, rest);
+    let entries: &[Entry<A>] = &inner.entries;
+    let laid = begin_row(entries, own, y, x0, row);
+    lay_picks(entries, &own[laid..], y, x0, row, rest);
     lay_row(out, row, opacity);
 }

@@ -183,6 +183,20 @@ fn lay_columns(px: Px, span: Span, x0: i32, out: &mut [Px])
     lay_px(&mut out[from..to], px);
 }
 
+/// Makes pixels from column `x0` on clear, with one pixel laid over those of them that are in the span.
+pub(crate) fn begin_columns(px: Px, span: Span, x0: i32, out: &mut [Px])
+    requires from { pos 0 ≤ℤ x0 }
+    requires within { (x0 +ℤ pos (length out.old)) ≤ℤ pos 4096 }
+    ensures { out.new ≡ piece_laid span px x0 (replicate (length out.old) clear) }
+{
+    let (from, to) = clipped(span, x0, out.len());
+    let (before, rest) = out.split_at_mut(from);
+    let (inside, after) = rest.split_at_mut(to - from);
+    fill(before, Px::CLEAR);
+    fill(inside, px);
+    fill(after, Px::CLEAR);
+}
+
 /// Is row `y` one of the rectangle's?
 pub(crate) fn has_row(r: Rect, y: i32) -> bool
     ensures { result ≡ is_among r.y r.h y }

@@ -1,6 +1,7 @@
 //! Painting entries of a list in a run of pixels.
 
-ghost use Rattle.std.specs.Prelude.{◌≡◌, ℤ, pos, ◌+◌, ◌-◌, ◌*◌, ◌≤◌, ◌+ℤ◌, ◌≤ℤ◌, ◌∷◌, [], length};
+ghost use Rattle.std.specs.Prelude.{◌≡◌, ℤ, pos, ◌+◌, ◌-◌, ◌*◌, ◌≤◌, ◌+ℤ◌, ◌≤ℤ◌, IsTrue, ◌∷◌, [], length, replicate};
+ghost use Rattle.rd_geom.specs.Colors.{clear};
 ghost use Rattle.rd_list.specs.Displayed.{shown};
 ghost use Rattle.rd_list.specs.Entries as list;
 ghost use Rattle.rd_list.specs.EntryNames.{kept_leaves};
@@ -8,7 +9,7 @@ ghost use Rattle.rd_list.specs.KeptView.{kept_entries};
 ghost use Rattle.rd_list.specs.Views.{levels, deeper};
 ghost use Rattle.rd_paint.specs.Internal.Runs.{laid_along, laid_along_group};
 
-use crate::runs::{columns, fill, has_row, lay_row, lay_row_of};
+use crate::runs::{begin_columns, columns, fill, has_row, lay_row, lay_row_of};
 use rd_geom::{Px, px_of};
 use rd_item::Item;
 use rd_list::{Entry, Kept};
@@ -89,4 +90,22 @@ pub(crate) fn lay_item<A: Ledger>(item: &Item<A>, y: i32, x0: i32, out: &mut [Px
             out,
         );
     }
+}
+
+/// Makes pixels of row `y` from column `x0` on clear, with an item laid over them, if it has no hole in that row: was it so?
+pub(crate) fn begin_item<A: Ledger>(item: &Item<A>, y: i32, x0: i32, out: &mut [Px]) -> bool
+    requires from { pos 0 ≤ℤ x0 }
+    requires within { (x0 +ℤ pos (length out.old)) ≤ℤ pos 4096 }
+    ensures { IsTrue result → out.new ≡ laid_along y x0 (list.leaf item.now.leaf list.nil) (replicate (length out.old) clear) }
+{
+    let seen = item.visible();
+    let shape = item.shape();
+    if !has_row(seen, y) {
+        return false;
+    }
+    if has_row(shape.inner, y) {
+        return false;
+    }
+    begin_columns(px_of(item.color()), columns(seen), x0, out);
+    true
 }
