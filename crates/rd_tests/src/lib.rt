@@ -9,6 +9,8 @@ mod clip;
 #[cfg(test)]
 mod edits;
 #[cfg(test)]
+mod engine;
+#[cfg(test)]
 mod generated;
 #[cfg(test)]
 mod geom;
