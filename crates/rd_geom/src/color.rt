@@ -35,10 +35,10 @@ impl Color {
 /// A pixel: a colour whose channels were multiplied by its opacity, so that none exceeds it (CSS Color 3 section 3.2).
 #[derive(Clone, Copy, PartialEq, Eq, Debug)]
 pub struct Px {
-    r: u8,
-    g: u8,
-    b: u8,
-    a: u8,
+    pub(crate) r: u8,
+    pub(crate) g: u8,
+    pub(crate) b: u8,
+    pub(crate) a: u8,
 }
 
 impl Model for Px {

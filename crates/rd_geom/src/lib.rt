@@ -3,12 +3,14 @@
 //! Nothing here takes memory, and no arithmetic wraps.
 #![tactic(auto)]
 
+mod blend;
 mod color;
 mod enclosing;
 mod rect;
 mod span;
 mod steps;
 
+pub use blend::{Blend, mix};
 pub use color::{Color, Px, mul, over, px_of, scale};
 pub use enclosing::{hull, is_within, moved_hull};
 pub use rect::{MAX_CANVAS_SIDE, MAX_REACH, Rect, Sides, Size, holds, inset, meet, meets, outset};

@@ -1,6 +1,7 @@
 -- Changes of style. What a change touches is this project's own choice.
 use Rattle.std.specs.Prelude.{Bool, ◌&&◌, ◌||◌, None, is_some, unwrap_or}
 pub use Rattle.rd_geom.specs.Colors.{black, transparent}
+use Rattle.rd_geom.specs.declared.blend.Blend.TheVariants as blend
 use Rattle.rd_style.specs.declared.styles.Style.{Style}
 use Rattle.rd_style.specs.declared.styles.StyleChange.{StyleChange}
 use Rattle.rd_style.specs.declared.kinds.Position.TheVariants as position
@@ -9,9 +10,10 @@ use Rattle.rd_style.specs.declared.kinds.Display.TheVariants as display
 use Rattle.rd_style.specs.declared.kinds.Floating.TheVariants as floating
 use Rattle.rd_style.specs.declared.kinds.Visibility.TheVariants as visibility
 use Rattle.rd_style.specs.declared.kinds.Pointer.TheVariants as pointer
+use Rattle.rd_style.specs.declared.kinds.Isolation.TheVariants as isolation
 use Rattle.rd_style.specs.Classes.{clips}
 
--- the initial values of CSS 2.2's and CSS Color 3's property tables; a border and an outline of no width, and no content
+-- the initial values of the property tables of CSS 2.2, CSS Color 3 and CSS Compositing 1; a border and an outline of no width, and no content
 abbrev pub plain : Style
 plain = record {
   position = position.Static;
@@ -28,6 +30,8 @@ plain = record {
   outline_color = black;
   visibility = visibility.Visible;
   pointer = pointer.Auto;
+  blend = blend.Normal;
+  isolation = isolation.Auto;
 }
 
 -- a style with the named members replaced
@@ -47,6 +51,8 @@ changed s c = record {
   outline_color = unwrap_or c.outline_color s.outline_color;
   visibility = unwrap_or c.visibility s.visibility;
   pointer = unwrap_or c.pointer s.pointer;
+  blend = unwrap_or c.blend s.blend;
+  isolation = unwrap_or c.isolation s.isolation;
 }
 
 -- the change that names no member
@@ -66,13 +72,16 @@ nothing_named = record {
   outline_color = None;
   visibility = None;
   pointer = None;
+  blend = None;
+  isolation = None;
 }
 
--- Is a member named from which the class, the level or the clip of the box and of those below it follow?
+-- Is a member named from which the class, the level, the group or the clip of the box and of those below it follow?
 abbrev pub names_class : StyleChange → Bool
 names_class c =
     is_some c.position || is_some c.z || is_some c.opacity
     || is_some c.overflow || is_some c.display || is_some c.float
+    || is_some c.blend || is_some c.isolation
 
 -- Is a member named at all?
 abbrev pub names_any : StyleChange → Bool

@@ -49,8 +49,15 @@ pub enum Pointer {
     Off,
 }
 
-/// How a box takes part in painting (CSS 2.2 Appendix E.2): a positioned or translucent box, a float,
-/// an inline block, a block, or an inline box.
+/// Whether a box makes a stacking context of its own accord (CSS Compositing 1 section 3.4.2).
+#[derive(Clone, Copy, PartialEq, Eq, Debug)]
+pub enum Isolation {
+    Auto,
+    Isolate,
+}
+
+/// How a box takes part in painting (CSS 2.2 Appendix E.2): a box that is positioned, translucent, blended or
+/// isolated, a float, an inline block, a block, or an inline box.
 #[derive(Clone, Copy, PartialEq, Eq, Debug)]
 pub enum Class {
     Layer,

@@ -4,8 +4,8 @@ ghost use Rattle.std.specs.Prelude.{◌≡◌};
 ghost use Rattle.rd_style.specs.Changes as changes;
 
 use crate::classes::clips;
-use crate::kinds::{Display, Floating, Overflow, Pointer, Position, Visibility};
-use rd_geom::{Color, Sides};
+use crate::kinds::{Display, Floating, Isolation, Overflow, Pointer, Position, Visibility};
+use rd_geom::{Blend, Color, Sides};
 
 /// The computed values of a box. Widths are in canvas pixels, opacity is of 8 bits, and colours are not premultiplied.
 #[derive(Clone, Copy, PartialEq, Eq, Debug)]
@@ -28,6 +28,10 @@ pub struct Style {
     pub outline_color: Color,
     pub visibility: Visibility,
     pub pointer: Pointer,
+
+    /// How what the box paints is put onto what is below it (CSS Compositing 1 section 3.4.1).
+    pub blend: Blend,
+    pub isolation: Isolation,
 }
 
 /// New values for the members that are named; None is not named.
@@ -47,6 +51,8 @@ pub struct StyleChange {
     pub outline_color: Option<Color>,
     pub visibility: Option<Visibility>,
     pub pointer: Option<Pointer>,
+    pub blend: Option<Blend>,
+    pub isolation: Option<Isolation>,
 }
 
 impl Style {
@@ -74,6 +80,8 @@ impl Style {
             outline_color: Color::BLACK,
             visibility: Visibility::Visible,
             pointer: Pointer::Auto,
+            blend: Blend::Normal,
+            isolation: Isolation::Auto,
         }
     }
 }
@@ -98,6 +106,8 @@ impl StyleChange {
             outline_color: None,
             visibility: None,
             pointer: None,
+            blend: None,
+            isolation: None,
         }
     }
 }
@@ -121,6 +131,8 @@ pub fn changed(s: &Style, c: &StyleChange) -> Style
         outline_color: c.outline_color.unwrap_or(s.outline_color),
         visibility: c.visibility.unwrap_or(s.visibility),
         pointer: c.pointer.unwrap_or(s.pointer),
+        blend: c.blend.unwrap_or(s.blend),
+        isolation: c.isolation.unwrap_or(s.isolation),
     }
 }
 
@@ -131,8 +143,8 @@ pub fn whole(s: &Style, is_root: bool, c: &StyleChange) -> bool
     names_class(c) || (c.border_width.is_some() && clips(s, is_root))
 }
 
-/// Is a member named from which the class, the level or the clips of boxes follow?
-fn names_class(c: &StyleChange) -> bool
+/// Is a member named from which the class, the level, the group or the clips of boxes follow?
+pub fn names_class(c: &StyleChange) -> bool
     ensures { result ≡ changes.names_class c.now }
 {
     c.position.is_some()
@@ -141,6 +153,8 @@ fn names_class(c: &StyleChange) -> bool
         || c.overflow.is_some()
         || c.display.is_some()
         || c.float.is_some()
+        || c.blend.is_some()
+        || c.isolation.is_some()
 }
 
 /// Is a member named at all?
