@@ -20,7 +20,7 @@ module _ {A : Type 0} where
   pub shown-append : (xs ys : List (Entry A)) → shown (xs ++ ys) ≡ shown xs ▷ shown ys
   shown-append [] ys = refl
   shown-append (kept.Leaf i ∷ xs) ys = ap (leaf i.leaf) (shown-append xs ys)
-  shown-append (kept.Group g ∷ xs) ys = ap (group (record { key = g.key; opacity = g.opacity }) (kept_leaves g.inner.entries)) (shown-append xs ys)
+  shown-append (kept.Group g ∷ xs) ys = ap (group (record { key = g.key; opacity = g.opacity; blend = g.blend }) (kept_leaves g.inner.entries)) (shown-append xs ys)
 
   -- the first entry, and the rest
   pub shown-cons : (x : Entry A) (es : List (Entry A)) → shown (x ∷ es) ≡ shown (x ∷ []) ▷ shown es

@@ -25,7 +25,7 @@ module _ {G L : Type 0} where
 pub new_entries-append : {A : Type 0} (xs ys : List (NewEntry A)) → new_entries (xs ++ ys) ≡ new_entries xs ▷ new_entries ys
 new_entries-append [] ys = refl
 new_entries-append (Leaf l ∷ xs) ys = ap (leaf l) (new_entries-append xs ys)
-new_entries-append (Group k o inner ∷ xs) ys = ap (group (record { key = k; opacity = o }) inner) (new_entries-append xs ys)
+new_entries-append (Group k o b inner ∷ xs) ys = ap (group (record { key = k; opacity = o; blend = b }) inner) (new_entries-append xs ys)
 
 -- entries put on top, of a run that is said to be the two
 pub laid-on : {A : Type 0} (bs : List (Nested Wrapper Made)) (top more new : List (NewEntry A)) → new ≡ top ++ more → laid_out (piled bs new) ≡ laid_out (piled bs top) ▷ new_entries more
@@ -56,7 +56,7 @@ laid-ended (c ∷ bs) cs b top new e h t = rw e (ap (λ zs. laid_out c ▷ zs) (
 pub some_new : {A : Type 0} (top : List (NewEntry A)) (n : ℕ) → length top ≡ n → (n == 0) ≡ false → is_empty (new_entries top) ≡ false
 some_new [] n e h = let k : true ≡ false = ap (λ m. m == 0) e ∙ h in cc
 some_new (Leaf l ∷ top) n e h = refl
-some_new (Group k o inner ∷ top) n e h = refl
+some_new (Group k o b inner ∷ top) n e h = refl
 
 -- no list is there where some list below or some entry on top is
 pub empty-below : {A : Type 0} (bs : List (Nested Wrapper Made)) (top : List (NewEntry A)) (m n : ℕ) → IsFilled (piled bs top) → length top ≡ m → (m == 0) ≡ true → length bs ≡ n → (n == 0) ≡ is_empty (laid_out (piled bs top))

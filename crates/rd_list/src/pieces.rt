@@ -8,6 +8,7 @@ ghost use Rattle.rd_list.specs.Nested.{laid_out};
 ghost use Rattle.rd_list.specs.Internal.Piled.{piled, IsFilled};
 
 use crate::fresh::{NewEntry, NewList};
+use rd_geom::Blend;
 use rd_item::Item;
 use rd_keys::BoxKey;
 use std::alloc::{AllocError, Global};
@@ -179,18 +180,20 @@ impl<A: Ledger> Pieces<A> {
         Ok(())
     }
 
-    /// Puts the group of a box on top, with its opacity (0 to 255) and its own list.
+    /// Puts the group of a box on top, with its opacity (0 to 255), its blend mode and its own list.
     pub fn push_group(
         &mut self,
         key: BoxKey,
         opacity: u8,
+        blend: Blend,
         inner: NewList<A>,
     ) -> Result<(), AllocError>
-        ensures { OnOk result (laid_out self.new ≡ laid_out self.old ▷ one_group (wrapper key opacity) inner) }
+        ensures { OnOk result (laid_out self.new ≡ laid_out self.old ▷ one_group (wrapper key opacity blend) inner) }
     {
         self.top.push(NewEntry::Group {
             key,
             opacity,
+            blend,
             inner,
         })?;
         Ok(())

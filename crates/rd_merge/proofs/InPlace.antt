@@ -79,7 +79,7 @@ module _ {A : Type 0} where
   set_with (kept.Leaf m ∷ es) zero x h = first-join x es
   set_with (kept.Group g ∷ es) zero x h = first-join x es
   set_with (kept.Leaf m ∷ es) (suc i) x h = ap (leaf m) (set_with es i x (omega arith))
-  set_with (kept.Group g ∷ es) (suc i) x h = ap (group (record { of = record { key = g.key; opacity = g.opacity }; graph = g.inner.graph }) g.inner.entries) (set_with es i x (omega arith))
+  set_with (kept.Group g ∷ es) (suc i) x h = ap (group (record { of = record { key = g.key; opacity = g.opacity; blend = g.blend }; graph = g.inner.graph }) g.inner.entries) (set_with es i x (omega arith))
 
   pub put_at : (es fs ms : List (Entry A)) (place : Option ℕ) (i : ℕ) (x : Entry A) → place ≡ Some i → i < length es → fs ≡ set es i x → kept_entries fs ▷ kept_entries ms ≡ put_entry place (kept_entries (x ∷ [])) (kept_entries es ▷ kept_entries ms)
   put_at es fs ms place i x is h e =
@@ -168,7 +168,7 @@ module _ {A : Type 0} where
   no_leaf_there (kept.Leaf n ∷ es) (suc i) x m h e f = no_leaf_there es i x m h e f
   no_leaf_there (kept.Group g ∷ es) (suc i) x m h e f = no_leaf_there es i x m h e f
 
-  pub named_there : (es : List (Entry A)) (i : ℕ) (x : Entry A) (g : Group A) → i < length es → x ≡ get_or es i x → x ≡ kept.Group g → wrapper_at i (kept_entries es) ≡ Some (wrapper g.key g.opacity)
+  pub named_there : (es : List (Entry A)) (i : ℕ) (x : Entry A) (g : Group A) → i < length es → x ≡ get_or es i x → x ≡ kept.Group g → wrapper_at i (kept_entries es) ≡ Some (wrapper g.key g.opacity g.blend)
   named_there [] i x g h e f = absurd (omega arith)
   named_there (y ∷ es) zero x g h e f = ap (λ z. wrapper_at 0 (kept_entries (z ∷ es))) (sym e ∙ f)
   named_there (kept.Leaf n ∷ es) (suc i) x g h e f = named_there es i x g (omega arith) e f

@@ -89,7 +89,7 @@ module _ (touched : BoxKey → Bool) (xs : Olds) where
 
   pub leaf_step : {A : Type 0} (x : NewEntry A) (m : Made) (place : Option ℕ) → x ≡ new.Leaf m → place ∷ [] ≡ map (λ k. place_in touched xs k) (new_names (new_entries (x ∷ []))) → NewSteps touched xs (new_entries (x ∷ [])) (leaf place nil)
   leaf_step (new.Leaf m) n place e h = (let same : place ∷ [] ≡ place_in touched xs (entry_names.leaf m.leaf) ∷ [] = h in cc, tt)
-  leaf_step (new.Group k o inner) n place e h = absurd (cc)
+  leaf_step (new.Group k o b inner) n place e h = absurd (cc)
 
   adds_join : {A : Type 0} (fs bs : News) (old now then : List (Step A)) → AddsSteps touched xs fs old now → AddsSteps touched xs bs now then → AddsSteps touched xs (fs ▷ bs) old then
   adds_join fs bs old now then a b = (
@@ -115,11 +115,11 @@ module _ (touched : BoxKey → Bool) (xs : Olds) where
 
   first_fit : {A : Type 0} (y : NewEntry A) (es : List (NewEntry A)) → EntriesFit touched xs (new_entries (y ∷ es)) → EntriesFit touched xs (new_entries (y ∷ []))
   first_fit (new.Leaf m) es h = tt
-  first_fit (new.Group k o inner) es h = (h.0, tt)
+  first_fit (new.Group k o b inner) es h = (h.0, tt)
 
   later_fit : {A : Type 0} (y : NewEntry A) (es : List (NewEntry A)) → EntriesFit touched xs (new_entries (y ∷ es)) → EntriesFit touched xs (new_entries es)
   later_fit (new.Leaf m) es h = h
-  later_fit (new.Group k o inner) es h = h.1
+  later_fit (new.Group k o b inner) es h = h.1
 
   pub fit_at : {A : Type 0} (es : List (NewEntry A)) (i : ℕ) (x : NewEntry A) → i < length es → x ≡ get_or es i x → EntriesFit touched xs (new_entries es) → EntriesFit touched xs (new_entries (x ∷ []))
   fit_at [] i x h is f = absurd (omega (arith, h))
@@ -132,9 +132,9 @@ module _ (touched : BoxKey → Bool) (xs : Olds) where
   place_one : {A : Type 0} (es : List (NewEntry A)) (i : ℕ) (x : NewEntry A) (d : Option ℕ) → i < length es → x ≡ get_or es i x → get_or (places (new_names (new_entries es))) i d ∷ [] ≡ places (new_names (new_entries (x ∷ [])))
   place_one [] i x d h is = absurd (omega (arith, h))
   place_one {A} (new.Leaf m ∷ es) zero x d h is = ap (λ (z : NewEntry A). places (new_names (new_entries (z ∷ [])))) (sym is)
-  place_one {A} (new.Group k o inner ∷ es) zero x d h is = ap (λ (z : NewEntry A). places (new_names (new_entries (z ∷ [])))) (sym is)
+  place_one {A} (new.Group k o b inner ∷ es) zero x d h is = ap (λ (z : NewEntry A). places (new_names (new_entries (z ∷ [])))) (sym is)
   place_one (new.Leaf m ∷ es) (suc i) x d h is = place_one es i x d (omega (arith, h)) is
-  place_one (new.Group k o inner ∷ es) (suc i) x d h is = place_one es i x d (omega (arith, h)) is
+  place_one (new.Group k o b inner ∷ es) (suc i) x d h is = place_one es i x d (omega (arith, h)) is
 
   pub place_here : {A : Type 0} (es : List (NewEntry A)) (i : ℕ) (x : NewEntry A) (d : Option ℕ) (found : List (Option ℕ)) → i < length es → x ≡ get_or es i x → found ≡ places (new_names (new_entries es))
       → get_or found i d ∷ [] ≡ places (new_names (new_entries (x ∷ [])))
@@ -143,7 +143,7 @@ module _ (touched : BoxKey → Bool) (xs : Olds) where
   names_long : {A : Type 0} (es : List (NewEntry A)) → length (places (new_names (new_entries es))) ≡ length es
   names_long [] = refl
   names_long (new.Leaf m ∷ es) = ap suc (names_long es)
-  names_long (new.Group k o inner ∷ es) = ap suc (names_long es)
+  names_long (new.Group k o b inner ∷ es) = ap suc (names_long es)
 
   pub found_long : {A : Type 0} (es : List (NewEntry A)) (i : ℕ) (found : List (Option ℕ)) → i < length es → found ≡ places (new_names (new_entries es)) → i < length found
   found_long es i found h e = let l = ap length e in let n = names_long es in omega (arith, h, l, n)
@@ -178,7 +178,7 @@ module _ (touched : BoxKey → Bool) (xs : Olds) where
   named_all : {A : Type 0} (es : List (NewEntry A)) → length (new_names (new_entries es)) ≡ length es
   named_all [] = refl
   named_all (new.Leaf m ∷ es) = ap suc (named_all es)
-  named_all (new.Group k o inner ∷ es) = ap suc (named_all es)
+  named_all (new.Group k o b inner ∷ es) = ap suc (named_all es)
 
   module _ {A B : Type 0} (rs : List (Vec (NewEntry A) B)) (i : ℕ) (r : Vec (NewEntry A) B) (there : i < length rs) (is : r ≡ get_or rs i r) where
     pub run_fits : (es : List (NewEntry A)) → es ≡ r.items → EntriesFit touched xs (in_runs rs) → EntriesFit touched xs (new_entries es)
@@ -228,11 +228,11 @@ module _ (touched : BoxKey → Bool) (xs : Olds) where
 
 first_size : {A : Type 0} (x : NewEntry A) (es : List (NewEntry A)) → list_size (new_entries (x ∷ [])) ≤ list_size (new_entries (x ∷ es))
 first_size (new.Leaf m) es = omega arith
-first_size (new.Group k o inner) es = omega arith
+first_size (new.Group k o b inner) es = omega arith
 
 rest_size : {A : Type 0} (x : NewEntry A) (es : List (NewEntry A)) → list_size (new_entries es) ≤ list_size (new_entries (x ∷ es))
 rest_size (new.Leaf m) es = omega arith
-rest_size (new.Group k o inner) es = omega arith
+rest_size (new.Group k o b inner) es = omega arith
 
 pub new_size_at : {A : Type 0} (es : List (NewEntry A)) (i : ℕ) (x : NewEntry A) → i < length es → x ≡ get_or es i x → list_size (new_entries (x ∷ [])) ≤ list_size (new_entries es)
 new_size_at [] i x h e = absurd (omega (arith, h))

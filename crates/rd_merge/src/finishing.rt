@@ -132,6 +132,7 @@ fn finish_group<A: Ledger>(
     Entry::Group(Group {
         key: group.key,
         opacity: group.opacity,
+        blend: group.blend,
         inner,
     })
 }

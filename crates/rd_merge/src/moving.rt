@@ -10,6 +10,7 @@ ghost use Rattle.rd_merge.specs.Plans.{arranged_entries, IsPlace, one_made, put_
 ghost use Rattle.rd_merge.specs.Internal.Moving.{NoneMade, PutsAt};
 ghost use Rattle.rd_merge.specs.Internal.PlanRoom.{HasLineRoom};
 
+use rd_geom::Blend;
 use rd_graph::{Run, gather_rising, has_room_aside, is_all_made, is_rising};
 use rd_item::Item;
 use rd_list::{Entry, Group, Kept};
@@ -30,6 +31,7 @@ pub(crate) fn take_at<A: Ledger>(alloc: Global, entries: &mut Vec<Entry<A>>, i: 
     let hole = Entry::Group(Group {
         key,
         opacity: 0,
+        blend: Blend::Normal,
         inner: Kept::empty(alloc),
     });
     mem::replace(&mut entries[i], hole)

@@ -12,6 +12,7 @@ ghost use Rattle.rd_merge.specs.Internal.Untaken.{untaken};
 
 use crate::moving::take_at;
 use crate::taking::NewEntries;
+use rd_geom::Blend;
 use rd_item::Item;
 use rd_keys::BoxKey;
 use rd_list::{Entry, Group, Kept, NewEntry, NewList};
@@ -23,6 +24,7 @@ use std::sync::ledger::Ledger;
 struct NewGroup<A: Ledger> {
     key: BoxKey,
     opacity: u8,
+    blend: Blend,
     inner: NewList<A>,
 }
 
@@ -31,6 +33,7 @@ struct NewGroup<A: Ledger> {
 pub(crate) struct Opened<A: Ledger> {
     pub(crate) key: BoxKey,
     pub(crate) opacity: u8,
+    pub(crate) blend: Blend,
     pub(crate) kept: Kept<A>,
     pub(crate) new: NewList<A>,
 }
@@ -77,7 +80,7 @@ pub(crate) fn push_next<A: Ledger>(made: &mut Vec<Entry<A>>, fresh: &mut NewEntr
 fn next_group<A: Ledger>(fresh: &mut NewEntries<A>) -> NewGroup<A>
     requires { is_some (first_wrapper (untaken fresh.old)) ≡ true }
     ensures named { first_wrapper (untaken fresh.old)
-        ≡ Some (wrapper result.key result.opacity) }
+        ≡ Some (wrapper result.key result.opacity result.blend) }
     ensures inner { result.inner ≡ first_list (untaken fresh.old) }
     ensures left { untaken fresh.new ≡ later (untaken fresh.old) }
 {
@@ -88,11 +91,13 @@ fn next_group<A: Ledger>(fresh: &mut NewEntries<A>) -> NewGroup<A>
             NewEntry::Group {
                 key,
                 opacity,
+                blend,
                 inner,
             },
         ) => NewGroup {
             key,
             opacity,
+            blend,
             inner,
         },
         None => unreachable!(),
@@ -102,7 +107,7 @@ fn next_group<A: Ledger>(fresh: &mut NewEntries<A>) -> NewGroup<A>
 /// The group at a place, taken out of it.
 fn take_group<A: Ledger>(alloc: Global, entries: &mut Vec<Entry<A>>, place: usize) -> Group<A>
     requires { is_some (group_at place (kept_entries entries.old.items)) ≡ true }
-    ensures named { wrapper_at place (kept_entries entries.old.items) ≡ Some (wrapper result.key result.opacity) }
+    ensures named { wrapper_at place (kept_entries entries.old.items) ≡ Some (wrapper result.key result.opacity result.blend) }
     ensures inner { group_at place (kept_entries entries.old.items) ≡ Some result.inner }
     ensures others { IsSameBut (Some place) (kept_entries entries.old.items) (kept_entries entries.new.items) }
     ensures rest { ChangesAt (Some place) entries.old.items entries.new.items }
@@ -125,7 +130,7 @@ pub(crate) fn open<A: Ledger>(
     requires group { IsGroupPlace old (kept_entries entries.old.items) }
     requires named { IsNamed is_new old (untaken fresh.old) }
     ensures named { wrapper_for is_new old (kept_entries entries.old.items) (untaken fresh.old)
-        ≡ Some (wrapper result.key result.opacity) }
+        ≡ Some (wrapper result.key result.opacity result.blend) }
     ensures kept { result.kept ≡ old_list old (kept_entries entries.old.items) }
     ensures new { result.new ≡ list_for is_new (untaken fresh.old) }
     ensures left { untaken fresh.new
@@ -138,11 +143,13 @@ pub(crate) fn open<A: Ledger>(
         let NewGroup {
             key,
             opacity,
+            blend,
             inner,
         } = next_group(fresh);
         return Opened {
             key,
             opacity,
+            blend,
             kept: Kept::empty(alloc),
             new: inner,
         };
@@ -152,11 +159,13 @@ pub(crate) fn open<A: Ledger>(
         let NewGroup {
             key,
             opacity,
+            blend,
             inner,
         } = next_group(fresh);
         return Opened {
             key,
             opacity,
+            blend,
             kept: group.inner,
             new: inner,
         };
@@ -164,6 +173,7 @@ pub(crate) fn open<A: Ledger>(
     Opened {
         key: group.key,
         opacity: group.opacity,
+        blend: group.blend,
         kept: group.inner,
         new: NewList::empty(alloc),
     }

@@ -17,6 +17,7 @@ ghost use Rattle.rd_merge.specs.Internal.Planning.{EntriesFit, GroupFits, Groups
 use crate::going::Touches;
 use crate::looking::look;
 use crate::plan::{Plan, Step};
+use rd_geom::Blend;
 use rd_graph::{Patch, count_aside, count_of};
 use rd_keys::BoxKey;
 use rd_list::{Block, Entry, Kept, NewEntry, NewList, new_keys};
@@ -203,9 +204,10 @@ fn push_step<A: Ledger, T: Touches>(
         NewEntry::Group {
             key,
             opacity,
+            blend,
             inner,
         } => {
-            let step = plan_group_step(alloc, kept, *key, *opacity, inner, place, tree)?;
+            let step = plan_group_step(alloc, kept, *key, *opacity, *blend, inner, place, tree)?;
             *groups = groups.saturating_add(1);
             steps.push(step)?;
         }
@@ -221,15 +223,16 @@ fn plan_group_step<A: Ledger, T: Touches>(
     kept: &Kept<A>,
     key: BoxKey,
     opacity: u8,
+    blend: Blend,
     inner: &NewList<A>,
     place: Option<usize>,
     tree: &T,
 ) -> Result<Step<A>, AllocError>
-    requires fit { EntriesFit (T.is_touched tree.now) kept.now.entries (list.group (wrapper key opacity) inner.now list.nil) }
+    requires fit { EntriesFit (T.is_touched tree.now) kept.now.entries (list.group (wrapper key opacity blend) inner.now list.nil) }
     requires place { place ∷ [] ≡ map (λ k. place_in (T.is_touched tree.now) kept.now.entries k)
-        (new_names (list.group (wrapper key opacity) inner.now list.nil)) }
+        (new_names (list.group (wrapper key opacity blend) inner.now list.nil)) }
     ensures { IfOk result (λ s. NewSteps (T.is_touched tree.now) kept.now.entries
-        (list.group (wrapper key opacity) inner.now list.nil) (steps_seen (s ∷ []))) }
+        (list.group (wrapper key opacity blend) inner.now list.nil) (steps_seen (s ∷ []))) }
 {
     let plan = Box::new(alloc, plan_new_group(alloc, kept, place, inner, tree)?)?;
     Ok(Step::Group {

@@ -4,7 +4,9 @@ use Rattle.std.specs.Prelude.{int_le, int_lt}
 use Rattle.std.proofs.lemmas.Bool.{leb-true, ltb-true}
 use Rattle.rd_geom.specs.Areas.{in_span}
 use Rattle.rd_geom.specs.Colors.{Premultiplied, clear, laid_over, scaled}
+use Rattle.rd_geom.specs.declared.blend.Blend.TheVariants.{Normal}
 use Rattle.rd_geom.specs.declared.span.Span.{Span}
+use Rattle.rd_geom.proofs.Mixing.{nothing_blended}
 use Rattle.rd_item.specs.declared.leaf.Leaf.{Leaf}
 use Rattle.rd_item.specs.Leaves.{covers}
 use Rattle.rd_list.specs.Wrappers.{Wrapper}
@@ -13,7 +15,7 @@ use Rattle.rd_list.specs.Lists.{composed}
 use Rattle.rd_paint.specs.Pictures.{Picture}
 use Rattle.rd_paint.specs.Internal.Blocks.{IsBlockChanged, group_over, over_leaf}
 use Rattle.rd_paint.proofs.Changing.{block_same, laid_nil}
-use Rattle.rd_paint.proofs.Depths.{over_clear, scaled_clear}
+use Rattle.rd_paint.proofs.Depths.{over_clear}
 use Rattle.rd_paint.proofs.Repainting.{and_left, and_right, span_test}
 
 -- a block that a leaf covers no pixel of
@@ -34,14 +36,14 @@ uncovered q l s y0 y1 a b c ea eb none = block_same (λ x y p. p) (over_leaf q l
 -- a leaf on its own in a group is its pixel with the opacity of the group
 alone : (t : Bool) (q p : Premultiplied) (opacity : ℕ) → cond t (laid_over (scaled q opacity) p) p ≡ laid_over (scaled (cond t (laid_over q clear) clear) opacity) p
 alone true q p opacity = ap (λ z. laid_over (scaled z opacity) p) (sym (over_clear q))
-alone false q p opacity = sym (scaled_clear opacity p)
+alone false q p opacity = sym (nothing_blended Normal opacity p)
 
--- such a leaf laid over a block
+-- such a leaf laid over a block, where the group is of normal mode
 pub leaf_alone : (l : Leaf) (q z : Premultiplied) (opacity : ℕ) (es : Entries Wrapper Leaf) (s : Span) (y0 y1 : ℕ) (old new : Picture) → es ≡ leaf l nil → q ≡ scaled z opacity
     → ((x y : ℤ) (d : Premultiplied) → composed x y d (leaf l nil) ≡ cond (covers l x y) (laid_over z d) d)
-    → IsBlockChanged (over_leaf q l) s y0 y1 old new → IsBlockChanged (group_over opacity es) s y0 y1 old new
+    → IsBlockChanged (over_leaf q l) s y0 y1 old new → IsBlockChanged (group_over Normal opacity es) s y0 y1 old new
 leaf_alone l q z opacity es s y0 y1 old new e c own h =
-    block_same (over_leaf q l) (group_over opacity es) s y0 y1 old new
+    block_same (over_leaf q l) (group_over Normal opacity es) s y0 y1 old new
     (λ x row p t.
     ap (λ w. cond (covers l (pos x) (pos row)) (laid_over w p) p) c ∙ alone (covers l (pos x) (pos row)) z p opacity
     ∙ ap (λ w. laid_over (scaled w opacity) p) (sym (own (pos x) (pos row) clear) ∙ ap (composed (pos x) (pos row) clear) (sym e))) h

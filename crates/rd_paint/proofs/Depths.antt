@@ -2,8 +2,10 @@
 use Rattle.std.proofs.Common.{◌≡◌, List, [], ◌∷◌, length, ℕ, ◌<◌, ◌≤◌, ◌+◌, ◌*◌, ◌-◌, suc, zero, arith, get_or, drop, refl, ap, ◌∙◌, inl, inr, ℤ}
 use Rattle.std.proofs.Math.Nat.{mul-le-mul_left, mul-le-mul_right}
 use Rattle.std.proofs.lemmas.Bool.{cases_lt, lt-ltb, le-ltb}
+use Rattle.rd_geom.specs.Blends.{blended}
 use Rattle.rd_geom.specs.Colors.{Premultiplied, laid_over, scaled, clear, times}
-use Rattle.rd_geom.proofs.Products.{times_none, times_by_whole}
+use Rattle.rd_geom.proofs.Mixing.{nothing_blended}
+use Rattle.rd_geom.proofs.Products.{times_none}
 use Rattle.rd_item.specs.declared.leaf.Leaf as item
 use Rattle.rd_item.specs.Items.{Made}
 use Rattle.rd_keys.specs.declared.entry.EntryKey.{EntryKey}
@@ -96,15 +98,6 @@ levels_by xs ys e = rw e (omega arith)
 abbrev px : ℕ → ℕ → ℕ → ℕ → Premultiplied
 px r g b a = record { r = r; g = g; b = b; a = a }
 
-abbrev over_scaled : ℕ → ℕ → ℕ
-over_scaled k n = times 0 k + times n (255 - times 0 k)
-
-over_none : (s d : ℕ) → s ≡ 0 → s + times d (255 - s) ≡ d
-over_none s d e = rw e (omega (arith, times_by_whole d))
-
-none_over : (k d : ℕ) → over_scaled k d ≡ d
-none_over k d = over_none (times 0 k) d (times_none k)
-
 clear_under : (n k : ℕ) → n + times 0 k ≡ n
 clear_under n k = rw (times_none k) (omega arith)
 
@@ -115,12 +108,6 @@ over_clear q =
     ap (λ n. px n (q.g + times 0 k) (q.b + times 0 k) (q.a + times 0 k)) (clear_under q.r k) ∙ ap (λ n. px q.r n (q.b + times 0 k) (q.a + times 0 k)) (clear_under q.g k)
     ∙ ap (λ n. px q.r q.g n (q.a + times 0 k)) (clear_under q.b k) ∙ ap (λ n. px q.r q.g q.b n) (clear_under q.a k)
 
--- a group of nothing
-pub scaled_clear : (k : ℕ) (d : Premultiplied) → laid_over (scaled clear k) d ≡ d
-scaled_clear k d =
-    ap (λ n. px n (over_scaled k d.g) (over_scaled k d.b) (over_scaled k d.a)) (none_over k d.r) ∙ ap (λ n. px d.r n (over_scaled k d.b) (over_scaled k d.a)) (none_over k d.g)
-    ∙ ap (λ n. px d.r d.g n (over_scaled k d.a)) (none_over k d.b) ∙ ap (λ n. px d.r d.g d.b n) (none_over k d.a)
-
 -- a list without a leaf shows nothing
 pub nothing_shown : (x y : ℤ) (d : Premultiplied) (xs : Entries Wrapper item.Leaf) → levels xs ≡ 0 → composed x y d xs ≡ d
 nothing_shown x y d nil h = refl
@@ -128,7 +115,7 @@ nothing_shown x y d (leaf m xs) h = let n = (none_below 1 (levels xs) h).0 in ab
 nothing_shown x y d (group g inner xs) h =
     let n = none_below (deeper (levels inner)) (levels xs) h in
     let own = nothing_shown x y clear inner (no_deeper (levels inner) n.0) in
-    ap (λ p. composed x y p xs) (ap (λ q. laid_over (scaled q g.opacity) d) own ∙ scaled_clear g.opacity d) ∙ nothing_shown x y d xs n.1
+    ap (λ p. composed x y p xs) (ap (λ q. blended g.blend (scaled q g.opacity) d) own ∙ nothing_blended g.blend g.opacity d) ∙ nothing_shown x y d xs n.1
 
 pub levels-leaves : (xs : Entries (Ordered EntryKey Wrapper) Made) → levels (kept_leaves xs) ≡ levels xs
 levels-leaves nil = refl

@@ -4,10 +4,13 @@ use Rattle.std.specs.Prelude.{int_le, int_lt, Option, Some, None, IfSome}
 use Rattle.std.proofs.lemmas.Int.{ints}
 use Rattle.std.proofs.lemmas.List.{drop_all, same_lists, length-take-le, length-append, length-drop, get_or-take, get_or-drop, get_or_append_left, get_or-append_right}
 use Rattle.std.proofs.lemmas.Bool.{cases_lt, le-leb, lt-leb, lt-ltb, le-ltb}
-use Rattle.rd_geom.specs.Colors.{Premultiplied, laid_over, scaled, clear}
+use Rattle.rd_geom.specs.Blends.{blended}
+use Rattle.rd_geom.specs.Colors.{Premultiplied, scaled, clear}
 use Rattle.rd_geom.specs.Areas.{in_span}
 use Rattle.rd_geom.specs.Plane.{holds_pixel, is_among, right}
+use Rattle.rd_geom.specs.declared.blend.Blend.{Blend}
 use Rattle.rd_geom.specs.declared.span.Span.{Span}
+use Rattle.rd_geom.proofs.Mixing.{nothing_blended}
 use Rattle.rd_item.specs.declared.leaf.Leaf as item
 use Rattle.rd_item.specs.Leaves.{covers}
 use Rattle.rd_list.specs.Entries.{Entries, nil, leaf, ◌▷◌}
@@ -17,7 +20,6 @@ use Rattle.rd_list.proofs.Composing.{composed-join}
 use Rattle.rd_paint.specs.Internal.Picks.{OffSpan, SameWhere, picked}
 use Rattle.rd_paint.specs.Internal.Runs.{each_at, laid_along_group}
 use Rattle.rd_paint.specs.declared.picks.Pick.{Pick}
-use Rattle.rd_paint.proofs.Depths.{scaled_clear}
 use Rattle.rd_paint.proofs.Picking.{picked-none}
 use Rattle.rd_paint.proofs.Pieces.{unshown}
 use Rattle.rd_paint.proofs.Places.{each_from-none, each_from-same, each_at-same_within, get_or-each_at, length-each_from}
@@ -97,8 +99,8 @@ inner_changed f ps mid a b h l m none = same_lists _ _ size at
         by_place k d l (cases_lt k a) (cases_lt k b) ∙ sym (get_or-each_at f ps k d l)
 
 -- a group changes nothing where its list shows nothing
-group_off : (y x : ℤ) (opacity : ℕ) (es : Entries Wrapper item.Leaf) (p : Premultiplied) → composed x y clear es ≡ clear → laid_over (scaled (composed x y clear es) opacity) p ≡ p
-group_off y x opacity es p u = ap (λ q. laid_over (scaled q opacity) p) u ∙ scaled_clear opacity p
+group_off : (y x : ℤ) (m : Blend) (opacity : ℕ) (es : Entries Wrapper item.Leaf) (p : Premultiplied) → composed x y clear es ≡ clear → blended m (scaled (composed x y clear es) opacity) p ≡ p
+group_off y x m opacity es p u = ap (λ q. blended m (scaled q opacity) p) u ∙ nothing_blended m opacity p
 
 further : (x : ℤ) (a k : ℕ) → (x +ℤ pos a) +ℤ pos k ≡ x +ℤ pos (a + k)
 further x a k = omega (arith, ints)
@@ -108,20 +110,20 @@ abbrev pub UnseenOff : ℤ → ℤ → ℕ → ℕ → ℕ → Entries Wrapper i
 UnseenOff y x n a b es = (k : ℕ) (d : Premultiplied) → k < n → (nat_le a k && nat_lt k b) ≡ false → composed (x +ℤ pos k) y d es ≡ d
 
 -- a group laid over those places alone
-pub seen_laid : (y x start : ℤ) (opacity : ℕ) (es : Entries Wrapper item.Leaf) (ps mid : List Premultiplied) (a b : ℕ) → a ≤ b → b ≤ length ps → start ≡ x +ℤ pos a
-    → UnseenOff y x (length ps) a b es → mid ≡ laid_along_group y start opacity es (take (b - a) (drop a ps))
-    → take a ps ++ (mid ++ drop (b - a) (drop a ps)) ≡ laid_along_group y x opacity es ps
-seen_laid y x start opacity es ps mid a b h l e u m =
-    inner_changed (λ k p. laid_over (scaled (composed (x +ℤ pos k) y clear es) opacity) p) ps mid a b h l
-    (m ∙ each_from-same 0 (λ k p. laid_over (scaled (composed (start +ℤ pos k) y clear es) opacity) p) (λ k p. laid_over (scaled (composed (x +ℤ pos (a + k)) y clear es) opacity) p) (take (b - a) (drop a ps))
-    (λ k p. ap (λ z. laid_over (scaled (composed z y clear es) opacity) p) (ap (λ z. z +ℤ pos k) e ∙ further x a k)))
-    (λ k p short q. group_off y (x +ℤ pos k) opacity es p (u k clear short q))
+pub seen_laid : (y x start : ℤ) (m : Blend) (opacity : ℕ) (es : Entries Wrapper item.Leaf) (ps mid : List Premultiplied) (a b : ℕ) → a ≤ b → b ≤ length ps → start ≡ x +ℤ pos a
+    → UnseenOff y x (length ps) a b es → mid ≡ laid_along_group y start m opacity es (take (b - a) (drop a ps))
+    → take a ps ++ (mid ++ drop (b - a) (drop a ps)) ≡ laid_along_group y x m opacity es ps
+seen_laid y x start m opacity es ps mid a b h l e u n =
+    inner_changed (λ k p. blended m (scaled (composed (x +ℤ pos k) y clear es) opacity) p) ps mid a b h l
+    (n ∙ each_from-same 0 (λ k p. blended m (scaled (composed (start +ℤ pos k) y clear es) opacity) p) (λ k p. blended m (scaled (composed (x +ℤ pos (a + k)) y clear es) opacity) p) (take (b - a) (drop a ps))
+    (λ k p. ap (λ z. blended m (scaled (composed z y clear es) opacity) p) (ap (λ z. z +ℤ pos k) e ∙ further x a k)))
+    (λ k p short q. group_off y (x +ℤ pos k) m opacity es p (u k clear short q))
 
 -- a group over places where nothing of it shows
-pub unseen_laid : (y x : ℤ) (opacity : ℕ) (es : Entries Wrapper item.Leaf) (ps : List Premultiplied) (a b : ℕ) → b ≤ a → UnseenOff y x (length ps) a b es → ps ≡ laid_along_group y x opacity es ps
-unseen_laid y x opacity es ps a b h u =
+pub unseen_laid : (y x : ℤ) (m : Blend) (opacity : ℕ) (es : Entries Wrapper item.Leaf) (ps : List Premultiplied) (a b : ℕ) → b ≤ a → UnseenOff y x (length ps) a b es → ps ≡ laid_along_group y x m opacity es ps
+unseen_laid y x m opacity es ps a b h u =
     sym (each_from-none 0 (λ k p. p) ps (λ k p. refl))
-    ∙ each_at-same_within (λ k p. p) (λ k p. laid_over (scaled (composed (x +ℤ pos k) y clear es) opacity) p) ps (λ k p short. sym (group_off y (x +ℤ pos k) opacity es p (u k clear short (nowhere k (cases_lt k a)))))
+    ∙ each_at-same_within (λ k p. p) (λ k p. blended m (scaled (composed (x +ℤ pos k) y clear es) opacity) p) ps (λ k p short. sym (group_off y (x +ℤ pos k) m opacity es p (u k clear short (nowhere k (cases_lt k a)))))
   where
     nowhere : (k : ℕ) → (k < a) ⊎ (a ≤ k) → (nat_le a k && nat_lt k b) ≡ false
     nowhere k (inl v) = rw (lt-leb a k v) refl

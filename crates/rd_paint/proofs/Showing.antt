@@ -3,10 +3,12 @@ use Rattle.std.proofs.Common.{◌≡◌, refl, ◌∙◌, sym, ap, ℤ, ℕ, ◌
 use Rattle.std.specs.Prelude.{int_le, int_lt, IsTrue, Option, Some, None, IfSome}
 use Rattle.std.proofs.lemmas.Int.{ints}
 use Rattle.std.proofs.lemmas.List.{drop_all}
-use Rattle.rd_geom.specs.Colors.{laid_over, scaled, clear}
+use Rattle.rd_geom.specs.Blends.{blended}
+use Rattle.rd_geom.specs.Colors.{scaled, clear}
 use Rattle.rd_geom.specs.Areas.{Region, meets_area}
 use Rattle.rd_geom.specs.Plane.{Rectangle, holds_pixel, is_among}
 use Rattle.rd_geom.specs.declared.span.Span.{Span}
+use Rattle.rd_geom.proofs.Mixing.{nothing_blended}
 use Rattle.rd_geom.proofs.Areas.{shares-meets_area}
 use Rattle.rd_item.specs.declared.leaf.Leaf as item
 use Rattle.rd_list.specs.Entries.{Entries, nil, leaf, group, ◌▷◌}
@@ -16,7 +18,7 @@ use Rattle.rd_list.proofs.Composing.{composed-join}
 use Rattle.rd_list.proofs.Joins.{join_assoc, join-nil}
 use Rattle.rd_paint.specs.Internal.Picks.{InArea, InRows, InSpans, IsClosed, SameWhere, ServesWhere, ShowsFor, picked}
 use Rattle.rd_paint.specs.declared.picks.Pick.{Pick}
-use Rattle.rd_paint.proofs.Depths.{scaled_clear, join_has, join_up, group_up, levels_by}
+use Rattle.rd_paint.proofs.Depths.{join_has, join_up, group_up, levels_by}
 use Rattle.rd_paint.proofs.Picking.{picked-none, picked_one, closed_append, put_taken, entry_at-leaf, entry_at-group}
 use Rattle.rd_paint.proofs.Pieces.{unshown}
 
@@ -34,10 +36,10 @@ module _ (p : ℤ → ℤ → Type 0) where
   same_join es bs cs ds s t x y d h = composed-join x y d es cs ∙ ap (λ q. composed x y q cs) (s x y d h) ∙ t x y (composed x y d bs) h ∙ sym (composed-join x y d bs ds)
 
   pub same_group : (w : Wrapper) (xs ys : Entries Wrapper item.Leaf) → SameWhere p xs ys → SameWhere p (group w xs nil) (group w ys nil)
-  same_group w xs ys s x y d h = ap (λ q. laid_over (scaled q w.opacity) d) (s x y clear h)
+  same_group w xs ys s x y d h = ap (λ q. blended w.blend (scaled q w.opacity) d) (s x y clear h)
 
   pub group_unseen : (w : Wrapper) (ys : Entries Wrapper item.Leaf) → SameWhere p nil ys → SameWhere p nil (group w ys nil)
-  group_unseen w ys s x y d h = sym (scaled_clear w.opacity d) ∙ ap (λ q. laid_over (scaled q w.opacity) d) (s x y clear h)
+  group_unseen w ys s x y d h = sym (nothing_blended w.blend w.opacity d) ∙ ap (λ q. blended w.blend (scaled q w.opacity) d) (s x y clear h)
 
   pub serves_by : (es fs : Entries Wrapper item.Leaf) → es ≡ fs → ServesWhere p es fs
   serves_by es fs e = (same_by es fs e, levels_by es fs e)

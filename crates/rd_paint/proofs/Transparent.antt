@@ -1,7 +1,9 @@
 -- What is transparent shows nothing: leaves of no opacity, and groups of none.
 use Rattle.std.proofs.Common.{◌≡◌, ℕ, zero, suc, ◌==◌, ℤ, Bool, true, false, IsTrue, cond, refl, sym, ap, ◌∙◌, rules}
+use Rattle.rd_geom.specs.Blends.{blended}
 use Rattle.rd_geom.specs.Colors.{Premultiplied, premultiplied, laid_over, scaled, clear, times}
 use Rattle.rd_geom.specs.declared.color.Color.{Color}
+use Rattle.rd_geom.proofs.Mixing.{clear_blended, clear_over, scaled_none}
 use Rattle.rd_geom.proofs.Products.{times_by_none}
 use Rattle.rd_item.specs.declared.leaf.Leaf as item
 use Rattle.rd_item.specs.Leaves.{covers}
@@ -9,7 +11,6 @@ use Rattle.rd_list.specs.Entries.{Entries, nil, leaf, group}
 use Rattle.rd_list.specs.Lists.{composed}
 use Rattle.rd_list.specs.Wrappers.{Wrapper}
 use Rattle.rd_paint.specs.Internal.Picks.{SameWhere}
-use Rattle.rd_paint.proofs.Depths.{scaled_clear}
 
 abbrev px : ℕ → ℕ → ℕ → ℕ → Premultiplied
 px r g b a = record { r = r; g = g; b = b; a = a }
@@ -22,12 +23,8 @@ none_of r g b = ap (λ n. px n (times g 0) (times b 0) 0) (times_by_none r) ∙ 
 premultiplied_none : (c : Color) → c.a ≡ 0 → premultiplied c ≡ clear
 premultiplied_none c e = ap (λ k. px (times c.r k) (times c.g k) (times c.b k) k) e ∙ none_of c.r c.g c.b
 
--- a pixel at no opacity
-scaled_none : (q : Premultiplied) → scaled q 0 ≡ clear
-scaled_none q = ap (λ n. px (times q.r 0) (times q.g 0) (times q.b 0) n) (times_by_none q.a) ∙ none_of q.r q.g q.b
-
 clear_laid : (t : Bool) (q d : Premultiplied) → q ≡ clear → cond t (laid_over q d) d ≡ d
-clear_laid true q d e = ap (λ z. laid_over z d) e ∙ scaled_clear 0 d
+clear_laid true q d e = ap (λ z. laid_over z d) e ∙ clear_over d
 clear_laid false q d e = refl
 
 none_if : (n : ℕ) → IsTrue (n == 0) → n ≡ 0
@@ -41,4 +38,4 @@ module _ (p : ℤ → ℤ → Type 0) where
 
   -- a group of no opacity shows nothing
   pub group_clear : (w : Wrapper) (inner : Entries Wrapper item.Leaf) → IsTrue (w.opacity == 0) → SameWhere p nil (group w inner nil)
-  group_clear w inner e x y d h = sym (clear_laid true (scaled (composed x y clear inner) w.opacity) d (ap (scaled (composed x y clear inner)) (none_if w.opacity e) ∙ scaled_none (composed x y clear inner)))
+  group_clear w inner e x y d h = sym (ap (λ q. blended w.blend q d) (ap (scaled (composed x y clear inner)) (none_if w.opacity e) ∙ scaled_none (composed x y clear inner)) ∙ clear_blended w.blend d)

@@ -2,6 +2,7 @@
 
 ghost use Rattle.std.specs.Prelude.{◌≡◌, ℕ, pos, ◌+◌, ◌-◌, ◌*◌, ◌≤◌, ◌<◌, ◌+ℤ◌, ◌≤ℤ◌, ◌∷◌, [], IfSome, IsTrue, List, false, length, unsigned_abs};
 ghost use Rattle.rd_geom.specs.Colors.{white};
+ghost use Rattle.rd_geom.specs.declared.blend.Blend.TheVariants as mode;
 ghost use Rattle.rd_item.specs.Leaves.{covers};
 ghost use Rattle.rd_list.specs.Displayed.{shown};
 ghost use Rattle.rd_list.specs.Entries as list;
@@ -17,7 +18,7 @@ use crate::covering::is_beside;
 use crate::narrowing::has_rows;
 use crate::picks::{Pick, pick_at};
 use crate::runs::{clipped, columns, fill, lay_around, rows_of};
-use rd_geom::{Px, Rect, Span, px_of, scale};
+use rd_geom::{Blend, Px, Rect, Span, px_of, scale};
 use rd_item::Item;
 use rd_list::{Entry, Kept};
 use std::sync::ledger::Ledger;
@@ -130,6 +131,7 @@ fn lay_pick_in<A: Ledger>(
         Entry::Leaf(item) => lay_leaf_in(canvas, item, span, y0, y1),
         Entry::Group(group) => lay_inner_in(
             canvas,
+            group.blend,
             group.opacity,
             &group.inner,
             own,
@@ -141,9 +143,11 @@ fn lay_pick_in<A: Ledger>(
     }
 }
 
-/// Lays what picks name of a group over the pixels of the block. A leaf alone needs no row of its own.
+/// Puts what picks name of a group onto the pixels of the block by its blend mode. Where that is normal, a leaf alone needs no row of
+/// its own.
 fn lay_inner_in<A: Ledger>(
     canvas: &mut Canvas,
+    blend: Blend,
     opacity: u8,
     inner: &Kept<A>,
     own: &[Pick],
@@ -161,17 +165,33 @@ fn lay_inner_in<A: Ledger>(
     requires within { span.x1 ≤ℤ pos canvas.old.width }
     requires rows { canvas.old.width * (deeper (levels (picked own.now (kept_leaves inner.now.entries))) - 1)
         ≤ length rows.old }
-    ensures { IsBlockChanged (group_over opacity (picked own.now (kept_leaves inner.now.entries)))
+    ensures { IsBlockChanged (group_over blend opacity (picked own.now (kept_leaves inner.now.entries)))
         span y0 y1 canvas.old canvas.new }
 {
-    match only_leaf(inner, own) {
+    match laid_at_once(blend, inner, own) {
         Some(item) => {
             if !is_off(item, span, y0, y1) {
                 let px = scale(px_of(item.color()), opacity);
                 lay_item_in(canvas, item, px, span, y0, y1);
             }
         }
-        None => lay_group_in(canvas, opacity, inner, own, span, y0, y1, rows),
+        None => lay_group_in(canvas, blend, opacity, inner, own, span, y0, y1, rows),
+    }
+}
+
+/// The leaf that picks name of a group of normal mode, where they name nothing else: with the opacity of the group it is laid over the
+/// pixels as it is.
+fn laid_at_once<'a, A: Ledger>(
+    blend: Blend,
+    inner: &'a Kept<A>,
+    own: &[Pick],
+) -> Option<&'a Item<A>>
+    ensures normal { IfSome result (λ i. blend ≡ mode.Normal) }
+    ensures leaf { IfSome result (λ i. picked own.now (kept_leaves inner.now.entries) ≡ list.leaf i.now.leaf list.nil) }
+{
+    match blend {
+        Blend::Normal => only_leaf(inner, own),
+        _ => None,
     }
 }
 
@@ -210,6 +230,7 @@ fn leaf_of<A: Ledger>(entry: &Entry<A>) -> Option<&Item<A>>
 /// Lays what picks name of a group over the pixels of a row of the span.
 fn lay_group_row<A: Ledger>(
     canvas: &mut Canvas,
+    blend: Blend,
     opacity: u8,
     inner: &Kept<A>,
     own: &[Pick],
@@ -225,17 +246,18 @@ fn lay_group_row<A: Ledger>(
     requires within { span.x1 ≤ℤ pos canvas.old.width }
     requires rows { canvas.old.width * (deeper (levels (picked own.now (kept_leaves inner.now.entries))) - 1)
         ≤ length rows.old }
-    ensures { IsBlockChanged (group_over opacity (picked own.now (kept_leaves inner.now.entries)))
+    ensures { IsBlockChanged (group_over blend opacity (picked own.now (kept_leaves inner.now.entries)))
         span row (row + 1) canvas.old canvas.new }
 {
     let y = row as i32;
     let out = canvas.span_mut(y, span.x0, span.x1);
-    lay_own(opacity, inner, own, y, span.x0, out, rows);
+    lay_own(blend, opacity, inner, own, y, span.x0, out, rows);
 }
 
 /// Lays what picks name of a group over the pixels of the block, a row at a time.
 fn lay_group_in<A: Ledger>(
     canvas: &mut Canvas,
+    blend: Blend,
     opacity: u8,
     inner: &Kept<A>,
     own: &[Pick],
@@ -253,11 +275,11 @@ fn lay_group_in<A: Ledger>(
     requires within { span.x1 ≤ℤ pos canvas.old.width }
     requires rows { canvas.old.width * (deeper (levels (picked own.now (kept_leaves inner.now.entries))) - 1)
         ≤ length rows.old }
-    ensures { IsBlockChanged (group_over opacity (picked own.now (kept_leaves inner.now.entries)))
+    ensures { IsBlockChanged (group_over blend opacity (picked own.now (kept_leaves inner.now.entries)))
         span y0 y1 canvas.old canvas.new }
 {
     for row in y0..y1 {
-        lay_group_row(canvas, opacity, inner, own, span, row, rows);
+        lay_group_row(canvas, blend, opacity, inner, own, span, row, rows);
     }
 }
 

@@ -13,7 +13,7 @@ use crate::picks::{Pick, pick_at};
 use crate::reaching::places;
 use crate::runs::{fill, lay_row};
 use crate::spans::{begin_item, lay_item};
-use rd_geom::Px;
+use rd_geom::{Blend, Px};
 use rd_list::{Entry, Kept};
 use std::sync::ledger::Ledger;
 
@@ -78,13 +78,23 @@ fn lay_pick<A: Ledger>(
 {
     match entry {
         Entry::Leaf(item) => lay_item(item, y, x0, out),
-        Entry::Group(group) => lay_own(group.opacity, &group.inner, own, y, x0, out, rows),
+        Entry::Group(group) => lay_own(
+            group.blend,
+            group.opacity,
+            &group.inner,
+            own,
+            y,
+            x0,
+            out,
+            rows,
+        ),
     }
 }
 
 /// Lays what picks name of a group over those of the pixels where it may show.
 #[cycle(choosing)]
 pub(crate) fn lay_own<A: Ledger>(
+    blend: Blend,
     opacity: u8,
     inner: &Kept<A>,
     own: &[Pick],
@@ -97,12 +107,21 @@ pub(crate) fn lay_own<A: Ledger>(
         ≤ length rows.old }
     requires from { pos 0 ≤ℤ x0 }
     requires within { (x0 +ℤ pos (length out.old)) ≤ℤ pos 4096 }
-    ensures { out.new ≡ laid_along_group y x0 opacity (picked own.now (kept_leaves inner.now.entries)) out.old }
+    ensures { out.new ≡ laid_along_group y x0 blend opacity (picked own.now (kept_leaves inner.now.entries)) out.old }
 {
     let (from, to) = places(inner, own, y, x0, out.len());
     if from < to {
         let start = x0 + from as i32;
-        lay_seen(opacity, inner, own, y, start, &mut out[from..to], rows);
+        lay_seen(
+            blend,
+            opacity,
+            inner,
+            own,
+            y,
+            start,
+            &mut out[from..to],
+            rows,
+        );
     }
 }
 
@@ -162,6 +181,7 @@ fn begin_row<A: Ledger>(
 /// Where no row is left they name no leaf.
 #[cycle(choosing)]
 fn lay_seen<A: Ledger>(
+    blend: Blend,
     opacity: u8,
     inner: &Kept<A>,
     own: &[Pick],
@@ -174,7 +194,7 @@ fn lay_seen<A: Ledger>(
         ≤ length rows.old }
     requires from { pos 0 ≤ℤ x0 }
     requires within { (x0 +ℤ pos (length out.old)) ≤ℤ pos 4096 }
-    ensures { out.new ≡ laid_along_group y x0 opacity (picked own.now (kept_leaves inner.now.entries)) out.old }
+    ensures { out.new ≡ laid_along_group y x0 blend opacity (picked own.now (kept_leaves inner.now.entries)) out.old }
 {
     let n = out.len();
     if rows.len() < n {
@@ -184,5 +204,5 @@ fn lay_seen<A: Ledger>(
     let entries: &[Entry<A>] = &inner.entries;
     let laid = begin_row(entries, own, y, x0, row);
     lay_picks(entries, &own[laid..], y, x0, row, rest);
-    lay_row(out, row, opacity);
+    lay_row(out, row, blend, opacity);
 }

@@ -6,7 +6,7 @@ ghost use Rattle.rd_geom.specs.Plane.{is_among, right, bottom};
 ghost use Rattle.rd_geom.specs.Areas.{in_span};
 ghost use Rattle.rd_paint.specs.Internal.Runs.{IsTurned, row_laid, tinted, piece_laid, round_laid, holed_laid, laid_around};
 
-use rd_geom::{Px, Rect, Span, over, px_of, scale};
+use rd_geom::{Blend, Px, Rect, Span, mix, over, px_of, scale};
 
 /// Makes each pixel the same.
 pub(crate) fn fill(out: &mut [Px], px: Px)
@@ -123,15 +123,15 @@ fn both_same_until(out: &[Px], row: &[Px], from: usize) -> usize
     end
 }
 
-/// Lays a row over as many pixels, each channel scaled by the opacity.
-pub(crate) fn lay_row(out: &mut [Px], row: &[Px], opacity: u8)
+/// Puts a row onto as many pixels by a blend mode, each channel scaled by the opacity.
+pub(crate) fn lay_row(out: &mut [Px], row: &[Px], blend: Blend, opacity: u8)
     requires { length row.now ≡ length out.old }
-    ensures { out.new ≡ row_laid opacity row.now out.old }
+    ensures { out.new ≡ row_laid blend opacity row.now out.old }
 {
     let mut from = 0;
     while from < out.len() {
         let end = both_same_until(out, row, from);
-        let laid = over(scale(row[from], opacity), out[from]);
+        let laid = mix(blend, scale(row[from], opacity), out[from]);
         fill(&mut out[from..end], laid);
         from = end;
     }

@@ -1,8 +1,10 @@
 -- Blocks of pixels, which are the columns of a span in some rows, before and after painting.
 use Rattle.std.specs.Prelude.{◌≡◌, ℕ, pos, ◌+◌, ◌*◌, ◌<◌, Bool, ◌&&◌, not, nat_le, nat_lt, if◌then◌else◌, List, get_or}
 use Rattle.rd_geom.specs.Areas.{in_span, in_spans}
+use Rattle.rd_geom.specs.Blends.{blended}
 use Rattle.rd_geom.specs.Colors.{Premultiplied, clear, laid_over, scaled}
 use Rattle.rd_geom.specs.Plane.{Rectangle, holds_pixel}
+use Rattle.rd_geom.specs.declared.blend.Blend.{Blend}
 use Rattle.rd_geom.specs.declared.span.Span.{Span}
 use Rattle.rd_item.specs.declared.leaf.Leaf.{Leaf}
 use Rattle.rd_item.specs.Leaves.{covers}
@@ -30,9 +32,9 @@ pub record IsBlockChanged (f : ℕ → ℕ → Premultiplied → Premultiplied) 
 abbrev pub IsBlockLaid : Entries Wrapper Leaf → Span → ℕ → ℕ → Picture → Picture → Type 0
 IsBlockLaid es s y0 y1 old new = IsBlockChanged (λ x y p. composed (pos x) (pos y) p es) s y0 y1 old new
 
--- a group of a list laid over a pixel
-abbrev pub group_over : ℕ → Entries Wrapper Leaf → ℕ → ℕ → Premultiplied → Premultiplied
-group_over opacity inner x y p = laid_over (scaled (composed (pos x) (pos y) clear inner) opacity) p
+-- a group of a list put onto a pixel by a blend mode
+abbrev pub group_over : Blend → ℕ → Entries Wrapper Leaf → ℕ → ℕ → Premultiplied → Premultiplied
+group_over blend opacity inner x y p = blended blend (scaled (composed (pos x) (pos y) clear inner) opacity) p
 
 -- one pixel laid over another where there is no hole
 abbrev pub over_around : Premultiplied → Rectangle → ℕ → ℕ → Premultiplied → Premultiplied

@@ -1,8 +1,10 @@
 -- Lists laid over a run of pixels.
 use Rattle.std.specs.Prelude.{◌≡◌, ◌<◌, ◌≤◌, length, ℕ, suc, ℤ, pos, ◌+ℤ◌, ◌&&◌, not, if◌then◌else◌, List, [], ◌∷◌, get_or}
+use Rattle.rd_geom.specs.Blends.{blended}
 use Rattle.rd_geom.specs.Colors.{Premultiplied, laid_over, scaled, clear}
 use Rattle.rd_geom.specs.Areas.{in_span}
 use Rattle.rd_geom.specs.Plane.{Rectangle, is_among, holds_pixel}
+use Rattle.rd_geom.specs.declared.blend.Blend.{Blend}
 use Rattle.rd_geom.specs.declared.span.Span.{Span}
 use Rattle.rd_item.specs.declared.leaf.Leaf.{Leaf}
 use Rattle.rd_list.specs.Wrappers.{Wrapper}
@@ -22,14 +24,14 @@ each_at f xs = each_from 0 f xs
 abbrev pub laid_along : ℤ → ℤ → Entries Wrapper Leaf → List Premultiplied → List Premultiplied
 laid_along y x es ps = each_at (λ k p. composed (x +ℤ pos k) y p es) ps
 
--- a row laid over pixels, as the group that it is of lets through
-abbrev pub row_laid : ℕ → List Premultiplied → List Premultiplied → List Premultiplied
-row_laid opacity row ps = each_at (λ k p. laid_over (scaled (get_or row k clear) opacity) p) ps
+-- a row put onto pixels by a blend mode, as the group that it is of lets through
+abbrev pub row_laid : Blend → ℕ → List Premultiplied → List Premultiplied → List Premultiplied
+row_laid blend opacity row ps = each_at (λ k p. blended blend (scaled (get_or row k clear) opacity) p) ps
 
--- pixels of row y from column x on, with a group of a list laid over each of them
-abbrev pub laid_along_group : ℤ → ℤ → ℕ → Entries Wrapper Leaf → List Premultiplied → List Premultiplied
-laid_along_group y x opacity inner ps =
-    each_at (λ k p. laid_over (scaled (composed (x +ℤ pos k) y clear inner) opacity) p) ps
+-- pixels of row y from column x on, with a group of a list put onto each of them by a blend mode
+abbrev pub laid_along_group : ℤ → ℤ → Blend → ℕ → Entries Wrapper Leaf → List Premultiplied → List Premultiplied
+laid_along_group y x blend opacity inner ps =
+    each_at (λ k p. blended blend (scaled (composed (x +ℤ pos k) y clear inner) opacity) p) ps
 
 -- one pixel laid over each
 abbrev pub tinted : Premultiplied → List Premultiplied → List Premultiplied

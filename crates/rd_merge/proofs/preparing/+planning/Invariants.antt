@@ -22,7 +22,7 @@ abbrev pub decreases-push_step : goal.decreases-push_step
 decreases-push_step g l = 6 * (list_size l.kept.now.entries + list_size (new_entries (l.entry.now ∷ []))) + 1
 
 abbrev pub decreases-plan_group_step : goal.decreases-plan_group_step
-decreases-plan_group_step g l = 6 * (list_size l.kept.now.entries + list_size (group (wrapper l.key l.opacity) l.inner.now nil))
+decreases-plan_group_step g l = 6 * (list_size l.kept.now.entries + list_size (group (wrapper l.key l.opacity l.blend) l.inner.now nil))
 
 abbrev pub decreases-plan_new_group : goal.decreases-plan_new_group
 decreases-plan_new_group g l = 6 * (list_size l.kept.now.entries + list_size l.new.now) + 5

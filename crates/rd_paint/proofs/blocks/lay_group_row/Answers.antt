@@ -1,7 +1,8 @@
 use Rattle.std.proofs.Common.{◌≡◌, ◌≤◌, ◌+◌, ◌-◌, ◌∙◌, ◌+ℤ◌, pos, length, ap, arith, FitsSigned, w32, to_z, rules}
 use Rattle.std.specs.Prelude.{unsigned_abs}
 use Rattle.std.proofs.lemmas.Int.{to_z-of_z, ints}
-use Rattle.rd_geom.specs.Colors.{laid_over, scaled, clear}
+use Rattle.rd_geom.specs.Blends.{blended}
+use Rattle.rd_geom.specs.Colors.{scaled, clear}
 use Rattle.rd_list.specs.EntryNames.{kept_leaves}
 use Rattle.rd_list.specs.Lists.{composed}
 use Rattle.rd_list.specs.Views.{levels, deeper}
@@ -30,6 +31,6 @@ returns g c =
     let exact = simp to_z-of_z at (rw ey at c.span_mut-out.ensures.exact) in
     let laid = simp to_z-of_z at (rw ey at c.lay_own.ensures) in
     rw ey (simp to_z-of_z
-    (row_by (group_over c.args.opacity (picked c.args.own.now (kept_leaves c.args.inner.now.entries))) c.args.span c.args.row (unsigned_abs c.args.span.x0) (unsigned_abs c.args.span.x1) (λ k p. laid_over (scaled (composed (c.args.span.x0 +ℤ pos k) (pos c.args.row) clear (picked c.args.own.now (kept_leaves c.args.inner.now.entries))) c.args.opacity) p) c.span_mut-out.result.now c.lay_own.new.out c.args.canvas.now _ (omega (arith, ints)) (omega (arith, ints)) (omega (arith, ints)) value len
+    (row_by (group_over c.args.blend c.args.opacity (picked c.args.own.now (kept_leaves c.args.inner.now.entries))) c.args.span c.args.row (unsigned_abs c.args.span.x0) (unsigned_abs c.args.span.x1) (λ k p. blended c.args.blend (scaled (composed (c.args.span.x0 +ℤ pos k) (pos c.args.row) clear (picked c.args.own.now (kept_leaves c.args.inner.now.entries))) c.args.opacity) p) c.span_mut-out.result.now c.lay_own.new.out c.args.canvas.now _ (omega (arith, ints)) (omega (arith, ints)) (omega (arith, ints)) value len
     laid (λ k p l. let e : c.args.span.x0 +ℤ pos k ≡ pos (unsigned_abs c.args.span.x0 + k) = omega (arith, ints) in
-    ap (λ z. laid_over (scaled (composed z (pos c.args.row) clear (picked c.args.own.now (kept_leaves c.args.inner.now.entries))) c.args.opacity) p) e) (exact c.lay_own.new.out (c.lay_own.auto.out ∙ len))))
+    ap (λ z. blended c.args.blend (scaled (composed z (pos c.args.row) clear (picked c.args.own.now (kept_leaves c.args.inner.now.entries))) c.args.opacity) p) e) (exact c.lay_own.new.out (c.lay_own.auto.out ∙ len))))

@@ -10,7 +10,7 @@ use Rattle.rd_paint.proofs.blocks.lay_pick_in.Goals as goal
 
 pub lay_inner_in-requires-clause-rows : goal.lay_inner_in-requires-clause-rows
 lay_inner_in-requires-clause-rows g c =
-    let w : Wrapper = record { key = c.in-Group.group.key; opacity = c.in-Group.group.opacity } in
+    let w : Wrapper = record { key = c.in-Group.group.key; opacity = c.in-Group.group.opacity; blend = c.in-Group.group.blend } in
     let e : levels (chosen c.args.own.now 0 (shown (c.args.entry.now ∷ []))) ≡ deeper (levels (picked c.args.own.now (kept_leaves c.in-Group.group.inner.entries))) =
     rw (c.in-Group.is, entry_at-group (picked c.args.own.now) w (kept_leaves c.in-Group.group.inner.entries)) (group_levels w (picked c.args.own.now (kept_leaves c.in-Group.group.inner.entries))) in
     rows_levels c.args.canvas.now.width _ _ _ e c.requires.rows
@@ -19,4 +19,4 @@ pub returns-in-Leaf : goal.returns-in-Leaf
 returns-in-Leaf g c = rw (c.in-Leaf.is, entry_at-leaf (picked c.args.own.now) c.in-Leaf.item.leaf) c.lay_leaf_in.ensures
 
 pub returns-in-Group : goal.returns-in-Group
-returns-in-Group g c = rw (c.in-Group.is, entry_at-group (picked c.args.own.now) (record { key = c.in-Group.group.key; opacity = c.in-Group.group.opacity }) (kept_leaves c.in-Group.group.inner.entries)) c.lay_inner_in.ensures
+returns-in-Group g c = rw (c.in-Group.is, entry_at-group (picked c.args.own.now) (record { key = c.in-Group.group.key; opacity = c.in-Group.group.opacity; blend = c.in-Group.group.blend }) (kept_leaves c.in-Group.group.inner.entries)) c.lay_inner_in.ensures

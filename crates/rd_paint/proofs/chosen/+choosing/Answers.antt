@@ -59,7 +59,7 @@ lay_own-returns-then-from-to g t c =
     let fy : FitsSigned w32 c.args.y = search rules in
     let unseen = simp to_z-of_z at c.places-from.ensures.unseen in
     let laid = simp to_z-of_z at c.lay_seen.ensures in
-    seen_laid c.args.y c.args.x0 _ c.args.opacity (picked c.args.own.now (kept_leaves c.args.inner.now.entries)) c.args.out.now c.lay_seen.new.out c.places-from.result.0 c.places-from.result.1 c.places-from.ensures.order c.places-from.ensures.within
+    seen_laid c.args.y c.args.x0 _ c.args.blend c.args.opacity (picked c.args.own.now (kept_leaves c.args.inner.now.entries)) c.args.out.now c.lay_seen.new.out c.places-from.result.0 c.places-from.result.1 c.places-from.ensures.order c.places-from.ensures.within
     (omega (arith, ints)) unseen laid
 
 pub lay_own-returns-else-from-to : goal.lay_own-returns-else-from-to
@@ -67,12 +67,12 @@ lay_own-returns-else-from-to g t c =
     let fx : FitsSigned w32 c.args.x0 = search rules in
     let fy : FitsSigned w32 c.args.y = search rules in
     let unseen = simp to_z-of_z at c.places-from.ensures.unseen in
-    unseen_laid c.args.y c.args.x0 c.args.opacity (picked c.args.own.now (kept_leaves c.args.inner.now.entries)) c.args.out.now c.places-from.result.0 c.places-from.result.1 c.if-from-to.false unseen
+    unseen_laid c.args.y c.args.x0 c.args.blend c.args.opacity (picked c.args.own.now (kept_leaves c.args.inner.now.entries)) c.args.out.now c.places-from.result.0 c.places-from.result.1 c.if-from-to.false unseen
 
 pub lay_seen-returns-then-rows-n : goal.lay_seen-returns-then-rows-n
 lay_seen-returns-then-rows-n g t c =
     let none = no_rows (length c.args.out.now) (length c.args.rows.now) (levels (picked c.args.own.now (kept_leaves c.args.inner.now.entries))) (omega arith) c.requires.rows in
-    sym (laid_none c.args.y c.args.x0 c.args.opacity (picked c.args.own.now (kept_leaves c.args.inner.now.entries)) c.args.out.now
+    sym (laid_none c.args.y c.args.x0 c.args.blend c.args.opacity (picked c.args.own.now (kept_leaves c.args.inner.now.entries)) c.args.out.now
     (λ x y. nothing_shown x y clear (picked c.args.own.now (kept_leaves c.args.inner.now.entries)) none))
 
 pub lay_seen-lay_picks-requires : goal.lay_seen-lay_picks-requires
@@ -103,7 +103,7 @@ lay_seen-returns g t c =
     let begun = simp to_z-of_z at c.begin_row-laid.ensures.laid in
     let tail = all_behind c.begin_row-laid.result c.args.own.now c.begin_row-laid.ensures.within in
     let row = simp to_z-of_z at c.lay_picks.ensures in
-    group_from c.args.y c.args.x0 c.args.opacity _ (picked c.args.own.now (kept_leaves c.args.inner.now.entries)) (picked c.args.own.now (shown c.deref-entries.result.now)) c.args.out.now _ _ _
+    group_from c.args.y c.args.x0 c.args.blend c.args.opacity _ (picked c.args.own.now (kept_leaves c.args.inner.now.entries)) (picked c.args.own.now (shown c.deref-entries.result.now)) c.args.out.now _ _ _
     (ap (λ (es : Entries (Ordered EntryKey Wrapper) Made). picked c.args.own.now (kept_leaves es)) e) (c.split_at_mut-row.ensures.front_len) refl (row ∙ ap (λ (ps : List Pick). laid_along c.args.y c.args.x0 (picked ps (shown c.deref-entries.result.now)) c.begin_row-laid.new.row) tail ∙ begun) c.lay_row.ensures
 
 pub lay_pick-returns-in-Leaf : goal.lay_pick-returns-in-Leaf
@@ -118,7 +118,7 @@ lay_pick-returns-in-Group g t c =
     let fx : FitsSigned w32 c.args.x0 = search rules in
     let fy : FitsSigned w32 c.args.y = search rules in
     let laid = simp to_z-of_z at c.lay_own.ensures in
-    rw (c.in-Group.is, entry_at-group (picked c.args.own.now) (record { key = c.in-Group.group.key; opacity = c.in-Group.group.opacity }) (kept_leaves c.in-Group.group.inner.entries)) laid
+    rw (c.in-Group.is, entry_at-group (picked c.args.own.now) (record { key = c.in-Group.group.key; opacity = c.in-Group.group.opacity; blend = c.in-Group.group.blend }) (kept_leaves c.in-Group.group.inner.entries)) laid
 
 pub lay_picks-loop-i-preserved : goal.lay_picks-loop-i-preserved
 lay_picks-loop-i-preserved g t c =
@@ -154,7 +154,7 @@ lay_picks-lay_at-requires g t c κs within =
 
 pub lay_pick-lay_own-requires : goal.lay_pick-lay_own-requires
 lay_pick-lay_own-requires g t c κs within =
-    let w : Wrapper = record { key = c.in-Group.group.key; opacity = c.in-Group.group.opacity } in
+    let w : Wrapper = record { key = c.in-Group.group.key; opacity = c.in-Group.group.opacity; blend = c.in-Group.group.blend } in
     let size : list_size (kept_entries (c.args.entry.now ∷ [])) ≡ suc (list_size c.in-Group.group.inner.entries) = rw c.in-Group.is (omega arith) in
     let e : levels (chosen c.args.own.now 0 (shown (c.args.entry.now ∷ []))) ≡ deeper (levels (picked c.args.own.now (kept_leaves c.in-Group.group.inner.entries))) =
     rw (c.in-Group.is, entry_at-group (picked c.args.own.now) w (kept_leaves c.in-Group.group.inner.entries)) (group_levels w (picked c.args.own.now (kept_leaves c.in-Group.group.inner.entries))) in

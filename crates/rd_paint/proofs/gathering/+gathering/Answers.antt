@@ -99,4 +99,4 @@ gather_group-returns-clause-same g t c = λ w.
 pub gather_one-returns-in-Group-clause-same : goal.gather_one-returns-in-Group-clause-same
 gather_one-returns-in-Group-clause-same g t c =
     rw c.in-Group.is
-    (some_group (InAreaWithin c.args.area.now c.args.columns c.args.rows) c.args.place (kept_leaves c.in-Group.group.inner.entries) (λ n. take n c.gather_group.new.room) c.gather_group.result c.gather_group.ensures.same (record { key = c.in-Group.group.key; opacity = c.in-Group.group.opacity }))
+    (some_group (InAreaWithin c.args.area.now c.args.columns c.args.rows) c.args.place (kept_leaves c.in-Group.group.inner.entries) (λ n. take n c.gather_group.new.room) c.gather_group.result c.gather_group.ensures.same (record { key = c.in-Group.group.key; opacity = c.in-Group.group.opacity; blend = c.in-Group.group.blend }))

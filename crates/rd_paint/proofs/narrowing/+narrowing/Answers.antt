@@ -123,4 +123,4 @@ narrow_pick-returns-in-Group-clause-same g t c =
     let f0 : FitsSigned w32 c.args.y0 = search rules in
     let f1 : FitsSigned w32 c.args.y1 = search rules in
     let s = simp to_z-of_z at c.narrow_group.ensures.same in
-    rw (c.in-Group.is, entry_at-group (picked c.args.own.now) (record { key = c.in-Group.group.key; opacity = c.in-Group.group.opacity }) (kept_leaves c.in-Group.group.inner.entries)) (s (record { key = c.in-Group.group.key; opacity = c.in-Group.group.opacity }))
+    rw (c.in-Group.is, entry_at-group (picked c.args.own.now) (record { key = c.in-Group.group.key; opacity = c.in-Group.group.opacity; blend = c.in-Group.group.blend }) (kept_leaves c.in-Group.group.inner.entries)) (s (record { key = c.in-Group.group.key; opacity = c.in-Group.group.opacity; blend = c.in-Group.group.blend }))

@@ -78,5 +78,5 @@ pub reach_pick-returns-in-Group : goal.reach_pick-returns-in-Group
 reach_pick-returns-in-Group g t c =
     let fy : FitsSigned w32 c.args.y = search rules in
     let s = simp to_z-of_z at c.reach_group.ensures in
-    rw (c.in-Group.is, entry_at-group (picked c.args.own.now) (record { key = c.in-Group.group.key; opacity = c.in-Group.group.opacity }) (kept_leaves c.in-Group.group.inner.entries))
-    (where_found _ _ c.reach_group.result (λ found u. u (record { key = c.in-Group.group.key; opacity = c.in-Group.group.opacity })) s)
+    rw (c.in-Group.is, entry_at-group (picked c.args.own.now) (record { key = c.in-Group.group.key; opacity = c.in-Group.group.opacity; blend = c.in-Group.group.blend }) (kept_leaves c.in-Group.group.inner.entries))
+    (where_found _ _ c.reach_group.result (λ found u. u (record { key = c.in-Group.group.key; opacity = c.in-Group.group.opacity; blend = c.in-Group.group.blend })) s)

@@ -35,7 +35,7 @@ lay_all-loop-entry-preserved g t c =
 pub lay_group-returns-then-rows-n : goal.lay_group-returns-then-rows-n
 lay_group-returns-then-rows-n g t c =
     let none = no_rows (length c.args.out.now) (length c.args.rows.now) (levels c.args.inner.now.entries) (omega arith) c.requires.rows in
-    sym (laid_none c.args.y c.args.x0 c.args.opacity (kept_leaves c.args.inner.now.entries) c.args.out.now (λ x y. leafless x y clear c.args.inner.now.entries none))
+    sym (laid_none c.args.y c.args.x0 c.args.blend c.args.opacity (kept_leaves c.args.inner.now.entries) c.args.out.now (λ x y. leafless x y clear c.args.inner.now.entries none))
 
 abbrev entries_of : KeptList EntryKey Wrapper Made → Entries (Ordered EntryKey Wrapper) Made
 entries_of k = k.entries
@@ -61,4 +61,4 @@ lay_group-returns g t c =
     let fy : FitsSigned w32 c.args.y = search rules in
     let e : kept_entries c.deref.result.now ≡ c.args.inner.now.entries = ap kept_entries c.deref.ensures.value ∙ ap entries_of c.inner.view_is in
     let row = simp to_z-of_z at c.lay_all.ensures in
-    group_from c.args.y c.args.x0 c.args.opacity _ (kept_leaves c.args.inner.now.entries) (shown c.deref.result.now) c.args.out.now _ _ _ (ap kept_leaves e) (c.split_at_mut-row.ensures.front_len) c.fill.ensures row c.lay_row.ensures
+    group_from c.args.y c.args.x0 c.args.blend c.args.opacity _ (kept_leaves c.args.inner.now.entries) (shown c.deref.result.now) c.args.out.now _ _ _ (ap kept_leaves e) (c.split_at_mut-row.ensures.front_len) c.fill.ensures row c.lay_row.ensures

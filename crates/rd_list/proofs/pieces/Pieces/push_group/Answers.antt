@@ -7,4 +7,4 @@ pub invariant_of-self-2 : goal.invariant_of-self-2
 invariant_of-self-2 g c = filled-on c.self.inside.below.items c.self.inside.top.items c.push.new.self.items c.self.invariant
 
 pub returns : goal.returns
-returns g c = rw (← c.self.view_is) (laid-on c.self.inside.below.items c.self.inside.top.items (entry.Group c.args.key c.args.opacity c.args.inner ∷ []) c.push.new.self.items c.in_ok-push.ensures.items)
+returns g c = rw (← c.self.view_is) (laid-on c.self.inside.below.items c.self.inside.top.items (entry.Group c.args.key c.args.opacity c.args.blend c.args.inner ∷ []) c.push.new.self.items c.in_ok-push.ensures.items)
