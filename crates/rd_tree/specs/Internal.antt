@@ -6,7 +6,10 @@ pub mod Linked
 pub mod Summaries
 pub mod Works
 pub mod Reaching
+pub mod Regrouping
 pub mod Rows
+pub mod Blending
+pub mod Keeping
 pub mod Renews
 pub mod Gathers
 pub mod Frees

@@ -1,5 +1,6 @@
 //! What the table of a tree has of each box, by its slot, and how it is kept.
 
+pub(crate) mod blends;
 pub(crate) mod climb;
 pub(crate) mod extent;
 pub(crate) mod fill;

@@ -41,6 +41,8 @@ pub struct BoxView<'a> {
     pub touched: bool,
     /// How many boxes below it were touched since then.
     pub touched_below: u32,
+    /// Is a layer below it blended, with no stacking context between the two (CSS Compositing 1 section 3.2)?
+    pub blend_below: bool,
 }
 
 /// What a node, what a walk reads of it, and its row show of its box.
@@ -51,9 +53,10 @@ pub(crate) fn view_of(
     node: &Node,
     glance: Glance,
     row: Summary,
+    blend_below: bool,
 ) -> BoxView<'_>
     requires { glance ≡ glance_of key.generation node.now }
-    ensures { told result ≡ shown_of key is_root node.now row }
+    ensures { told result ≡ shown_of key is_root node.now row blend_below }
 {
     BoxView {
         key,
@@ -66,10 +69,11 @@ pub(crate) fn view_of(
         hull: row.hull,
         touched: glance.touched,
         touched_below: row.touched,
+        blend_below,
     }
 }
 
-/// What a look at a box gives, by what is read of it and by its row.
+/// What a look at a box gives, by what is read of it, by its row, and by whether a blended layer is below it.
 #[inline(always)]
 pub(crate) fn view_at(
     nodes: &Nodes,
@@ -77,13 +81,14 @@ pub(crate) fn view_at(
     key: BoxKey,
     glance: Glance,
     row: Summary,
+    blend_below: bool,
 ) -> Option<BoxView<'_>>
     requires { Some glance ≡ option_map (glance_of key.generation) (value nodes.now key.slot key.generation) }
-    ensures { option_map told result ≡ option_map (λ n. shown_of key (same_key key root) n row)
+    ensures { option_map told result ≡ option_map (λ n. shown_of key (same_key key root) n row blend_below)
         (value nodes.now key.slot key.generation) }
 {
     match nodes.get(key) {
-        Some(node) => Some(view_of(key, key.is(root), node, glance, row)),
+        Some(node) => Some(view_of(key, key.is(root), node, glance, row, blend_below)),
         None => unreachable!(),
     }
 }

@@ -12,7 +12,8 @@ use Rattle.rd_tree.specs.declared.reach.Reach.TheVariants.{Nothing}
 use Rattle.rd_tree.specs.Forest.{Forest, empty, tree, has, children, with_children, insert_before, insert_among, without_branch, branch, map_where, at_box, at_subtree, in_subtree, item_of, IsApart}
 use Rattle.rd_tree.specs.Document.{Document, BoxKey, Item, BoxForest, contains, with_child, with_taken}
 use Rattle.rd_tree.specs.Changes.{insertion, removal, moving, styling, placing, shifting, restyle, with_rect, shift_item, with_removed, put_elsewhere}
-use Rattle.rd_tree.specs.Touching.{touch, edited}
+use Rattle.rd_tree.specs.Touching.{reached_by, touch, edited}
+use Rattle.rd_tree.specs.Internal.Regrouping.{marked_reached}
 use Rattle.rd_tree.specs.Internal.Works.{move_by}
 use Rattle.rd_tree.specs.Internal.Reaching.{style_reach, rect_reach, touch_reached, restyled, replaced, moved}
 use Rattle.rd_tree.proofs.Linking.Standing.{cases, never}
@@ -50,12 +51,12 @@ each-each q g h (tree k d below rest) =
     ]
 
 -- Where no box is asked for, nothing changes.
-no-each : {K D : Type 0} (h : D → D) (f : Forest K D) → map_where (λ j. false) h f ≡ f
+pub no-each : {K D : Type 0} (h : D → D) (f : Forest K D) → map_where (λ j. false) h f ≡ f
 no-each h empty = refl
 no-each h (tree k d below rest) = rw (no-each h below, no-each h rest) refl
 
 -- the same boxes are below one whose items change
-subtree-each : (q : BoxKey → Bool) (h : Item → Item) (j k : BoxKey) (f : BoxForest) → in_subtree same_key j k (map_where q h f) ≡ in_subtree same_key j k f
+pub subtree-each : (q : BoxKey → Bool) (h : Item → Item) (j k : BoxKey) (f : BoxForest) → in_subtree same_key j k (map_where q h f) ≡ in_subtree same_key j k f
 subtree-each q h j k f = ap (λ b. same_key j k || b) (ap (has same_key j) (children-each q h same_key k f) ∙ has-each q h same_key j (children same_key k f))
 
 -- A move: the marks go with the boxes.
@@ -72,21 +73,21 @@ elsewhere-each q h k p o f =
     ∙ (ap (λ z. with_children same_key p z (map_where q h g)) (among-each q h same_key o (branch same_key k f) (children same_key p g))
     ∙ with_children-each q h same_key p (insert_among same_key o (branch same_key k f) (children same_key p g)) g)))
 
-pub edited-moving : (k p : BoxKey) (before : Option BoxKey) (t : Document) → edited (moving k p before) t ≡ record t { boxes = moved k p before t.boxes }
-edited-moving k p before t = ap (λ f. record t { boxes = f }) (sym (elsewhere-each (λ j. in_subtree same_key j k t.boxes) touch k p before t.boxes))
+pub reached-moving : (k p : BoxKey) (before : Option BoxKey) (t : Document) → marked_reached (moving k p before) t ≡ record t { boxes = moved k p before t.boxes }
+reached-moving k p before t = ap (λ f. record t { boxes = f }) (sym (elsewhere-each (λ j. in_subtree same_key j k t.boxes) touch k p before t.boxes))
 
 -- A removal: what it touches is gone.
-pub edited-removal : (k : BoxKey) (t : Document) → IsApart same_key t.boxes → edited (removal k) t ≡ with_removed k t
-edited-removal k t a =
+pub reached-removal : (k : BoxKey) (t : Document) → IsApart same_key t.boxes → marked_reached (removal k) t ≡ with_removed k t
+reached-removal k t a =
     let q : BoxKey → Bool = λ j. in_subtree same_key j k t.boxes in
     ap (λ f. record (with_removed k t) { boxes = f })
     (sym (without_branch-each q touch same_key k t.boxes) ∙ without_branch-within same_key same_key-sound same_key-refl q touch k t.boxes a (within_subtree
     same_key k t.boxes))
 
 -- An insertion: the new box comes in touched.
-pub edited-insertion : (p : BoxKey) (before : Option BoxKey) (k : BoxKey) (d : Item) (t : Document) → contains t k ≡ false →
-    edited (insertion p before k d) t ≡ record t { boxes = with_child p before k (touch d) t.boxes; slots = with_taken t.slots k }
-edited-insertion p before k d t out =
+pub reached-insertion : (p : BoxKey) (before : Option BoxKey) (k : BoxKey) (d : Item) (t : Document) → contains t k ≡ false →
+    marked_reached (insertion p before k d) t ≡ record t { boxes = with_child p before k (touch d) t.boxes; slots = with_taken t.slots k }
+reached-insertion p before k d t out =
     let q : BoxKey → Bool = λ j. same_key j k in
     let one : BoxForest = tree k d empty empty in
     let f : BoxForest = t.boxes in
@@ -105,9 +106,17 @@ edited-insertion p before k d t out =
         | inr e ↦ e
       ]
 
+-- what no change regroups
+unregrouped : (q : BoxKey → Bool) (f : BoxForest) → map_where (λ j. q j || false) touch f ≡ map_where q touch f
+unregrouped q f = each_same same_key same_key-refl (λ j. q j || false) q touch f (λ j u. alone (q j)) where
+  alone : (b : Bool) → (b || false) ≡ b
+  alone true = refl
+  alone false = refl
+
 -- A shift.
 pub edited-shifting : (k : BoxKey) (dx dy : ℤ) (t : Document) → edited (shifting k dx dy) t ≡ record t { boxes = at_subtree same_key k (move_by dx dy) t.boxes }
-edited-shifting k dx dy t = ap (λ f. record t { boxes = f }) (each-each (λ j. in_subtree same_key j k t.boxes) (shift_item dx dy) touch t.boxes)
+edited-shifting k dx dy t = ap (λ f. record t { boxes = f }) (unregrouped (λ j. in_subtree same_key j k t.boxes) (at_subtree same_key k (shift_item dx dy) t.boxes)
+    ∙ each-each (λ j. in_subtree same_key j k t.boxes) (shift_item dx dy) touch t.boxes)
 
 -- Marks on one box or on a subtree, by what is known of the box.
 marks-alone : (k : BoxKey) (q : BoxKey → Bool) (h : Item → Item) (f : BoxForest) → map_where (λ j. in_subtree same_key j k f) touch (map_where q h f)
@@ -115,8 +124,8 @@ marks-alone : (k : BoxKey) (q : BoxKey → Bool) (h : Item → Item) (f : BoxFor
 marks-alone k q h f = each_same same_key same_key-refl (λ j. in_subtree same_key j k f) (λ j. in_subtree same_key j k (map_where q h f)) touch (map_where q
     h f) (λ j u. sym (subtree-each q h j k f))
 
-pub edited-styling : (k : BoxKey) (c : StyleChange) (t : Document) → edited (styling k c) t ≡ record t { boxes = restyled t.root k c t.boxes }
-edited-styling k c t = ap (λ f. record t { boxes = f }) (by (item_of same_key k t.boxes)) where
+pub reached-styling : (k : BoxKey) (c : StyleChange) (t : Document) → marked_reached (styling k c) t ≡ record t { boxes = restyled t.root k c t.boxes }
+reached-styling k c t = ap (λ f. record t { boxes = f }) (by (item_of same_key k t.boxes)) where
   g : BoxForest
   g = at_box same_key k (restyle c) t.boxes
 
@@ -137,7 +146,7 @@ edited-styling k c t = ap (λ f. record t { boxes = f }) (by (item_of same_key k
   by (Some d) = known d (whole d.style root c) (names_any c) refl refl
 
 pub edited-placing : (k : BoxKey) (r : Rectangle) (t : Document) → edited (placing k r) t ≡ record t { boxes = replaced t.root k r t.boxes }
-edited-placing k r t = ap (λ f. record t { boxes = f }) (by (item_of same_key k t.boxes)) where
+edited-placing k r t = ap (λ f. record t { boxes = f }) (unregrouped (reached_by (placing k r) t) g ∙ by (item_of same_key k t.boxes)) where
   g : BoxForest
   g = at_box same_key k (with_rect r) t.boxes
 

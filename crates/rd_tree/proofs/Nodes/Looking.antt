@@ -14,7 +14,9 @@ use Rattle.rd_tree.proofs.Linking.Standing.{cases, refute, never, either, from_l
 use Rattle.rd_geom.specs.Plane.{hull_of}
 use Rattle.rd_tree.specs.declared.table.row.Summary.{Summary}
 use Rattle.rd_tree.specs.Hulls.{breadth, extent, hull_in, touched_in}
+use Rattle.rd_tree.specs.Contexts.{blends_in}
 use Rattle.rd_tree.specs.Internal.Summaries.{summary_first, summary_of}
+use Rattle.rd_tree.specs.Internal.Blending.{blends_first}
 use Rattle.rd_tree.proofs.Nodes.Grow.{seen_is, live_if_in}
 
 module _ {K D : Type 0} where
@@ -153,11 +155,12 @@ module _ {K D : Type 0} where
         ))
         (head_none rest)
 
-shown_begins : (root k : BoxKey) (x : inner.Node) (row : Summary) (f : BoxForest) → Begins k (plain x) f → row ≡ summary_first f → Some (shown_of k
-    (same_key k root) x row) ≡ shown root f
-shown_begins root k x row f b table =
+shown_begins : (root k : BoxKey) (x : inner.Node) (row : Summary) (blend : Bool) (f : BoxForest) → Begins k (plain x) f → row ≡ summary_first f → blend
+    ≡ blends_first f → Some (shown_of k (same_key k root) x row blend) ≡ shown root f
+shown_begins root k x row blend f b table layers =
     let r : row ≡ summary_first (tree k x.item b.below b.rest) = table ∙ ap summary_first b.is in
-    let v : Option BoxKey → Option BoxKey → Summary → Option Shown = λ o n y.
+    let l : blend ≡ blends_in b.below = layers ∙ ap blends_first b.is in
+    let v : Option BoxKey → Option BoxKey → Summary → Bool → Option Shown = λ o n y q.
     Some (record {
       key = k;
       rect = x.item.rect;
@@ -169,21 +172,25 @@ shown_begins root k x row f b table =
       hull = y.hull;
       touched = x.item.touched;
       touched_below = y.touched;
+      blend_below = q;
     }) in
-    let e1 : v x.links.first x.links.next row ≡ v (head b.below) x.links.next row = ap (λ o. v o x.links.next row) b.first in
-    let e2 : v (head b.below) x.links.next row ≡ v (head b.below) (head b.rest) row = ap (λ o. v (head b.below) o row) b.next in
-    let e3 : v (head b.below) (head b.rest) row ≡ shown root (tree k x.item b.below b.rest) = ap (v (head b.below) (head b.rest)) r in
-    e1 ∙ (e2 ∙ (e3 ∙ ap (shown root) (sym b.is)))
+    let e1 : v x.links.first x.links.next row blend ≡ v (head b.below) x.links.next row blend = ap (λ o. v o x.links.next row blend) b.first in
+    let e2 : v (head b.below) x.links.next row blend ≡ v (head b.below) (head b.rest) row blend = ap (λ o. v (head b.below) o row blend) b.next in
+    let e3 : v (head b.below) (head b.rest) row blend ≡ v (head b.below) (head b.rest) row (blends_in b.below) = ap (v (head b.below) (head b.rest) row) l
+    in
+    let e4 : v (head b.below) (head b.rest) row (blends_in b.below) ≡ shown root (tree k x.item b.below b.rest) = ap (λ y. v (head b.below) (head b.rest) y
+    (blends_in b.below)) r in
+    e1 ∙ (e2 ∙ (e3 ∙ (e4 ∙ ap (shown root) (sym b.is))))
 
 pub apart_seen : (a : Arena inner.Node) (root : BoxKey) → IsTree a root → IsApart same_key (seen a root)
 apart_seen a root t = subst (λ f. IsApart same_key f) (sym (seen_is a root t)) t.is.apart
 
-pub looks : (a : Arena inner.Node) (root k : BoxKey) (row : Summary) → IsTree a root → (has same_key k (seen a root) ≡ true → row ≡ summary_of k
-    (seen a root)) →
-    option_map (λ n. shown_of k (same_key k root) n row) (value a k.slot k.generation) ≡ shown root (starting_at same_key k (seen a root))
-looks a root k row t table = looked (value a k.slot k.generation) refl where
-  looked : (o : Option inner.Node) → value a k.slot k.generation ≡ o → option_map (λ n. shown_of k (same_key k root) n row) o ≡ shown root (starting_at
-      same_key k (seen a root))
+pub looks : (a : Arena inner.Node) (root k : BoxKey) (row : Summary) (blend : Bool) → IsTree a root → (has same_key k (seen a root) ≡ true → row
+    ≡ summary_of k (seen a root)) → (has same_key k (seen a root) ≡ true → blend ≡ blends_first (starting_at same_key k (seen a root))) →
+    option_map (λ n. shown_of k (same_key k root) n row blend) (value a k.slot k.generation) ≡ shown root (starting_at same_key k (seen a root))
+looks a root k row blend t table layers = looked (value a k.slot k.generation) refl where
+  looked : (o : Option inner.Node) → value a k.slot k.generation ≡ o → option_map (λ n. shown_of k (same_key k root) n row blend) o ≡ shown root
+      (starting_at same_key k (seen a root))
   looked None h =
       let out : has same_key k (seen a root) ≡ false = refute (has same_key k (seen a root)) (λ m. live_if_in a root k t m h) in
       rw (nothing_from same_key same_key-sound same_key-refl k (seen a root) out) refl
@@ -194,7 +201,9 @@ looks a root k row t table = looked (value a k.slot k.generation) refl where
       let b : Begins k (plain x) (starting_at same_key k t.boxes) = begins same_key same_key-sound same_key-refl (linked a) None None t.boxes (Some root)
       (Some root) k (plain x) t.is.apart t.is.stands m l in
       let r : row ≡ summary_first (starting_at same_key k t.boxes) = table (subst (λ f. has same_key k f ≡ true) (sym e) m) ∙ ap (summary_of k) e in
-      shown_begins root k x row (starting_at same_key k t.boxes) b r ∙ ap (λ f. shown root (starting_at same_key k f)) (sym e)
+      let l : blend ≡ blends_first (starting_at same_key k t.boxes) = layers (subst (λ f. has same_key k f ≡ true) (sym e) m) ∙ ap (λ f. blends_first
+      (starting_at same_key k f)) e in
+      shown_begins root k x row blend (starting_at same_key k t.boxes) b r l ∙ ap (λ f. shown root (starting_at same_key k f)) (sym e)
 
 -- The boxes from one on are within the limits where all are.
 pub fit_from : (k : BoxKey) (f : BoxForest) → AllFit f → AllFit (starting_at same_key k f)
@@ -215,6 +224,7 @@ pub record Onward (root : BoxKey) (f : BoxForest) (k : BoxKey) (v : Shown) : Typ
   pub rect : v.rect ≡ item.rect
   pub style : v.style ≡ item.style
   pub touched : v.touched ≡ item.touched
+  pub blends : v.blend_below ≡ blends_in below
   pub top : v.is_root ≡ same_key k root
   pub child : from_some same_key v.first_child f ≡ below
   pub next : from_some same_key v.next_sibling f ≡ rest
@@ -251,6 +261,7 @@ onward root f k v a h = at (starting_at same_key k f) refl h where
         hull = hull_of (extent d) (hull_in below);
         touched = d.touched;
         touched_below = touched_in below;
+        blend_below = blends_in below;
       } in
       let n : w ≡ v = cc in
       subst (λ u. Onward root f k u) n (record {
@@ -262,6 +273,7 @@ onward root f k v a h = at (starting_at same_key k f) refl h where
         rect = refl;
         style = refl;
         touched = refl;
+        blends = refl;
         top = ap (λ u. same_key u root) (sym i);
         child = from_child same_key same_key-sound same_key-refl f below rest k j d a e;
         next = from_next same_key same_key-sound same_key-refl f below rest k j d a e;

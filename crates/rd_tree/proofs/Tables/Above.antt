@@ -35,9 +35,9 @@ one_live a j k u v e =
       same s t g h p q = grind arith
 
 -- A row is written that is no other live key's.
-pub puts_at : (a : Arena inner.Node) (old new : List Summary) (k : BoxKey) (row : Summary) → Puts old new k row → is_some (linked a k) ≡ true
-    → (j : BoxKey) → is_some (linked a j) ≡ true → summary_at new j ≡ cond (same_key k j) row (summary_at old j)
-puts_at a old new k row p v j u =
+pub puts_by : {A : Type 0} (a : Arena inner.Node) (old new : BoxKey → A) (k : BoxKey) (row : A) → ((j : BoxKey) → new j ≡ cond (j.slot == k.slot) row
+    (old j)) → is_some (linked a k) ≡ true → (j : BoxKey) → is_some (linked a j) ≡ true → new j ≡ cond (same_key k j) row (old j)
+puts_by a old new k row p v j u =
     elim (cases (j.slot == k.slot)) [
       | inl e ↦
           let s : same_key k j ≡ true = one_live a j k u v (equal j.slot k.slot e) in
@@ -49,6 +49,10 @@ puts_at a old new k row p v j u =
 
       off : (s t g h : ℕ) → (t == s) ≡ false → ((s == t) && (g == h)) ≡ false
       off s t g h e = grind arith
+
+pub puts_at : (a : Arena inner.Node) (old new : List Summary) (k : BoxKey) (row : Summary) → Puts old new k row → is_some (linked a k) ≡ true
+    → (j : BoxKey) → is_some (linked a j) ≡ true → summary_at new j ≡ cond (same_key k j) row (summary_at old j)
+puts_at a old new k row p = puts_by a (summary_at old) (summary_at new) k row p
 
 module _ (a : Arena inner.Node) (root : BoxKey) (f : BoxForest) (is : IsStanding a root f) (k : BoxKey) (m : has same_key k f ≡ true) where
   node_of : (y : Node BoxKey Item) × (linked a k ≡ Some y) × Stands (linked a) (Some k) None (children same_key k f) y.first y.last None × IsApart same_key
@@ -111,7 +115,7 @@ from_up zero at o = 0
 from_up (suc n) at None = 0
 from_up (suc n) at (Some k) = 1 + from_up n at (parent_of (at k))
 
-from_up_none : (n : ℕ) (at : BoxKey → Option (Node BoxKey Item)) → from_up n at None ≡ 0
+pub from_up_none : (n : ℕ) (at : BoxKey → Option (Node BoxKey Item)) → from_up n at None ≡ 0
 from_up_none zero at = refl
 from_up_none (suc n) at = refl
 

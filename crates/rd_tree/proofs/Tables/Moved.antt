@@ -102,6 +102,10 @@ some_item : (o : Option (Node BoxKey Item)) → is_some (option_map (λ n. n.ite
 some_item None = refl
 some_item (Some n) = refl
 
+pub still_live : (a b : Arena inner.Node) (k j : BoxKey) → Relinks a b (unlinked same_key k (linked a)) → is_some (linked a j) ≡ true → is_some (linked b
+    j) ≡ true
+still_live a b k j r u = sym (some_item (linked b j)) ∙ (ap is_some (items_unlinked a b k r j) ∙ (some_item (linked a j) ∙ u))
+
 -- A branch, which is w, came below q, and the table can be set right.
 pub record IsLanded (a : Arena inner.Node) (root q : BoxKey) (rows : List Summary) (w : Whole) : Type 0 where
   pub there : has same_key q (seen a root) ≡ true
@@ -151,6 +155,19 @@ module _ {Y S : Type 0} (a0 a1 : Arena inner.Node) (root k p : BoxKey) (ids : Ha
   stay_is = ap (without_branch same_key k) s1.1 ∙ without_branch-within same_key same_key-sound same_key-refl (λ j. in_subtree same_key j k f) touch k f
       (seen_stands a0 root s.tree).apart (within_subtree same_key k f)
 
+  pub still_in : (q : BoxKey) → has same_key q f ≡ true → has same_key q touched ≡ true
+  still_in q u = still_has (λ j. in_subtree same_key j k f) touch q f touched s1.1 u
+
+  pub still_outside : (q : BoxKey) → in_subtree same_key q k f ≡ false → in_subtree same_key q k touched ≡ false
+  still_outside q outside =
+      ap (in_subtree same_key q k) s1.1
+      ∙ (ap (λ b. same_key q k || b) (ap (has same_key q) (children-each (λ j. in_subtree same_key j k f) touch same_key k f)
+      ∙ has-each (λ j. in_subtree same_key j k f) touch same_key q (children same_key k f)) ∙ outside)
+
+  pub sees_moved : (a4 : Arena inner.Node) (q : BoxKey) (before : Option BoxKey) → seen a4 root ≡ moved k q before f → seen a4 root ≡ put_elsewhere k q
+      before touched
+  sees_moved a4 q before sees = sees ∙ ap (put_elsewhere k q before) (sym s1.1)
+
   -- The rows of the branch were worked out anew, and the branch was cut out.
   module _ (a2 : Arena inner.Node) (next : List Summary) (r1 : Relinks a1 a2 (unlinked same_key k (linked a1))) (within : IsRightIn next touched k)
       (outer : KeepsOutside a1 touched rows next k) (same : length next ≡ length rows) where
@@ -195,9 +212,7 @@ module _ {Y S : Type 0} (a0 a1 : Arena inner.Node) (root k p : BoxKey) (ids : Ha
           ]
 
           live : (j : BoxKey) → in_subtree same_key j k touched ≡ true → is_some (linked a2 j) ≡ true
-          live j u =
-              sym (some_item (linked a2 j)) ∙ (ap is_some (items_unlinked a1 a2 k r1 j) ∙ (some_item (linked a1 j) ∙ is_live a1 root touched touched_stands
-              j (in_touched j u)))
+          live j u = still_live a1 a2 k j r1 (is_live a1 root touched touched_stands j (in_touched j u))
 
     -- The branch came below another box.
     module _ (q : BoxKey) (before : Option BoxKey) (q_in : has same_key q f ≡ true) (outside : in_subtree same_key q k f ≡ false) (place : IsPlaceIn
@@ -206,20 +221,17 @@ module _ {Y S : Type 0} (a0 a1 : Arena inner.Node) (root k p : BoxKey) (ids : Ha
         next last (Some p)) (length_same : length last ≡ length next) (s4 : IsConsistent a4 root ids) (sees : seen a4 root ≡ moved k q before f)
         (slots : marks a4 ≡ marks a0) where
       q_still : has same_key q touched ≡ true
-      q_still = still_has (λ j. in_subtree same_key j k f) touch q f touched s1.1 q_in
+      q_still = still_in q q_in
 
       outside_still : in_subtree same_key q k touched ≡ false
-      outside_still =
-          ap (in_subtree same_key q k) s1.1
-          ∙ (ap (λ b. same_key q k || b) (ap (has same_key q) (children-each (λ j. in_subtree same_key j k f) touch same_key k f)
-          ∙ has-each (λ j. in_subtree same_key j k f) touch same_key q (children same_key k f)) ∙ outside)
+      outside_still = still_outside q outside
 
       place_still : IsPlaceIn same_key before (children same_key q touched)
       place_still = subst (λ h. IsPlaceIn same_key before h) (sym (ap (children same_key q) s1.1 ∙ children-each (λ j. in_subtree same_key j k f) touch
           same_key q f)) (place_each (λ j. in_subtree same_key j k f) touch same_key before (children same_key q f) place)
 
       sees_touched : seen a4 root ≡ put_elsewhere k q before touched
-      sees_touched = sees ∙ ap (put_elsewhere k q before) (sym s1.1)
+      sees_touched = sees_moved a4 q before sees
 
       landed_parent : has same_key q (seen a4 root) ≡ true
       landed_parent = ap (has same_key q) sees_touched ∙ parent_there k q before touched touched_stands.apart still_there q_still outside_still place_still

@@ -109,6 +109,15 @@ pub record IsLeft (a : Arena inner.Node) (root p : BoxKey) (g : BoxForest) (rows
   pub loses : IsLosing rows g p w
   pub climbs : CanClimb a rows p (λ h. IsLosing rows h p w)
 
+-- The links stand for what stays.
+pub left_stands : {Y S : Type 0} (a0 a1 : Arena inner.Node) (root k : BoxKey) (ids : HashMap (String Y) BoxKey S) → IsConsistent a0 root ids → Unlinked a0
+    a1 root k (seen a0 root) → a1.limit ≡ a0.limit → IsStanding a1 root (without_branch same_key k (seen a0 root))
+left_stands a0 a1 root k ids s u limit = record {
+  stands = u.stands;
+  apart = u.apart;
+  small = omega (arith, u.counted, live_occupied a0, s.tree.most, limit);
+}
+
 module _ {Y S : Type 0} (a0 a1 : Arena inner.Node) (root k p : BoxKey) (ids : HashMap (String Y) BoxKey S) (rows : List Summary) (s : IsConsistent a0 root
     ids) (m : has same_key k (seen a0 root) ≡ true) (not_root : same_key k root ≡ false)
     (r : Relinks a0 a1 (unlinked same_key k (linked a0))) (most : length a0.slots ≤ length rows) (q : IsParent p k (seen a0 root)) where
@@ -125,7 +134,7 @@ module _ {Y S : Type 0} (a0 a1 : Arena inner.Node) (root k p : BoxKey) (ids : Ha
   u = cut_out a0 a1 root k s.tree m not_root r
 
   cut_stands : IsStanding a1 root g
-  cut_stands = record { stands = u.stands; apart = u.apart; small = omega (arith, u.counted, live_occupied a0, s.tree.most, r.limit) }
+  cut_stands = left_stands a0 a1 root k ids s u r.limit
 
   parent_stays : has same_key p g ≡ true
   parent_stays = (restored same_key same_key-sound same_key-refl p k f q.child before.apart q.there).there
@@ -153,6 +162,10 @@ module _ {Y S : Type 0} (a0 a1 : Arena inner.Node) (root k p : BoxKey) (ids : Ha
   left_by right w e = cut_left w (subst (λ v. IsLosing rows g p v) (sym e) (loses p k f rows before.apart q.there q.child (λ j h. right j (in_without
       same_key same_key-sound same_key-refl j k f h))))
 
+-- Boxes that go leave their slots.
+pub left_slots : (a b : Arena inner.Node) (ks : List BoxKey) → marks b ≡ with_all_left (marks a) ks → length b.slots ≡ length a.slots
+left_slots a b ks slots = sym (length-map b.slots mark_of) ∙ (ap length slots ∙ (length-left (marks a) ks ∙ length-map a.slots mark_of))
+
 -- The table once the branch is gone.
 pub removed_near : (a0 a2 : Arena inner.Node) (root : BoxKey) (g : BoxForest) (ks : List BoxKey) (rows new : List Summary) → length a0.slots ≤ length rows
     → length new ≡ length rows → seen a2 root ≡ g → marks a2 ≡ with_all_left (marks a0) ks →
@@ -160,6 +173,5 @@ pub removed_near : (a0 a2 : Arena inner.Node) (root : BoxKey) (g : BoxForest) (k
 removed_near a0 a2 root g ks rows new most same sees slots right = subst (λ f. IsTabled a2 new f) (sym sees) (record { all_rows = all; right = right }) where
   all : length a2.slots ≤ length new
   all =
-      let n : length a2.slots ≡ length a0.slots = sym (length-map a2.slots mark_of) ∙ (ap length slots ∙ (length-left (marks a0) ks
-      ∙ length-map a0.slots mark_of)) in
+      let n : length a2.slots ≡ length a0.slots = left_slots a0 a2 ks slots in
       omega (arith, n, most, same)

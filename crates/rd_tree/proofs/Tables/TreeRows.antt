@@ -21,7 +21,7 @@ pub seen_stands : (a : Arena inner.Node) (root : BoxKey) → IsTree a root → I
 seen_stands a root t = subst (λ f. IsStanding a root f) (sym (seen_is a root t)) (tree_stands a root t)
 
 -- The slot of a live key was made.
-slot_made : (a : Arena inner.Node) (k : BoxKey) → is_some (linked a k) ≡ true → k.slot < length a.slots
+pub slot_made : (a : Arena inner.Node) (k : BoxKey) → is_some (linked a k) ≡ true → k.slot < length a.slots
 slot_made a k h = at (value a k.slot k.generation) refl where
   at : (o : Option inner.Node) → value a k.slot k.generation ≡ o → k.slot < length a.slots
   at None e = let n : is_some (option_map plain None) ≡ true = subst (λ o. is_some (option_map plain o) ≡ true) e h in cc (n)

@@ -88,9 +88,9 @@ pub record IsConsistent {Y S : Type 0} (a : Arena inner.Node) (root : BoxKey) (i
 abbrev pub seen : Arena inner.Node → BoxKey → BoxForest
 seen a root = read a.limit (linked a) (Some root)
 
--- what a node and its row show of its box
-abbrev pub shown_of : BoxKey → Bool → inner.Node → Summary → Shown
-shown_of k is_root n row =
+-- what a node and its row show of its box, which is the root or not and has a blended layer below it or not
+abbrev pub shown_of : BoxKey → Bool → inner.Node → Summary → Bool → Shown
+shown_of k is_root n row blend =
     record {
       key = k;
       rect = n.item.rect;
@@ -102,6 +102,7 @@ shown_of k is_root n row =
       hull = row.hull;
       touched = n.item.touched;
       touched_below = row.touched;
+      blend_below = blend;
     }
 
 -- the boxes that the links tell from one on: it, those below it, and its later siblings with theirs

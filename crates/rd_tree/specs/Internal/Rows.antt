@@ -7,13 +7,11 @@ use Rattle.rd_tree.specs.declared.node.Node as inner
 use Rattle.rd_tree.specs.declared.table.row.Summary.{Summary}
 use Rattle.rd_tree.specs.declared.table.whole.Whole.{Whole}
 use Rattle.rd_style.specs.Limits.{FitsRect, Fits}
-use Rattle.rd_tree.specs.declared.limits.TheConstants.{MAX_BOXES, MAX_DEPTH}
-use Rattle.rd_tree.specs.Forest.{empty, tree, size, has, height, in_subtree, IsApart}
+use Rattle.rd_tree.specs.declared.limits.TheConstants.{MAX_BOXES}
+use Rattle.rd_tree.specs.Forest.{empty, tree, size, has, in_subtree, IsApart}
 use Rattle.rd_tree.specs.Internal.Links.{Node, Stands, child_and_sibling}
 use Rattle.rd_tree.specs.Document.{BoxKey, Item, BoxForest, AllFit}
-use Rattle.std.specs.HashMap.{HashMap}
-use Rattle.std.specs.Prelude.{String}
-use Rattle.rd_tree.specs.Internal.Linked.{linked, seen, seen_from, IsConsistent}
+use Rattle.rd_tree.specs.Internal.Linked.{linked, seen_from}
 use Rattle.rd_tree.specs.Internal.Summaries.{summary_of, summary_at, is_above}
 use Rattle.rd_tree.specs.Hulls.{extent, hull_in, touched_in}
 
@@ -219,10 +217,3 @@ pub record CanClimb (a : Arena inner.Node) (rows : List Summary) (p : BoxKey) (Q
 pub record IsTabled (a : Arena inner.Node) (rows : List Summary) (f : BoxForest) : Type 0 where
   pub all_rows : length a.slots ≤ length rows
   pub right : (k : BoxKey) → has same_key k f ≡ true → summary_at rows k ≡ summary_of k f
-
--- What the fields of a tree always keep.
-pub record IsKept {Y S : Type 0} (a : Arena inner.Node) (root : BoxKey) (ids : HashMap
-    (String Y) BoxKey S) (rows : List Summary) : Type 0 where
-  pub sound : IsConsistent a root ids
-  pub table : IsTabled a rows (seen a root)
-  pub shallow : height (seen a root) ≤ MAX_DEPTH

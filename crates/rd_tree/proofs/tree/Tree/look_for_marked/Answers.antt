@@ -1,10 +1,13 @@
 use Rattle.std.proofs.Common.{◌≡◌, sym, ap, ◌∙◌, refl, true, arith, length, subst}
+use Rattle.std.specs.Prelude.{nat_lt}
 use Rattle.rd_keys.specs.Keys.{same_key}
 use Rattle.rd_tree.specs.Forest.{empty, has, from_some}
 use Rattle.rd_tree.specs.Shown.{shown}
 use Rattle.rd_tree.specs.Seeking.{is_marked}
 use Rattle.rd_tree.specs.Internal.Summaries.{summary_of, summary_at}
 use Rattle.rd_tree.specs.Internal.Linked.{seen}
+use Rattle.rd_tree.specs.Internal.Blending.{count_at}
+use Rattle.rd_tree.proofs.Blending.Counts.{blends_here}
 use Rattle.rd_tree.proofs.Nodes.Glances.{glance_within}
 use Rattle.rd_tree.proofs.Nodes.Looking.{looks, apart_seen}
 use Rattle.rd_tree.proofs.Nodes.Naming.{fits_seen}
@@ -20,8 +23,9 @@ returns-then-is_marked-clause-seen g c =
     c.self.inside.root c.in-Some.key c.glance_at_live-glance.result c.row_at-row.result c.self.invariant.sound.tree c.glance_at_live-glance.ensures row in
     let found = seek_found is_marked (seen c.self.inside.nodes c.self.inside.root) c.args.first c.loop-at.at c.args.steps.now c.loop-at.steps c.tick.new.self
     c.loop-at.invariant.seeks c.in-Some.key c.glance_at_live-glance.result c.row_at-row.result m c.in-Some.is (rw (← m.touched, ← m.touched_below) (sym c.is_marked.ensures ∙ c.if-is_marked.true)) c.tick.ensures in
-    rw (← c.self.view_is) (c.view_at.ensures ∙ (looks c.self.inside.nodes c.self.inside.root c.in-Some.key c.row_at-row.result
-    c.self.invariant.sound.tree row ∙ ap (shown c.self.inside.root) found.0))
+    rw (← c.self.view_is) (c.view_at.ensures ∙ (looks c.self.inside.nodes c.self.inside.root c.in-Some.key c.row_at-row.result c.blends_at-blend.result
+    c.self.invariant.sound.tree row (λ m. c.blends_at-blend.ensures ∙ (ap (λ rows. nat_lt 0 (count_at rows c.in-Some.key)) c.deref-then-is_marked.ensures.value
+    ∙ blends_here (count_at c.self.inside.blends.items) c.in-Some.key (seen c.self.inside.nodes c.self.inside.root) c.self.invariant.blending.right m)) ∙ ap (shown c.self.inside.root) found.0))
 
 pub returns-then-is_marked-clause-ticks : goal.returns-then-is_marked-clause-ticks
 returns-then-is_marked-clause-ticks g c =
@@ -100,3 +104,11 @@ view_at-requires g c = c.glance_at_live-glance.ensures
 
 pub glance_at_live-glance-requires : goal.glance_at_live-glance-requires
 glance_at_live-glance-requires g c = record { live = subst (IsLiveIfAny c.self.inside.nodes) c.in-Some.is c.loop-at.invariant.live }
+
+pub blends_at-blend-requires : goal.blends_at-blend-requires
+blends_at-blend-requires g c = omega (
+  arith,
+  ap length c.deref-then-is_marked.ensures.value,
+  c.self.invariant.blending.all_rows,
+  glance_within c.self.inside.nodes c.in-Some.key c.glance_at_live-glance.result c.glance_at_live-glance.ensures,
+)

@@ -11,6 +11,7 @@ use Rattle.rd_tree.proofs.Nodes.Editing.{put, touched_sound, still_has, reach_of
 use Rattle.rd_tree.specs.Internal.Renews.{whole_at, IsStale}
 use Rattle.rd_tree.proofs.Tables.OneBranch.{Edited, still_touched}
 use Rattle.rd_tree.proofs.Tables.Renewed.{fit_here, row_here, few_here, renews, renewed, box_edited, box_stale}
+use Rattle.rd_tree.proofs.Blending.Edits.{same_blending, reached_blending}
 use Rattle.rd_tree.proofs.Changing.Effects.{by_that, edited-placing}
 use Rattle.rd_tree.proofs.Changing.Shallow.{shallow_each}
 use Rattle.rd_tree.proofs.tree.Tree.place.Goals as goal
@@ -55,8 +56,13 @@ invariant_of-self g c =
     box_stale c.self.inside.nodes c.put_rect-reach.new.self c.touch.new.nodes c.self.inside.root c.args.key c.self.inside.ids c.self.inside.table.items
     (with_rect c.args.rect) c.put_rect-reach.result c.stale_by-stale.result c.self.invariant.sound s2.0 s1.1 s2.1 c.self.invariant.table m
     c.stale_by-stale.ensures.branch (λ n. sym c.extent_of-before.ensures ∙ (c.stale_by-stale.ensures.nothing n ∙ c.extent_of-after.ensures)) in
+    let placed = same_blending c.self.inside.nodes c.put_rect-reach.new.self c.self.inside.blends.items (seen c.self.inside.nodes c.self.inside.root)
+    (seen c.put_rect-reach.new.self c.self.inside.root) (λ j. same_key j c.args.key) (with_rect c.args.rect) (λ d. refl) s1.1
+    c.put_rect-reach.ensures.put.same_slots c.self.invariant.blending in
     record {
       sound = s2.0;
+      blending = reached_blending c.put_rect-reach.new.self c.touch.new.nodes c.self.inside.blends.items c.put_rect-reach.result c.args.key
+          (seen c.put_rect-reach.new.self c.self.inside.root) (seen c.touch.new.nodes c.self.inside.root) s2.1 c.touch.ensures.same_slots placed;
       shallow = shallow_each (λ j. same_key j c.args.key) (with_rect c.args.rect) c.put_rect-reach.result c.args.key
           (seen c.self.inside.nodes c.self.inside.root) (seen c.put_rect-reach.new.self c.self.inside.root) (seen c.touch.new.nodes c.self.inside.root) s1.1
           s2.1 c.self.invariant.shallow;

@@ -1,191 +1,62 @@
-use Rattle.std.proofs.Common.{◌≡◌, refl, ap, ◌∙◌, sym}
-use Rattle.std.specs.Prelude.{Option, Some, None}
-use Rattle.rd_keys.specs.Keys.{same_key}
-use Rattle.rd_tree.specs.declared.links.walk.Work.TheVariants.{Touch}
-use Rattle.rd_tree.specs.Document.{BoxKey, Item}
-use Rattle.rd_tree.specs.Internal.Links.{Node}
-use Rattle.rd_tree.specs.Internal.Works.{AllowsAt}
-use Rattle.rd_tree.specs.Forest.{without_branch}
-use Rattle.rd_tree.specs.Internal.Linked.{IsConsistent, linked, marks, seen}
-use Rattle.rd_tree.specs.Internal.Summaries.{summary_at}
-use Rattle.rd_tree.specs.Internal.Renews.{IsRightIn, KeepsOutside}
-use Rattle.rd_tree.specs.Internal.Reaching.{moved}
-use Rattle.rd_tree.proofs.Nodes.Each.{under_box, all_items}
-use Rattle.rd_tree.proofs.Nodes.Moving.{relink_sound}
-use Rattle.rd_tree.proofs.Tables.Above.{above_self}
-use Rattle.rd_tree.proofs.Tables.TreeRows.{seen_stands}
-use Rattle.rd_tree.proofs.Tables.Renewed.{row_here}
-use Rattle.rd_tree.proofs.Tables.Renewing.{whole_is, few_touched}
-use Rattle.rd_tree.proofs.Tables.Removed.{IsLeft, parent_above, is_parent}
-use Rattle.rd_tree.proofs.Tables.Moved.{IsLanded, touched_stands, touched_limit, still_there, touched_climbs, touched_left, landed}
-use Rattle.rd_tree.proofs.Nodes.Looking.{apart_seen}
-use Rattle.rd_tree.proofs.Changing.Effects.{by_that, edited-moving}
-use Rattle.rd_tree.proofs.Changing.Shallow.{shallow_moved}
+use Rattle.std.proofs.Common.{refl, ap}
+use Rattle.rd_tree.specs.Changes.{moving}
+use Rattle.rd_tree.specs.Contexts.{context_of, context_round, holds_blended}
+use Rattle.rd_tree.proofs.Contexts.Marks.{IsChosen, found_one, found_none, touch_ready, touch_second, both_touched}
+use Rattle.rd_tree.proofs.Contexts.Regroups.{moving_leaves_from, moving_leaves_to}
 use Rattle.rd_tree.proofs.tree.Tree.relink.Given.{Over}
-use Rattle.rd_tree.proofs.tree.Tree.relink.Goals.{After-unlink, After-graft}
+use Rattle.rd_tree.proofs.tree.Tree.relink.Goals.{After-move_to, then-holds_blended, else-holds_blended}
 use Rattle.rd_tree.proofs.tree.Tree.relink.Goals as goal
 
-pub unreachable-requires : goal.unreachable-requires
-unreachable-requires g c =
-    let h = parent_above c.self.inside.nodes c.self.inside.root c.args.key c.self.invariant.sound.tree (rw (← c.self.view_is) at c.requires.live)
-    (rw (← c.self.view_is) at c.requires.below) in
-    cc (h.up_is, c.parent_of.ensures, c.in-None.is)
+-- the context round the old place,
+from_here : (g : Over) (c : After-move_to g) → IsChosen (holds_blended c.args.key c.args.self.now) (context_round c.args.key c.args.self.now) c.args.self.now
+    c.if-holds_blended.from.0
+from_here g c =
+    elim c.if-holds_blended.branch [
+      | then-holds_blended w ↦ found_one (holds_blended c.args.key c.args.self.now) c.holds_blended.result (context_round c.args.key c.args.self.now)
+          c.args.self.now c.if-holds_blended.from.0 w.context_round.result c.holds_blended.ensures.holds w.if-holds_blended.true (ap (λ o. o.0) w.from-is)
+          w.context_round.ensures.context w.context_round.ensures.rooted w.context_round.ensures.apart
+      | else-holds_blended w ↦ found_none (holds_blended c.args.key c.args.self.now) c.holds_blended.result (context_round c.args.key c.args.self.now)
+          c.args.self.now c.if-holds_blended.from.0 c.holds_blended.ensures.holds w.if-holds_blended.false (ap (λ o. o.0) w.from-is)
+    ]
 
-pub whole_of-old-requires-clause-few : goal.whole_of-old-requires-clause-few
-whole_of-old-requires-clause-few g c = few_touched c.self.inside.nodes c.self.inside.root (seen c.self.inside.nodes c.self.inside.root) (seen_stands
-    c.self.inside.nodes c.self.inside.root c.self.invariant.sound.tree) c.args.key (rw (← c.self.view_is) at c.requires.live) c.deref.result.now
-    (ap (λ r. summary_at r c.args.key) c.deref.ensures.value ∙ c.self.invariant.table.right c.args.key (rw (← c.self.view_is) at c.requires.live))
-    c.self.invariant.sound.limit
+-- and that round the new one
+to_here : (g : Over) (c : After-move_to g) → IsChosen (holds_blended c.args.key c.args.self.now) (context_of c.args.parent c.args.self.now) c.args.self.now
+    c.if-holds_blended.from.1
+to_here g c =
+    elim c.if-holds_blended.branch [
+      | then-holds_blended w ↦ found_one (holds_blended c.args.key c.args.self.now) c.holds_blended.result (context_of c.args.parent c.args.self.now)
+          c.args.self.now c.if-holds_blended.from.1 w.context_of.result c.holds_blended.ensures.holds w.if-holds_blended.true (ap (λ o. o.1) w.from-is)
+          w.context_of.ensures.context w.context_of.ensures.rooted w.context_of.ensures.apart
+      | else-holds_blended w ↦ found_none (holds_blended c.args.key c.args.self.now) c.holds_blended.result (context_of c.args.parent c.args.self.now)
+          c.args.self.now c.if-holds_blended.from.1 c.holds_blended.ensures.holds w.if-holds_blended.false (ap (λ o. o.1) w.from-is)
+    ]
 
-pub work_below-requires-clause-read : goal.work_below-requires-clause-read
-work_below-requires-clause-read g c = (under_box c.self.inside.nodes c.self.inside.root c.args.key c.self.invariant.sound.tree (rw (← c.self.view_is) at
-    c.requires.live)).read
+pub touch_context-requires : goal.touch_context-requires
+touch_context-requires g c =
+    touch_ready (moving c.args.key c.args.parent c.args.before) c.args.self.now c.move_to.new.self (holds_blended c.args.key c.args.self.now)
+    (context_round c.args.key c.args.self.now) c.if-holds_blended.from.0 c.move_to.ensures (from_here g (goal.at.touch_context-requires g c).After-move_to)
+    (λ n p. moving_leaves_from c.args.self.now n p c.args.key c.args.parent c.args.before c.requires.live c.requires.below c.requires.parent
+    c.requires.outside c.requires.place c.requires.other (holds_blended c.args.key c.args.self.now))
 
-pub work_below-requires-clause-apart : goal.work_below-requires-clause-apart
-work_below-requires-clause-apart g c = (under_box c.self.inside.nodes c.self.inside.root c.args.key c.self.invariant.sound.tree (rw (← c.self.view_is) at
-    c.requires.live)).out
-
-pub work_below-requires-clause-allowed : goal.work_below-requires-clause-allowed
-work_below-requires-clause-allowed g c = all_items _ _ (λ d. tt)
-
-pub renew-requires : goal.renew-requires
-renew-requires g c =
-    let up = is_parent c.self.inside.nodes c.self.inside.root c.args.key c.in-Some.up c.self.invariant.sound.tree (rw (← c.self.view_is) at
-    c.requires.live) (rw (← c.self.view_is) at c.requires.below) (sym c.in-Some.is ∙ c.parent_of.ensures) in
-    touched_climbs c.self.inside.nodes c.work_below.new.nodes c.self.inside.root c.args.key c.in-Some.up c.self.inside.ids c.self.inside.table.items
-    c.self.invariant.sound (rw (← c.self.view_is) at c.requires.live) (rw (← c.self.view_is) at c.requires.below) c.work_below.ensures
-    c.self.invariant.table up
-
-pub whole_of-new-requires-clause-few : goal.whole_of-new-requires-clause-few
-whole_of-new-requires-clause-few g c =
-    let up = is_parent c.self.inside.nodes c.self.inside.root c.args.key c.in-Some.up c.self.invariant.sound.tree (rw (← c.self.view_is) at
-    c.requires.live) (rw (← c.self.view_is) at c.requires.below) (sym c.in-Some.is ∙ c.parent_of.ensures) in
-    let stands = touched_stands c.self.inside.nodes c.work_below.new.nodes c.self.inside.root c.args.key c.in-Some.up c.self.inside.ids
-    c.self.inside.table.items c.self.invariant.sound (rw (← c.self.view_is) at c.requires.live) (rw (← c.self.view_is) at
-    c.requires.below) c.work_below.ensures c.self.invariant.table up in
-    let there = still_there c.self.inside.nodes c.work_below.new.nodes c.self.inside.root c.args.key c.in-Some.up c.self.inside.ids
-    c.self.inside.table.items c.self.invariant.sound (rw (← c.self.view_is) at c.requires.live) (rw (← c.self.view_is) at
-    c.requires.below) c.work_below.ensures c.self.invariant.table up in
-    let within : IsRightIn c.renew.new.table.items (seen c.work_below.new.nodes c.self.inside.root) c.args.key = c.renew.ensures.right c.self.inside.root
-    (seen c.work_below.new.nodes c.self.inside.root) stands there tt in
-    few_touched c.work_below.new.nodes c.self.inside.root (seen c.work_below.new.nodes c.self.inside.root) stands c.args.key there c.deref-2.result.now
-    (ap (λ r. summary_at r c.args.key) c.deref-2.ensures.value ∙ within c.args.key (above_self c.work_below.new.nodes c.self.inside.root
-    (seen c.work_below.new.nodes c.self.inside.root) stands c.args.key there)) (touched_limit c.self.inside.nodes c.work_below.new.nodes
-    c.self.inside.root c.args.key c.in-Some.up c.self.inside.ids c.self.inside.table.items c.self.invariant.sound (rw (← c.self.view_is)
-    at c.requires.live) (rw (← c.self.view_is) at c.requires.below) c.work_below.ensures c.self.invariant.table up)
-
--- The branch has left its place.
-left_here : (g : Over) (c : After-unlink g) → IsLeft c.unlink.new.nodes c.self.inside.root c.in-Some.up (without_branch same_key c.args.key (seen c.work_below.new.nodes
-    c.self.inside.root)) c.renew.new.table.items c.whole_of-old.result
-left_here g c =
-    let up = is_parent c.self.inside.nodes c.self.inside.root c.args.key c.in-Some.up c.self.invariant.sound.tree (rw (← c.self.view_is) at
-    c.requires.live) (rw (← c.self.view_is) at c.requires.below) (sym c.in-Some.is ∙ c.parent_of.ensures) in
-    let stands = touched_stands c.self.inside.nodes c.work_below.new.nodes c.self.inside.root c.args.key c.in-Some.up c.self.inside.ids
-    c.self.inside.table.items c.self.invariant.sound (rw (← c.self.view_is) at c.requires.live) (rw (← c.self.view_is) at
-    c.requires.below) c.work_below.ensures c.self.invariant.table up in
-    let there = still_there c.self.inside.nodes c.work_below.new.nodes c.self.inside.root c.args.key c.in-Some.up c.self.inside.ids
-    c.self.inside.table.items c.self.invariant.sound (rw (← c.self.view_is) at c.requires.live) (rw (← c.self.view_is) at
-    c.requires.below) c.work_below.ensures c.self.invariant.table up in
-    let within : IsRightIn c.renew.new.table.items (seen c.work_below.new.nodes c.self.inside.root) c.args.key = c.renew.ensures.right c.self.inside.root
-    (seen c.work_below.new.nodes c.self.inside.root) stands there tt in
-    let outer : KeepsOutside c.work_below.new.nodes (seen c.work_below.new.nodes c.self.inside.root) c.self.inside.table.items c.renew.new.table.items
-    c.args.key = c.renew.ensures.others c.self.inside.root (seen c.work_below.new.nodes c.self.inside.root) stands there in
-    touched_left c.self.inside.nodes c.work_below.new.nodes c.self.inside.root c.args.key c.in-Some.up c.self.inside.ids c.self.inside.table.items
-    c.self.invariant.sound (rw (← c.self.view_is) at c.requires.live) (rw (← c.self.view_is) at c.requires.below) c.work_below.ensures
-    c.self.invariant.table up
-    c.unlink.new.nodes c.renew.new.table.items c.unlink.ensures within outer c.renew.ensures.same_length
-    c.whole_of-old.result (c.whole_of-old.ensures ∙ whole_is c.self.inside.nodes c.self.inside.root (seen c.self.inside.nodes c.self.inside.root)
-    (seen_stands c.self.inside.nodes c.self.inside.root c.self.invariant.sound.tree) c.args.key (rw (← c.self.view_is) at c.requires.live)
-    c.deref.result.now (ap (λ r. summary_at r c.args.key) c.deref.ensures.value ∙ c.self.invariant.table.right c.args.key (rw (← c.self.view_is) at
-    c.requires.live)))
-
-pub lose-requires : goal.lose-requires
-lose-requires g c = (left_here g (goal.at.lose-requires g c).After-unlink).climbs
-
--- The branch has come to its new place.
-landed_here : (g : Over) (c : After-graft g) → IsLeft c.unlink.new.nodes c.self.inside.root c.in-Some.up (without_branch same_key c.args.key (seen c.work_below.new.nodes
-    c.self.inside.root)) c.renew.new.table.items c.whole_of-old.result
-    → (IsConsistent c.graft.new.nodes c.self.inside.root c.self.inside.ids × (seen c.graft.new.nodes c.self.inside.root
-    ≡ moved c.args.key c.args.parent c.args.before (seen c.self.inside.nodes c.self.inside.root)) × (marks c.graft.new.nodes
-    ≡ marks c.self.inside.nodes)) × IsLanded c.graft.new.nodes c.self.inside.root c.args.parent c.lose.new.table.items c.whole_of-new.result
-landed_here g c left =
-    let up = is_parent c.self.inside.nodes c.self.inside.root c.args.key c.in-Some.up c.self.invariant.sound.tree (rw (← c.self.view_is) at
-    c.requires.live) (rw (← c.self.view_is) at c.requires.below) (sym c.in-Some.is ∙ c.parent_of.ensures) in
-    let stands = touched_stands c.self.inside.nodes c.work_below.new.nodes c.self.inside.root c.args.key c.in-Some.up c.self.inside.ids
-    c.self.inside.table.items c.self.invariant.sound (rw (← c.self.view_is) at c.requires.live) (rw (← c.self.view_is) at
-    c.requires.below) c.work_below.ensures c.self.invariant.table up in
-    let there = still_there c.self.inside.nodes c.work_below.new.nodes c.self.inside.root c.args.key c.in-Some.up c.self.inside.ids
-    c.self.inside.table.items c.self.invariant.sound (rw (← c.self.view_is) at c.requires.live) (rw (← c.self.view_is) at
-    c.requires.below) c.work_below.ensures c.self.invariant.table up in
-    let within : IsRightIn c.renew.new.table.items (seen c.work_below.new.nodes c.self.inside.root) c.args.key = c.renew.ensures.right c.self.inside.root
-    (seen c.work_below.new.nodes c.self.inside.root) stands there tt in
-    let outer : KeepsOutside c.work_below.new.nodes (seen c.work_below.new.nodes c.self.inside.root) c.self.inside.table.items c.renew.new.table.items
-    c.args.key = c.renew.ensures.others c.self.inside.root (seen c.work_below.new.nodes c.self.inside.root) stands there in
-    let t : IsConsistent c.graft.new.nodes c.self.inside.root c.self.inside.ids × (seen c.graft.new.nodes c.self.inside.root
-    ≡ moved c.args.key c.args.parent c.args.before (seen c.self.inside.nodes c.self.inside.root)) × (marks c.graft.new.nodes
-    ≡ marks c.self.inside.nodes) =
-    relink_sound c.self.inside.nodes c.work_below.new.nodes c.unlink.new.nodes c.set_place.new.self c.graft.new.nodes c.self.inside.root c.args.key
-    c.args.parent c.args.before c.left_of-prev.result c.ends_of-ends.result c.self.inside.ids c.self.invariant.sound
-    (rw (← c.self.view_is) at c.requires.live) (rw (← c.self.view_is) at c.requires.below) (rw (← c.self.view_is) at c.requires.parent)
-    (rw (← c.self.view_is) at c.requires.outside) (rw (← c.self.view_is) at c.requires.place) c.requires.other
-    c.work_below.ensures c.unlink.ensures c.ends_of-ends.ensures c.left_of-prev.ensures c.set_place.ensures c.graft.ensures in
-    let right = c.lose.ensures.right c.self.inside.root (without_branch same_key c.args.key (seen c.work_below.new.nodes c.self.inside.root)) left.stands
-    left.there left.loses in
-    let others = c.lose.ensures.others c.self.inside.root (without_branch same_key c.args.key (seen c.work_below.new.nodes c.self.inside.root)) left.stands
-    left.there in
-    let land : IsLanded c.graft.new.nodes c.self.inside.root c.args.parent c.lose.new.table.items c.whole_of-new.result =
-    landed c.self.inside.nodes c.work_below.new.nodes c.self.inside.root c.args.key c.in-Some.up c.self.inside.ids c.self.inside.table.items
-    c.self.invariant.sound (rw (← c.self.view_is) at c.requires.live) (rw (← c.self.view_is) at c.requires.below) c.work_below.ensures
-    c.self.invariant.table up
-    c.unlink.new.nodes c.renew.new.table.items c.unlink.ensures within outer c.renew.ensures.same_length
-    c.args.parent c.args.before (rw (← c.self.view_is) at c.requires.parent) (rw (← c.self.view_is) at c.requires.outside) (rw (← c.self.view_is) at
-    c.requires.place) c.requires.other c.graft.new.nodes c.lose.new.table.items left.there right others c.lose.ensures.same_length t.0 t.1 t.2
-    c.whole_of-new.result (c.whole_of-new.ensures ∙ whole_is c.work_below.new.nodes c.self.inside.root (seen c.work_below.new.nodes c.self.inside.root)
-    stands c.args.key there c.deref-2.result.now (ap (λ r. summary_at r c.args.key) c.deref-2.ensures.value
-    ∙ within c.args.key (above_self c.work_below.new.nodes c.self.inside.root (seen c.work_below.new.nodes c.self.inside.root) stands c.args.key
-    there))) in
-    (t, land)
-
-pub gain-requires : goal.gain-requires
-gain-requires g c = (landed_here g (goal.at.gain-requires g c).After-graft (left_here g (goal.at.gain-requires g c).After-unlink)).1.climbs
-
-pub invariant_of-self : goal.invariant_of-self
-invariant_of-self g c =
-    let came = landed_here g (goal.at.invariant_of-self g c).After-graft (left_here g (goal.at.invariant_of-self g c).After-unlink) in
-    record {
-      sound = came.0.0;
-      table = came.1.table c.gain.new.table.items c.gain.ensures.same_length (c.gain.ensures.right c.self.inside.root (seen c.graft.new.nodes
-          c.self.inside.root) (seen_stands c.graft.new.nodes c.self.inside.root came.0.0.tree) came.1.there came.1.gains);
-      shallow = shallow_moved c.args.key c.args.parent c.args.before (seen c.self.inside.nodes c.self.inside.root) (seen c.graft.new.nodes
-          c.self.inside.root) came.0.1 (apart_seen c.self.inside.nodes c.self.inside.root c.self.invariant.sound.tree)
-          (rw (← c.self.view_is) at c.requires.live) (rw (← c.self.view_is) at c.requires.parent) (rw (← c.self.view_is) at
-          c.requires.outside) c.self.invariant.shallow (rw (← c.self.view_is) at c.requires.depth);
-    }
+pub touch_context-requires-2 : goal.touch_context-requires-2
+touch_context-requires-2 g c =
+    touch_second (moving c.args.key c.args.parent c.args.before) c.args.self.now c.move_to.new.self (holds_blended c.args.key c.args.self.now)
+    (context_round c.args.key c.args.self.now) c.if-holds_blended.from.0 c.move_to.ensures (from_here g (goal.at.touch_context-requires-2 g c).After-move_to)
+    (λ n p. moving_leaves_from c.args.self.now n p c.args.key c.args.parent c.args.before c.requires.live c.requires.below c.requires.parent
+    c.requires.outside c.requires.place c.requires.other (holds_blended c.args.key c.args.self.now))
+    (context_of c.args.parent c.args.self.now) c.if-holds_blended.from.1 c.touch_context.new.self c.touch_context.ensures
+    (to_here g (goal.at.touch_context-requires-2 g c).After-move_to)
+    (λ n p. moving_leaves_to c.args.self.now n p c.args.key c.args.parent c.args.before c.requires.live c.requires.below c.requires.parent
+    c.requires.outside c.requires.place c.requires.other (holds_blended c.args.key c.args.self.now))
 
 pub returns : goal.returns
 returns g c =
-    let t : IsConsistent c.graft.new.nodes c.self.inside.root c.self.inside.ids × (seen c.graft.new.nodes c.self.inside.root
-    ≡ moved c.args.key c.args.parent c.args.before (seen c.self.inside.nodes c.self.inside.root)) × (marks c.graft.new.nodes
-    ≡ marks c.self.inside.nodes) =
-    relink_sound c.self.inside.nodes c.work_below.new.nodes c.unlink.new.nodes c.set_place.new.self c.graft.new.nodes c.self.inside.root c.args.key
-    c.args.parent c.args.before c.left_of-prev.result c.ends_of-ends.result c.self.inside.ids c.self.invariant.sound
-    (rw (← c.self.view_is) at c.requires.live) (rw (← c.self.view_is) at c.requires.below) (rw (← c.self.view_is) at c.requires.parent)
-    (rw (← c.self.view_is) at c.requires.outside) (rw (← c.self.view_is) at c.requires.place) c.requires.other
-    c.work_below.ensures c.unlink.ensures c.ends_of-ends.ensures c.left_of-prev.ensures c.set_place.ensures c.graft.ensures in
-    by_that _ _ _ (edited-moving c.args.key c.args.parent c.args.before c.args.self.now) (rw (← c.self.view_is, t.1, t.2) refl)
-
-pub whole_of-old-requires-clause-here : goal.whole_of-old-requires-clause-here
-whole_of-old-requires-clause-here g c = rw c.deref.ensures.value (row_here c.self.inside.nodes c.self.inside.root c.args.key c.self.inside.ids
-    c.self.invariant.sound (rw (← c.self.view_is) at c.requires.live) c.self.inside.table.items c.self.invariant.table)
-
--- Any box may be touched.
-touch_allowed : (o : Option (Node BoxKey Item)) → AllowsAt Touch o
-touch_allowed None = tt
-touch_allowed (Some n) = tt
-
-pub work_below-requires-clause-here : goal.work_below-requires-clause-here
-work_below-requires-clause-here g c = touch_allowed (linked c.self.inside.nodes c.args.key)
-
-pub whole_of-new-requires-clause-here : goal.whole_of-new-requires-clause-here
-whole_of-new-requires-clause-here g c = rw (c.deref-2.ensures.value, c.renew.ensures.same_length) (row_here c.self.inside.nodes c.self.inside.root c.args.key
-    c.self.inside.ids c.self.invariant.sound (rw (← c.self.view_is) at c.requires.live) c.self.inside.table.items c.self.invariant.table)
+    both_touched (moving c.args.key c.args.parent c.args.before) c.args.self.now c.move_to.new.self (holds_blended c.args.key c.args.self.now)
+    (context_round c.args.key c.args.self.now) c.if-holds_blended.from.0 c.move_to.ensures (from_here g (goal.at.returns g c).After-move_to)
+    (λ n p. moving_leaves_from c.args.self.now n p c.args.key c.args.parent c.args.before c.requires.live c.requires.below c.requires.parent
+    c.requires.outside c.requires.place c.requires.other (holds_blended c.args.key c.args.self.now))
+    (context_of c.args.parent c.args.self.now) c.if-holds_blended.from.1 c.touch_context.new.self c.touch_context.ensures
+    (to_here g (goal.at.returns g c).After-move_to)
+    (λ n p. moving_leaves_to c.args.self.now n p c.args.key c.args.parent c.args.before c.requires.live c.requires.below c.requires.parent
+    c.requires.outside c.requires.place c.requires.other (holds_blended c.args.key c.args.self.now))
+    c.touch_context-2.new.self c.touch_context-2.ensures (λ j. refl)

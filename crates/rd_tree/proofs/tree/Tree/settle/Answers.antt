@@ -8,6 +8,7 @@ use Rattle.rd_tree.proofs.Nodes.Editing.{settled_sound}
 use Rattle.rd_tree.proofs.Tables.Above.{is_live}
 use Rattle.rd_tree.proofs.Tables.TreeRows.{seen_stands, each_has_row}
 use Rattle.rd_tree.proofs.Tables.Keeping.{settled_table}
+use Rattle.rd_tree.proofs.Blending.Edits.{same_blending}
 use Rattle.rd_tree.proofs.Changing.Shallow.{shallow_items}
 use Rattle.rd_tree.proofs.Tables.Renewed.{row_here, few_here}
 use Rattle.rd_tree.proofs.Tables.Settling.{root_there, all_marks}
@@ -45,6 +46,9 @@ invariant_of-self g c =
     c.settle_from.ensures.settled in
     rw c.note_quiet.ensures (record {
       sound = s.0;
+      blending = same_blending c.self.inside.nodes c.settle_from.new.nodes c.self.inside.blends.items (seen c.self.inside.nodes c.self.inside.root)
+          (seen c.settle_from.new.nodes c.self.inside.root) (λ j. true) settled (λ d. refl) s.1 c.settle_from.ensures.settled.same_slots
+          c.self.invariant.blending;
       shallow = shallow_items (λ j. true) settled (seen c.self.inside.nodes c.self.inside.root) (seen c.settle_from.new.nodes c.self.inside.root) s.1
           c.self.invariant.shallow;
       table = settled_table c.self.inside.nodes c.settle_from.new.nodes c.self.inside.root c.self.inside.table.items c.settle_from.new.table.items

@@ -14,6 +14,7 @@ use Rattle.rd_tree.specs.declared.table.renew.Stale.TheVariants.{Branch}
 use Rattle.rd_tree.specs.Internal.Renews.{whole_at}
 use Rattle.rd_tree.proofs.Tables.OneBranch.{Edited}
 use Rattle.rd_tree.proofs.Tables.Renewed.{row_here, few_here, renews, renewed, subtree_edited}
+use Rattle.rd_tree.proofs.Blending.Edits.{same_blending}
 use Rattle.rd_tree.proofs.Changing.Effects.{by_that, edited-shifting}
 use Rattle.rd_tree.proofs.Changing.Shallow.{shallow_items}
 use Rattle.rd_tree.proofs.tree.Tree.shift.Goals as goal
@@ -65,6 +66,9 @@ invariant_of-self g c =
     c.self.inside.nodes c.work_below.new.nodes c.self.inside.root c.args.key (move_by c.args.dx c.args.dy) s.1 in
     record {
       sound = s.0;
+      blending = same_blending c.self.inside.nodes c.work_below.new.nodes c.self.inside.blends.items (seen c.self.inside.nodes c.self.inside.root)
+          (seen c.work_below.new.nodes c.self.inside.root) (λ j. in_subtree same_key j c.args.key (seen c.self.inside.nodes c.self.inside.root))
+          (move_by c.args.dx c.args.dy) (λ d. refl) s.1 c.work_below.ensures.same_slots c.self.invariant.blending;
       shallow = shallow_items (λ j. in_subtree same_key j c.args.key (seen c.self.inside.nodes c.self.inside.root)) (move_by c.args.dx
           c.args.dy) (seen c.self.inside.nodes c.self.inside.root) (seen c.work_below.new.nodes c.self.inside.root) s.1 c.self.invariant.shallow;
       table = renewed c.self.inside.nodes c.work_below.new.nodes c.self.inside.root c.args.key c.self.inside.ids c.self.inside.table.items
