@@ -1,5 +1,5 @@
 -- Subtrees that are off an area.
-use Rattle.std.proofs.Common.{◌≡◌, refl, ap, ◌∙◌, sym, subst, Bool, true, false, not, ◌&&◌, ◌||◌, cond, List, [], ◌∷◌, ℕ, pos, ◌+ℤ◌, ◌-ℤ◌, IsTrue, arith, inl, inr, nat_lt}
+use Rattle.std.proofs.Common.{◌≡◌, refl, ap, ◌∙◌, sym, subst, Bool, true, false, not, ◌&&◌, ◌||◌, cond, List, [], ◌∷◌, ℕ, pos, ◌+ℤ◌, ◌-ℤ◌, IsTrue, arith, nat_lt}
 use Rattle.std.specs.Prelude.{Option, Some, None, option_map}
 use Rattle.std.proofs.lemmas.Int.{ints}
 use Rattle.rd_geom.specs.Plane.{Rectangle, right, bottom, meet, has_none, no_pixels, hull_of, around, outset, inset, holds_pixel, IsWithin}
@@ -24,12 +24,14 @@ use Rattle.rd_tree.proofs.Linking.Standing.{never, refute, either, from_left, fr
 use Rattle.rd_stack.specs.Paths.{BoxData, BoxPath, is_none, is_root}
 use Rattle.rd_stack.specs.Clips.{clip_of, padding_box}
 use Rattle.rd_stack.specs.Parts.{shown, shape_of, is_seen, takes_hits, has_border, solid, frame, background}
-use Rattle.rd_stack.specs.Fresh.{box_data, root_order}
+use Rattle.rd_stack.specs.Fresh.{box_data, given, grouped_in, root_order}
 use Rattle.rd_stack.specs.Cut.{pruned, all_cut, IsClosed}
 use Rattle.rd_stack.specs.Reached.{Grows, reached, reached_tree, FilteringLaw, MeetingLaw}
 use Rattle.rd_stack.proofs.Growing.{grows_area}
 use Rattle.rd_stack.proofs.Left.Cuts.{all_from_has, closed_all}
 use Rattle.rd_stack.proofs.Cutting.{order-cut}
+use Rattle.rd_stack.proofs.Grouping.Own.{given_list}
+use Rattle.rd_list.specs.Lists.{meeting}
 use Rattle.rd_stack.proofs.Leafwise.{EachLeaf, OfLeaf, OfParts, EachBox, in_order, only_where}
 
 within_hull_left : (a b : Rectangle) → IsWithin a (hull_of a b)
@@ -221,22 +223,22 @@ module _ (meets : Rectangle → Bool) (cut : BoxKey → Bool) where
       by true p u v = ((λ c. absurd (never (cut k) c p.here)), u p.low, v p.later)
       by false p u v = let low : all_cut cut below ≡ true = all_from_has cut below p.low in ((λ _. low), closed_all cut below low, v p.later)
 
-order-reached : (meets : Rectangle → Bool) → Grows meets → (canvas : Rectangle) (k : BoxKey) (d : Item) (f : BoxForest) → IsApart same_key (tree k d f empty)
-    → only (λ l. meets l.visible) (root_order canvas (tree k d f empty)) ≡ only (λ l. meets l.visible) (root_order canvas (tree k d (reached meets f) empty))
-order-reached meets grows canvas k d f a =
+order-reached : (g : BoxKey → Bool) (meets : Rectangle → Bool) → Grows meets → (canvas : Rectangle) (k : BoxKey) (d : Item) (f : BoxForest) → IsApart same_key (tree k d f empty)
+    → only (λ l. meets l.visible) (root_order (given g) canvas (tree k d f empty)) ≡ only (λ l. meets l.visible) (root_order (given g) canvas (tree k d (reached meets f) empty))
+order-reached g meets grows canvas k d f a =
     let cut : BoxKey → Bool = λ j. not (has same_key j (tree k d (reached meets f) empty)) in
     let p : Leaf → Bool = λ l. meets l.visible in
     let root : cut k ≡ false = ap not (from_left (same_key k k) _ (same_key-refl k)) in
     let rest : IsRest meets cut f = λ j u. ap not (rw (differs same_key same_key-sound same_key-refl f j k u a.0) (or_none (has same_key j (reached meets f)))) in
     let far : AreFar meets grows cut canvas f = far_reached meets grows cut canvas f (λ j u. ap not (from_right (same_key j k) _ (from_left (has same_key j (reached meets f)) false u))) in
     let whole = tree k d f empty in
-    let each : EachLeaf (IsOff meets grows cut canvas) (root_order canvas whole) =
-    in_order (IsOff meets grows cut canvas) canvas whole (of_root meets grows cut canvas (record { above = []; here = box_data k d }) root, far_boxes meets grows cut canvas (box_data k d ∷ []) f refl far, tt) in
+    let each : EachLeaf (IsOff meets grows cut canvas) (root_order (given g) canvas whole) =
+    in_order (IsOff meets grows cut canvas) canvas (given g) whole (of_root meets grows cut canvas (record { above = []; here = box_data k d }) root, far_boxes meets grows cut canvas (box_data k d ∷ []) f refl far, tt) in
     let c : IsClosed cut f = rest_closed meets cut f a.3 rest in
     let left : pruned cut whole ≡ tree k d (reached meets f) empty = rw root (ap (λ z. tree k d z empty) (rest_pruned meets cut f a.3 rest)) in
-    only_where p (λ l. not (cut l.owner) && p l) (root_order canvas whole) (agree cut p (root_order canvas whole) each)
-    ∙ (sym (only_only (λ l. not (cut l.owner)) p (root_order canvas whole))
-    ∙ ap (only p) (order-cut cut canvas k d f c root ∙ ap (root_order canvas) left))
+    only_where p (λ l. not (cut l.owner) && p l) (root_order (given g) canvas whole) (agree cut p (root_order (given g) canvas whole) each)
+    ∙ (sym (only_only (λ l. not (cut l.owner)) p (root_order (given g) canvas whole))
+    ∙ ap (only p) (order-cut g cut canvas k d f c root ∙ ap (root_order (given g) canvas) left))
   where
     or_none : (b : Bool) → (b || false) ≡ b
     or_none true = refl
@@ -252,9 +254,9 @@ order-reached meets grows canvas k d f a =
     agree cut p (group g inner xs) h = (agree cut p inner h.0, agree cut p xs h.1)
 
 pub filtering : FilteringLaw
-filtering t a r meets grows =
-    subst (λ z. only (λ l. meets l.visible) (root_order (canvas_of t.canvas) z) ≡ only (λ l. meets l.visible) (root_order (canvas_of t.canvas) (reached_tree meets z))) (sym r.2)
-    (order-reached meets grows (canvas_of t.canvas) t.root r.0 r.1 (subst (λ z. IsApart same_key z) r.2 a))
+filtering g t a r meets grows =
+    subst (λ z. only (λ l. meets l.visible) (root_order (given g) (canvas_of t.canvas) z) ≡ only (λ l. meets l.visible) (root_order (given g) (canvas_of t.canvas) (reached_tree meets z))) (sym r.2)
+    (order-reached g meets grows (canvas_of t.canvas) t.root r.0 r.1 (subst (λ z. IsApart same_key z) r.2 a))
 
 pub meeting_area : MeetingLaw
-meeting_area t a r area = filtering t a r (meets_area area) (grows_area area)
+meeting_area t a r area = ap (meeting area) (given_list t a r) ∙ filtering (grouped_in t.boxes) t a r (meets_area area) (grows_area area)

@@ -1,10 +1,9 @@
 -- What has a common pixel with an area has one still where it is larger.
-use Rattle.std.proofs.Common.{◌≡◌, refl, Bool, true, false, ◌&&◌, ◌||◌, List, [], ◌∷◌, ℕ, ◌+◌, ℤ, pos, ◌≤ℤ◌, ◌<ℤ◌, IsTrue, arith, inl, inr}
+use Rattle.std.proofs.Common.{◌≡◌, refl, Bool, true, false, ◌&&◌, List, [], ◌∷◌, ℕ, ◌+◌, ℤ, pos, ◌≤ℤ◌, ◌<ℤ◌, arith, inl, inr}
 use Rattle.std.proofs.lemmas.Int.{ints, clamps}
-use Rattle.std.specs.Prelude.{int_lt, int_le}
 use Rattle.std.specs.List.{list_any}
 use Rattle.std.specs.Int.{int_max, int_min}
-use Rattle.rd_geom.specs.Plane.{Rectangle, right, bottom, is_among, holds_pixel, IsWithin}
+use Rattle.rd_geom.specs.Plane.{Rectangle, right, bottom, is_among, IsWithin}
 use Rattle.rd_geom.specs.Areas.{Region, meets_span, meets_rows, meets_area}
 use Rattle.rd_geom.specs.declared.span.Span.{Span}
 use Rattle.rd_geom.proofs.Pixels.{At, at_holds, holds_at}

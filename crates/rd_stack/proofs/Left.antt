@@ -6,5 +6,4 @@ pub mod StepsLeft
 pub mod Pruned
 pub mod Cuts
 pub mod Alone
-pub mod Marked
 pub mod Bare

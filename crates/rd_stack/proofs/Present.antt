@@ -22,10 +22,10 @@ use Rattle.rd_tree.specs.Forest.{empty, tree}
 use Rattle.rd_tree.specs.declared.node.Item.{Item}
 use Rattle.rd_tree.specs.Document.{BoxForest}
 use Rattle.rd_tree.proofs.Linking.Standing.{cases}
-use Rattle.rd_stack.specs.Paths.{BoxData, BoxPath, is_none, is_root, is_context, is_class, has_class, is_plain, is_inline, is_no_context, is_local, is_layer, is_in_line}
+use Rattle.rd_stack.specs.Paths.{BoxData, BoxPath, is_none, is_root, is_context, is_class, has_class, is_plain, is_inline, is_no_context, is_local, is_layer, is_in_line, is_blended_layer, is_grouped}
 use Rattle.rd_stack.specs.Parts.{leaf_at}
-use Rattle.rd_stack.specs.Painting.{Painted, by_level, insert_by_level, is_lower, entry_of, is_grouped, paint_if, paint, back_border, inline_part, content_and_line, steps, root_background, own_background_and_border, negative_layers, block_backgrounds, floats, inline_context, block_contents, zero_layers, positive_layers, outlines, local_boxes, layers_of, line_of, of_class, is_negative, is_positive, is_zero, is_blocky}
-use Rattle.rd_stack.specs.Fresh.{box_data, Subtree, preorder, painted_at, painted, painting_order, root_order, fresh_list}
+use Rattle.rd_stack.specs.Painting.{Painted, by_level, insert_by_level, is_lower, entry_of, wrapper_of, paint_if, paint, back_border, inline_part, content_and_line, steps, root_background, own_background_and_border, negative_layers, block_backgrounds, floats, inline_context, block_contents, zero_layers, positive_layers, outlines, local_boxes, layers_of, line_of, of_class, is_negative, is_positive, is_zero, is_blocky}
+use Rattle.rd_stack.specs.Fresh.{box_data, Subtree, preorder, descendants, is_grouped_at, grouping, painted_at, painted, painting_order, root_order, fresh_list}
 use Rattle.rd_stack.specs.Whole.{IsLeafOf, DescendantsLaw, WholeLaw}
 use Rattle.rd_stack.proofs.Counting.Sums.{total}
 use Rattle.rd_stack.proofs.Counting.Counted.{one, leaf_once}
@@ -118,9 +118,9 @@ module _ (canvas : Rectangle) (l : Leaf) where
   in_when false xs e h = cc
 
   in_grouped : (x : Painted) → Holds x.order → Holds (entry_of x)
-  in_grouped x h = by (is_grouped x.at && has_leaf (flat x.order))
+  in_grouped x h = by (x.grouped && has_leaf (flat x.order))
     where
-      by : (b : Bool) → Holds (cond b (group (record { key = x.at.here.key; opacity = x.at.here.style.opacity }) x.order nil) x.order)
+      by : (b : Bool) → Holds (cond b (group (wrapper_of x.at) x.order nil) x.order)
       by true = inl h
       by false = h
 
@@ -516,15 +516,15 @@ module _ (canvas : Rectangle) (l : Leaf) where
   and_right false h = h
 
   -- What e takes of the boxes below it is painted.
-  down : (e : BoxPath) (whole : List Painted) (path : List BoxData) (f : BoxForest) → ((y : Painted) → Has (painted canvas (path ++ e.here ∷ e.above) f) y → Has whole y)
+  down : (e : BoxPath) (whole : List Painted) (path : List BoxData) (f : BoxForest) → ((y : Painted) → Has (painted grouping canvas (path ++ e.here ∷ e.above) f) y → Has whole y)
       → (list_all is_plain path ≡ true → Line e whole (path ++ e.here ∷ e.above))
       → TakenOf (path ++ e.here ∷ e.above) (is_context e && list_all is_no_context path) (list_all is_plain path) f → Holds (steps canvas e whole)
   down e whole path empty sub line t = absurd t
   down e whole path (tree k d ch nx) sub line (inl t) =
       let above = path ++ e.here ∷ e.above in
       let at : BoxPath = record { above = above; here = box_data k d } in
-      let p1 = painted canvas (box_data k d ∷ above) ch in
-      let x : Painted = record { at = at; order = steps canvas at p1 } in
+      let p1 = painted grouping canvas (box_data k d ∷ above) ch in
+      let x : Painted = painted_at grouping canvas at p1 in
       let start : list_all is_plain [] ≡ true → Line at p1 (box_data k d ∷ above) = λ _. record { owner = at; way = []; is = refl; inline = refl; owns = inl refl } in
       let context : real d.style false ≡ true → (is_context at && true) ≡ true = λ q. and_right (is_context at) (ap (real d.style) (is_none-path path e.here e.above) ∙ q) in
       entered e whole path x refl (sub x (inl refl)) (TakenOf (box_data k d ∷ above) (real d.style false) true ch)
@@ -533,25 +533,25 @@ module _ (canvas : Rectangle) (l : Leaf) where
   down e whole path (tree k d ch nx) sub line (inr (inl t)) =
       let above = path ++ e.here ∷ e.above in
       let at : BoxPath = record { above = above; here = box_data k d } in
-      let p1 = painted canvas (box_data k d ∷ above) ch in
-      let x : Painted = record { at = at; order = steps canvas at p1 } in
-      down e whole (box_data k d ∷ path) ch (λ y u. sub y (inr (has_left p1 (painted canvas above nx) y u)))
+      let p1 = painted grouping canvas (box_data k d ∷ above) ch in
+      let x : Painted = painted_at grouping canvas at p1 in
+      down e whole (box_data k d ∷ path) ch (λ y u. sub y (inr (has_left p1 (painted grouping canvas above nx) y u)))
       (λ u. onward e whole path x refl (sub x (inl refl)) (box_data k d) refl line u)
       (taken_more (box_data k d ∷ above) ((is_context e && list_all is_no_context path) && not (real d.style false)) (is_plain (box_data k d) && list_all is_plain path)
       (is_context e && (not (real d.style false) && list_all is_no_context path)) (is_plain (box_data k d) && list_all is_plain path) ch (swapped (is_context e) (list_all is_no_context path) (not (real d.style false))) (λ q. q) t)
   down e whole path (tree k d ch nx) sub line (inr (inr t)) =
       let above = path ++ e.here ∷ e.above in
-      down e whole path nx (λ y u. sub y (inr (has_right (painted canvas (box_data k d ∷ above) ch) (painted canvas above nx) y u))) line t
+      down e whole path nx (λ y u. sub y (inr (has_right (painted grouping canvas (box_data k d ∷ above) ch) (painted grouping canvas above nx) y u))) line t
 
   -- Each leaf of each box is in the list of the root.
-  present : (k : BoxKey) (d : Item) (f : BoxForest) → IsLeafIn [] (tree k d f empty) → Holds (root_order canvas (tree k d f empty))
-  present k d f h = in_grouped (record { at = at; order = steps canvas at whole }) (by h)
+  present : (k : BoxKey) (d : Item) (f : BoxForest) → IsLeafIn [] (tree k d f empty) → Holds (root_order grouping canvas (tree k d f empty))
+  present k d f h = in_grouped (painted_at grouping canvas at whole) (by h)
     where
       at : BoxPath
       at = record { above = []; here = box_data k d }
 
       whole : List Painted
-      whole = painted canvas (box_data k d ∷ []) f
+      whole = painted grouping canvas (box_data k d ∷ []) f
 
       by : IsLeafIn [] (tree k d f empty) → Holds (steps canvas at whole)
       by (inl o) = itself at whole o
@@ -617,9 +617,9 @@ whole_list t apart r =
     let canvas = canvas_of t.canvas in
     let list = flat (fresh_list t) in
     let there : (l : Leaf) → IsLeafIn canvas l [] t.boxes → Has list l = λ l h. in_flat canvas l (fresh_list t)
-    (subst (λ z. Holds canvas l (root_order canvas z)) (sym r.2) (present canvas l t.root r.0 r.1 (subst (λ z. IsLeafIn canvas l [] z) r.2 h))) in
+    (subst (λ z. Holds canvas l (root_order grouping canvas z)) (sym r.2) (present canvas l t.root r.0 r.1 (subst (λ z. IsLeafIn canvas l [] z) r.2 h))) in
     let back : (l : Leaf) → Has list l → IsLeafIn canvas l [] t.boxes = λ l c. each_at (λ m. IsLeafIn canvas m [] t.boxes) (fresh_list t)
-    (in_order (λ m. IsLeafIn canvas m [] t.boxes) canvas t.boxes (of_boxes canvas (λ m. IsLeafIn canvas m [] t.boxes) [] t.boxes (λ m u. u))) l c in
+    (in_order (λ m. IsLeafIn canvas m [] t.boxes) canvas grouping t.boxes (of_boxes canvas (λ m. IsLeafIn canvas m [] t.boxes) [] t.boxes (λ m u. u))) l c in
     let from_box : (l : Leaf) → IsLeafOf t l → IsLeafIn canvas l [] t.boxes = λ l o. of_box canvas l [] t.boxes o.box (has_from (preorder [] t.boxes) o.box o.there) (o.part, o.is) in
     record {
       leaves = λ l. (
@@ -633,12 +633,30 @@ whole_list t apart r =
           omega (arith, most, least, n);
     }
 
+-- A box of a tree with all that it paints.
+abbrev painted_of : Rectangle → Subtree → Painted
+painted_of canvas s = record { at = s.at; order = painting_order grouping canvas s; grouped = is_grouped_at s }
+
+any-map : (canvas : Rectangle) (p : BoxPath → Bool) (xs : List Subtree) → list_any (λ x. p x.at) (map (painted_of canvas) xs) ≡ list_any (λ x. p x.at) xs
+any-map canvas p [] = refl
+any-map canvas p (x ∷ xs) = ap (λ b. p x.at || b) (any-map canvas p xs)
+
+-- Boxes are grouped by what is below them, painted or not.
+grouped-painted : (canvas : Rectangle) (s : Subtree) (xs : List Painted) → xs ≡ map (painted_of canvas) (descendants s) → grouping s.at xs ≡ is_grouped_at s
+grouped-painted canvas s xs h = ap (grouping s.at) h ∙ ap (is_grouped s.at) (any-map canvas (is_blended_layer s.at) (descendants s))
+
+painted-is : (canvas : Rectangle) (above : List BoxData) (f : BoxForest) → painted grouping canvas above f ≡ map (painted_of canvas) (preorder above f)
+painted-is canvas above empty = refl
+painted-is canvas above (tree k d below rest) =
+    let e : BoxPath = record { above = above; here = box_data k d } in
+    let low = painted-is canvas (box_data k d ∷ above) below in
+    let inside : List Painted = painted grouping canvas (box_data k d ∷ above) below in
+    (λ i. record { at = e; order = steps canvas e inside; grouped = grouped-painted canvas (record { at = e; below = below }) inside low i } ∷ low i ++ painted-is canvas above rest i)
+    ∙ ap (λ zs. painted_of canvas (record { at = e; below = below }) ∷ zs) (sym (map-append (painted_of canvas) (preorder (box_data k d ∷ above) below) (preorder above rest)))
+
+-- The painted boxes of a tree, of which it is told whether each is grouped.
+pub grouped-below : (canvas : Rectangle) (s : Subtree) → grouping s.at (painted grouping canvas (s.at.here ∷ s.at.above) s.below) ≡ is_grouped_at s
+grouped-below canvas s = grouped-painted canvas s _ (painted-is canvas (s.at.here ∷ s.at.above) s.below)
+
 pub descending : DescendantsLaw
-descending canvas e = by (e.at.here ∷ e.at.above) e.below
-  where
-    by : (above : List BoxData) (f : BoxForest) → painted canvas above f ≡ map (λ s. record { at = s.at; order = painting_order canvas s }) (preorder above f)
-    by above empty = refl
-    by above (tree k d below rest) =
-        ap (λ zs. painted_at canvas (record { above = above; here = box_data k d }) (painted canvas (box_data k d ∷ above) below) ∷ zs)
-        ((λ i. by (box_data k d ∷ above) below i ++ by above rest i)
-        ∙ sym (map-append (λ s. record { at = s.at; order = painting_order canvas s }) (preorder (box_data k d ∷ above) below) (preorder above rest)))
+descending canvas e = painted-is canvas (e.at.here ∷ e.at.above) e.below

@@ -1,17 +1,18 @@
 -- The fresh list of a document.
 -- What names no section of a standard is this project's own choice.
-use Rattle.std.specs.Prelude.{List, [], ◌∷◌, ◌++◌}
+use Rattle.std.specs.Prelude.{Bool, ◌&&◌, List, [], ◌∷◌, ◌++◌}
+use Rattle.std.specs.List.{list_any}
 use Rattle.rd_geom.specs.Plane.{Rectangle}
 use Rattle.rd_geom.specs.Canvas.{canvas_of}
-use Rattle.rd_keys.specs.Keys.{BoxKey}
+use Rattle.rd_keys.specs.Keys.{BoxKey, same_key}
 use Rattle.rd_item.specs.declared.leaf.Leaf.{Leaf}
 use Rattle.rd_list.specs.Wrappers.{Wrapper}
 use Rattle.rd_list.specs.Entries.{Entries, nil}
 use Rattle.rd_tree.specs.Forest.{empty, tree}
 use Rattle.rd_tree.specs.declared.node.Item.{Item}
 use Rattle.rd_tree.specs.Document.{BoxForest, Document, at}
-use Rattle.rd_stack.specs.Paths.{BoxData, BoxPath}
-use Rattle.rd_stack.specs.Painting.{Painted, steps, entry_of}
+use Rattle.rd_stack.specs.Paths.{BoxData, BoxPath, is_blended_layer, is_grouped}
+use Rattle.rd_stack.specs.Painting.{Painted, has_blended_layer, steps, entry_of}
 
 -- a box of a tree, for painting
 abbrev pub box_data : BoxKey → Item → BoxData
@@ -34,10 +35,18 @@ preorder above (tree k d children next) =
 abbrev pub descendants : Subtree → List Subtree
 descendants e = preorder (e.at.here ∷ e.at.above) e.below
 
-module _ (canvas : Rectangle) where
+-- a test of which boxes are grouped, by where they stand and what is painted below them
+abbrev pub Grouping : Type 0
+Grouping = BoxPath → List Painted → Bool
+
+-- CSS Compositing 1 section 3.2: that of painting
+abbrev pub grouping : Grouping
+grouping e below = is_grouped e (has_blended_layer e below)
+
+module _ (groups : Grouping) (canvas : Rectangle) where
   -- a box with all that it paints
   abbrev pub painted_at : BoxPath → List Painted → Painted
-  painted_at e below = record { at = e; order = steps canvas e below }
+  painted_at e below = record { at = e; order = steps canvas e below; grouped = groups e below }
 
   -- such a box before those below it
   abbrev pub with_below : List BoxData → BoxData → List Painted → List Painted
@@ -57,9 +66,24 @@ module _ (canvas : Rectangle) where
   abbrev pub root_order : BoxForest → Entries Wrapper Leaf
   root_order empty = nil
   root_order (tree k d children next) =
-      let root : Subtree = record { at = record { above = []; here = box_data k d }; below = children } in
-      entry_of (record { at = root.at; order = painting_order root })
+      entry_of (painted_at (record { above = []; here = box_data k d }) (painted (box_data k d ∷ []) children))
 
 -- CSS 2.2 Appendix E: what a tree of boxes paints, from bottom to top
 abbrev pub fresh_list : Document → Entries Wrapper Leaf
-fresh_list t = root_order (canvas_of t.canvas) t.boxes
+fresh_list t = root_order grouping (canvas_of t.canvas) t.boxes
+
+-- CSS Compositing 1 section 3.2: is a box grouped, by its descendants?
+abbrev pub is_grouped_at : Subtree → Bool
+is_grouped_at s = is_grouped s.at (list_any (λ x. is_blended_layer s.at x.at) (descendants s))
+
+-- is the box of this key grouped, in these boxes?
+abbrev pub grouped_in : BoxForest → BoxKey → Bool
+grouped_in f k = list_any (λ s. same_key k s.at.here.key && is_grouped_at s) (preorder [] f)
+
+-- a grouping that is given by keys
+abbrev pub given : (BoxKey → Bool) → Grouping
+given g e below = g e.here.key
+
+-- what a tree of boxes paints where it is given which boxes are grouped
+abbrev pub list_given : (BoxKey → Bool) → Document → Entries Wrapper Leaf
+list_given g t = root_order (given g) (canvas_of t.canvas) t.boxes

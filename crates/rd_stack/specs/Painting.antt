@@ -1,6 +1,7 @@
 -- The painting order of a box and of all that is below it (CSS 2.2 Appendix E.2). How boxes are gathered into lists is
 -- this project's own form of it.
-use Rattle.std.specs.Prelude.{ℤ, pos, int_lt, nat_lt, Bool, not, ◌&&◌, ◌||◌, if◌then◌else◌, List, [], ◌∷◌, filter, Option, Some, None}
+use Rattle.std.specs.Prelude.{ℤ, pos, int_lt, Bool, not, ◌&&◌, ◌||◌, if◌then◌else◌, List, [], ◌∷◌, filter, Option, Some, None}
+use Rattle.std.specs.List.{list_any}
 use Rattle.rd_geom.specs.Plane.{Rectangle}
 use Rattle.rd_style.specs.declared.kinds.Class.{Class}
 use Rattle.rd_style.specs.declared.kinds.Class.TheVariants.{Float, Atom, Block, Inline}
@@ -10,13 +11,14 @@ use Rattle.rd_keys.specs.declared.entry.Part.TheVariants.{Back, Border, Content,
 use Rattle.rd_item.specs.declared.leaf.Leaf.{Leaf}
 use Rattle.rd_list.specs.Wrappers.{Wrapper}
 use Rattle.rd_list.specs.Entries.{Entries, nil, group, ◌▷◌, each, option_entry, flat, has_leaf}
-use Rattle.rd_stack.specs.Paths.{BoxPath, is_root, is_context, has_class, is_local, is_layer, is_in_line}
+use Rattle.rd_stack.specs.Paths.{BoxPath, is_root, is_context, has_class, is_local, is_layer, is_in_line, is_blended_layer}
 use Rattle.rd_stack.specs.Parts.{leaf_at}
 
--- a box with all that it paints, from bottom to top
+-- a box with all that it paints, from bottom to top, and whether that is one group
 pub record Painted : Type 0 where
   pub at : BoxPath
   pub order : Entries Wrapper Leaf
+  pub grouped : Bool
 
 -- the boxes below e that no layer, float or atomic inline divides from it
 abbrev pub local_boxes : BoxPath → List Painted → List Painted
@@ -25,6 +27,10 @@ local_boxes e below = filter (λ x. is_local e x.at) below
 -- the layers of e among the boxes below it
 abbrev pub layers_of : BoxPath → List Painted → List Painted
 layers_of e below = filter (λ x. is_layer e x.at) below
+
+-- CSS Compositing 1 section 3.2: has e a blended layer among the boxes below it?
+abbrev pub has_blended_layer : BoxPath → List Painted → Bool
+has_blended_layer e below = list_any (λ x. is_blended_layer e x.at) below
 
 -- the line of c, which e paints
 abbrev pub line_of : BoxPath → List Painted → BoxPath → List Painted
@@ -73,17 +79,13 @@ by_level (x ∷ xs) = insert_by_level x (by_level xs)
 abbrev pub paint_if : Bool → Entries Wrapper Leaf → Entries Wrapper Leaf
 paint_if b xs = if b then xs else nil
 
--- CSS Color 3 section 3.2: a stacking context of opacity below one, which is 255
-abbrev pub is_grouped : BoxPath → Bool
-is_grouped x = is_context x && nat_lt x.here.style.opacity 255
-
 -- what a list says of the group of a box
 abbrev pub wrapper_of : BoxPath → Wrapper
-wrapper_of x = record { key = x.here.key; opacity = x.here.style.opacity }
+wrapper_of x = record { key = x.here.key; opacity = x.here.style.opacity; blend = x.here.style.blend }
 
--- CSS Color 3 section 3.2: such a stacking context is composed as one group, if it paints anything
+-- CSS Color 3 section 3.2: a box that is grouped is composed as one group, if it paints anything
 abbrev pub entry_of : Painted → Entries Wrapper Leaf
-entry_of x = if is_grouped x.at && has_leaf (flat x.order) then group (wrapper_of x.at) x.order nil else x.order
+entry_of x = if x.grouped && has_leaf (flat x.order) then group (wrapper_of x.at) x.order nil else x.order
 
 -- section 9.7: whether a box is laid out as a block
 abbrev pub is_blocky : BoxPath → Bool

@@ -1,12 +1,12 @@
 -- Boxes where they stand, and how they take part in painting.
 -- What names no section of a standard is this project's own choice.
-use Rattle.std.specs.Prelude.{◌+◌, ◌-◌, Bool, true, false, not, ◌&&◌, ◌||◌, List, [], ◌∷◌, length, take}
+use Rattle.std.specs.Prelude.{◌+◌, ◌-◌, nat_lt, Bool, true, false, not, ◌&&◌, ◌||◌, List, [], ◌∷◌, length, take}
 use Rattle.std.specs.List.{list_all, list_any}
 use Rattle.rd_geom.specs.Plane.{Rectangle, IsPlaced, outset}
 use Rattle.rd_style.specs.declared.styles.Style.{Style}
 use Rattle.rd_style.specs.declared.kinds.Class.{Class}
 use Rattle.rd_style.specs.declared.kinds.Class.TheVariants.{Layer, Float, Atom, Block, Inline}
-use Rattle.rd_style.specs.Classes.{class, real}
+use Rattle.rd_style.specs.Classes.{class, real, blended}
 use Rattle.rd_keys.specs.Keys.{BoxKey, same_key}
 
 -- CSS 2.2 section 8.1: a box by its name, its border box and its style
@@ -81,6 +81,21 @@ is_local e x = list_all is_plain (boxes_between e x)
 -- CSS 2.2 Appendix E.2: the layers of e have no stacking context strictly between.
 abbrev pub is_layer : BoxPath → BoxPath → Bool
 is_layer e x = has_class Layer x && list_all is_no_context (boxes_between e x)
+
+-- CSS Compositing 1 section 3.4.1: a box with a blend mode other than normal
+abbrev pub is_blended : BoxPath → Bool
+is_blended x = blended x.here.style
+
+-- CSS Compositing 1 section 3.4.1: x is a layer of e that blends with what e paints
+abbrev pub is_blended_layer : BoxPath → BoxPath → Bool
+is_blended_layer e x = is_layer e x && is_blended x
+
+-- CSS Color 3 section 3.2 and CSS Compositing 1 section 3.2: a stacking context is put as one group onto what is below it
+-- where its opacity is below one, which is 255, or its mode is not normal. That it is one too where it has a blended
+-- layer, unless it is the root, is this project's own choice: such a layer blends with what its context paints alone.
+abbrev pub is_grouped : BoxPath → Bool → Bool
+is_grouped e has_blended =
+    is_context e && (nat_lt e.here.style.opacity 255 || is_blended e || (not (is_root e) && has_blended))
 
 -- CSS 2.2 section 9.2.2: only inline boxes stand between c and x
 abbrev pub is_all_inline : BoxPath → BoxPath → Bool

@@ -3,13 +3,13 @@
 use Rattle.std.specs.Prelude.{◌≡◌, Bool, true, if◌then◌else◌}
 use Rattle.rd_geom.specs.Plane.{Rectangle, hull_of, IsWithin}
 use Rattle.rd_geom.specs.Areas.{Region, meets_area}
-use Rattle.rd_keys.specs.Keys.{same_key}
+use Rattle.rd_keys.specs.Keys.{BoxKey, same_key}
 use Rattle.rd_list.specs.Entries.{only}
 use Rattle.rd_list.specs.Lists.{meeting}
 use Rattle.rd_tree.specs.Forest.{empty, tree, IsApart}
 use Rattle.rd_tree.specs.Document.{Document, BoxForest, IsRooted}
 use Rattle.rd_tree.specs.Hulls.{extent, hull_in}
-use Rattle.rd_stack.specs.Fresh.{fresh_list}
+use Rattle.rd_stack.specs.Fresh.{fresh_list, grouped_in, list_given}
 
 -- a test of rectangles that a larger one passes too, as that of meeting an area is.
 abbrev pub Grows : (Rectangle → Bool) → Type 0
@@ -26,14 +26,14 @@ module _ (meets : Rectangle → Bool) where
   reached_tree empty = empty
   reached_tree (tree k d below rest) = tree k d (reached below) rest
 
--- to leave out the subtrees that are off an area loses no leaf that meets it.
+-- to leave out the subtrees that are off an area loses no leaf that meets it, where it is given which boxes are grouped.
 abbrev pub FilteringLaw : Type 0
 FilteringLaw =
-    (t : Document) → IsApart same_key t.boxes → IsRooted t → (meets : Rectangle → Bool) → Grows meets
-    → only (λ l. meets l.visible) (fresh_list t) ≡ only (λ l. meets l.visible) (fresh_list (record t { boxes = reached_tree meets t.boxes }))
+    (g : BoxKey → Bool) (t : Document) → IsApart same_key t.boxes → IsRooted t → (meets : Rectangle → Bool) → Grows meets
+    → only (λ l. meets l.visible) (list_given g t) ≡ only (λ l. meets l.visible) (list_given g (record t { boxes = reached_tree meets t.boxes }))
 
--- the same of an area
+-- the same of an area and the whole list of a tree, where boxes stay grouped as they are in the tree
 abbrev pub MeetingLaw : Type 0
 MeetingLaw =
     (t : Document) → IsApart same_key t.boxes → IsRooted t → (area : Region)
-    → meeting area (fresh_list t) ≡ meeting area (fresh_list (record t { boxes = reached_tree (meets_area area) t.boxes }))
+    → meeting area (fresh_list t) ≡ meeting area (list_given (grouped_in t.boxes) (record t { boxes = reached_tree (meets_area area) t.boxes }))

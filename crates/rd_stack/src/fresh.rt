@@ -4,7 +4,7 @@ ghost use Rattle.rd_tree.specs.Forest.{size};
 ghost use Rattle.rd_stack.specs.Fresh as spec;
 ghost use Rattle.rd_stack.specs.Internal.Looks.{IsGone, IsVisited, IsFirst, size_from, painted_over, painted_from, with_those_below};
 
-use crate::layers::entry_of;
+use crate::layers::{entry_of, is_grouped};
 use crate::painted::Painted;
 use crate::path::{BoxData, BoxPath};
 use crate::steps::steps;
@@ -61,7 +61,8 @@ fn paint_over(
         here: *here,
     };
     let order = steps(alloc, canvas, &at, below)?;
-    Ok(Painted { at, order })
+    let grouped = is_grouped(&at, below);
+    Ok(Painted { at, order, grouped })
 }
 
 /// A box and those below it in tree order, each with all that it paints.

@@ -3,10 +3,11 @@ ghost use Rattle.std.specs.Prelude.{◌≡◌, OnOk, IfOk, map};
 ghost use Rattle.rd_list.specs.Entries.{◌▷◌, each};
 ghost use Rattle.rd_stack.specs.Internal.Values.{now};
 ghost use Rattle.rd_stack.specs.Internal.Tests.{has_sign, signed};
+ghost use Rattle.rd_stack.specs.Fresh.{grouping};
 ghost use Rattle.rd_stack.specs.Painting as spec;
 
 use crate::painted::Painted;
-use crate::path::{BoxPath, is_context, is_layer, is_root};
+use crate::path::{BoxPath, is_blended, is_blended_layer, is_context, is_layer, is_root};
 use rd_geom::NoMemory;
 use rd_list::PlainList;
 use rd_style::level;
@@ -73,10 +74,20 @@ fn by_level<'a>(layers: Vec<&'a Painted>) -> Result<Vec<&'a Painted>, NoMemory>
     Ok(sorted)
 }
 
-fn is_grouped(x: &BoxPath) -> bool
-    ensures { result ≡ spec.is_grouped x.now }
+fn has_blended_layer(e: &BoxPath, below: &[Painted]) -> bool
+    ensures { result ≡ spec.has_blended_layer e.now below.now }
 {
-    is_context(x) && x.here.style().opacity < 255
+    below.iter().any(|x| is_blended_layer(e, &x.at))
+}
+
+/// Is a box put as one group onto what is below it (CSS Compositing 1 section 3.2)?
+pub fn is_grouped(e: &BoxPath, below: &[Painted]) -> bool
+    ensures { result ≡ grouping e.now below.now }
+{
+    is_context(e)
+        && (e.here.style().opacity < 255
+            || is_blended(e)
+            || (!is_root(e) && has_blended_layer(e, below)))
 }
 
 /// Puts all that a box paints, as a group where it is composed as a whole.
@@ -84,10 +95,11 @@ fn is_grouped(x: &BoxPath) -> bool
 pub fn entry_of(alloc: Global, out: &mut PlainList, x: &Painted) -> Result<(), NoMemory>
     ensures { OnOk result (out.new ≡ out.old ▷ spec.entry_of x.now) }
 {
-    if is_grouped(&x.at) && x.order.has_leaf() {
+    if x.grouped && x.order.has_leaf() {
         let mut inner = PlainList::new(alloc);
         inner.push_copy(alloc, &x.order)?;
-        out.push_group(x.at.here.key(), x.at.here.style().opacity, inner)
+        let style = x.at.here.style();
+        out.push_group(x.at.here.key(), style.opacity, style.blend, inner)
     } else {
         out.push_copy(alloc, &x.order)
     }

@@ -3,11 +3,12 @@ use crate::path::BoxPath;
 use rd_list::PlainList;
 use std::marker::Model;
 
-/// A box below another, and all that it paints, from bottom to top.
+/// A box below another, all that it paints, from bottom to top, and whether that is one group.
 #[derive(Drop)]
 pub struct Painted {
     pub at: BoxPath,
     pub order: PlainList,
+    pub grouped: bool,
 }
 
 impl Model for Painted {
@@ -20,5 +21,5 @@ impl Model for Painted {
 
     ghost coded = { Prim.hlevel (codes, list.the_row.coded, path.the_row.coded) };
 
-    ghost view = { λ p. record { at = p.at; order = p.order } };
+    ghost view = { λ p. record { at = p.at; order = p.order; grouped = p.grouped } };
 }

@@ -7,7 +7,7 @@ ghost use Rattle.rd_style.specs.declared.kinds.Class.TheVariants as classes;
 
 use rd_geom::Rect;
 use rd_keys::BoxKey;
-use rd_style::{Class, Style, real};
+use rd_style::{Class, Style, is_blended as has_mode, real};
 use std::marker::Model;
 
 /// A box by its name, its border box in canvas pixels and its style.
@@ -179,6 +179,20 @@ pub fn is_layer(e: &BoxPath, x: &BoxPath) -> bool
     ensures { result ≡ paths.is_layer e.now x.now }
 {
     is_of_layer_class(x) && has_no_context_between(e, x)
+}
+
+/// Has the box a blend mode other than normal?
+pub fn is_blended(x: &BoxPath) -> bool
+    ensures { result ≡ paths.is_blended x.now }
+{
+    has_mode(&x.here.style)
+}
+
+/// Is x a layer of the stacking context e that blends with what e paints?
+pub fn is_blended_layer(e: &BoxPath, x: &BoxPath) -> bool
+    ensures { result ≡ paths.is_blended_layer e.now x.now }
+{
+    is_layer(e, x) && is_blended(x)
 }
 
 fn is_below(c: &BoxPath, x: &BoxPath) -> bool

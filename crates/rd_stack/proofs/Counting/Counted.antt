@@ -20,8 +20,8 @@ use Rattle.rd_list.proofs.Joins.{flat-join}
 use Rattle.rd_stack.specs.Paths.{BoxData, BoxPath, is_root}
 use Rattle.rd_stack.specs.Clips.{clip_of}
 use Rattle.rd_stack.specs.Parts.{leaf_at, shown, shape_of, is_seen, takes_hits}
-use Rattle.rd_stack.specs.Painting.{Painted, paint, entry_of, is_grouped}
-use Rattle.rd_stack.specs.Fresh.{root_order}
+use Rattle.rd_stack.specs.Painting.{Painted, paint, entry_of, wrapper_of}
+use Rattle.rd_stack.specs.Fresh.{grouping, root_order}
 use Rattle.rd_stack.proofs.Counting.Sums.{total, total-append}
 use Rattle.rd_stack.proofs.Counting.Weights.{Weighs}
 use Rattle.rd_stack.proofs.Counting.Takes.{all, root_fit}
@@ -103,12 +103,12 @@ module _ (p : Leaf → Bool) where
   that-join xs ys = ap (total (λ l. one (p l))) (flat-join xs ys) ∙ total-append (λ l. one (p l)) (flat xs) (flat ys)
 
   pub that-group : (x : Painted) → leaves_that (entry_of x) ≤ 0 + leaves_that x.order
-  that-group x = choose (is_grouped x.at && has_leaf (flat x.order))
+  that-group x = choose (x.grouped && has_leaf (flat x.order))
     where
-      inner : leaves_that (group (record { key = x.at.here.key; opacity = x.at.here.style.opacity }) x.order nil) ≡ leaves_that x.order
+      inner : leaves_that (group (wrapper_of x.at) x.order nil) ≡ leaves_that x.order
       inner = total-append (λ l. one (p l)) (flat x.order) [] ∙ omega arith
 
-      choose : (b : Bool) → leaves_that (cond b (group (record { key = x.at.here.key; opacity = x.at.here.style.opacity }) x.order nil) x.order) ≤ 0 + leaves_that x.order
+      choose : (b : Bool) → leaves_that (cond b (group (wrapper_of x.at) x.order nil) x.order) ≤ 0 + leaves_that x.order
       choose true = omega (arith, inner)
       choose false = omega arith
 
@@ -156,7 +156,7 @@ module _ (canvas : Rectangle) (a : Leaf) where
       let s = λ (part : Part). that-option_entry (same_leaf a) (leaf_at canvas x part) in
       omega (arith, s Back, s Border, s Content, s Outline, q Back, q Border, q Content, q Outline, one_part (same_key a.owner x.here.key) a.part)
 
-  pub leaf_once : (f : BoxForest) → IsApart same_key f → leaves_that (same_leaf a) (root_order canvas f) ≤ 1
+  pub leaf_once : (f : BoxForest) → IsApart same_key f → leaves_that (same_leaf a) (root_order grouping canvas f) ≤ 1
   leaf_once f apart =
       let w : Weighs canvas (leaves_that (same_leaf a)) (λ b. 0) (λ b. one (same_key a.owner b.key)) = record { none = refl; join = that-join (same_leaf a); group = that-group (same_leaf a); parts = leaf_parts } in
       omega (arith, root_fit canvas (leaves_that (same_leaf a)) (λ b. 0) (λ b. one (same_key a.owner b.key)) w f apart, all-once a.owner f apart)
@@ -175,9 +175,9 @@ module _ (canvas : Rectangle) (j : BoxKey) where
   groups_of-join xs ys = ap (total (λ k. one (same_key j k))) (groups-join xs ys) ∙ total-append (λ k. one (same_key j k)) (groups xs) (groups ys)
 
   groups_of-group : (x : Painted) → groups_of (entry_of x) ≤ one (same_key j x.at.here.key) + groups_of x.order
-  groups_of-group x = choose (is_grouped x.at && has_leaf (flat x.order))
+  groups_of-group x = choose (x.grouped && has_leaf (flat x.order))
     where
-      choose : (b : Bool) → groups_of (cond b (group (record { key = x.at.here.key; opacity = x.at.here.style.opacity }) x.order nil) x.order) ≤ one (same_key j x.at.here.key) + groups_of x.order
+      choose : (b : Bool) → groups_of (cond b (group (wrapper_of x.at) x.order nil) x.order) ≤ one (same_key j x.at.here.key) + groups_of x.order
       choose true = let s = total-append (λ k. one (same_key j k)) (groups x.order) [] in omega (arith, s)
       choose false = omega arith
 
@@ -190,7 +190,7 @@ module _ (canvas : Rectangle) (j : BoxKey) where
       let s = λ (part : Part). no_groups (leaf_at canvas x part) in
       omega (arith, s Back, s Border, s Content, s Outline)
 
-  pub group_once : (f : BoxForest) → IsApart same_key f → groups_of (root_order canvas f) ≤ 1
+  pub group_once : (f : BoxForest) → IsApart same_key f → groups_of (root_order grouping canvas f) ≤ 1
   group_once f apart =
       let own : BoxData → ℕ = λ b. one (same_key j b.key) in
       let w : Weighs canvas groups_of own own = record { none = refl; join = groups_of-join; group = groups_of-group; parts = group_parts } in
@@ -213,9 +213,9 @@ leafy (leaf l xs) h = refl
 leafy (group g inner xs) h = refl
 
 empty-group : (x : Painted) → empty_groups (entry_of x) ≤ 0 + empty_groups x.order
-empty-group x = choose (is_grouped x.at) (has_leaf (flat x.order)) refl
+empty-group x = choose (x.grouped) (has_leaf (flat x.order)) refl
   where
-    choose : (b h : Bool) → has_leaf (flat x.order) ≡ h → empty_groups (cond (b && h) (group (record { key = x.at.here.key; opacity = x.at.here.style.opacity }) x.order nil) x.order) ≤ 0 + empty_groups x.order
+    choose : (b h : Bool) → has_leaf (flat x.order) ≡ h → empty_groups (cond (b && h) (group (wrapper_of x.at) x.order nil) x.order) ≤ 0 + empty_groups x.order
     choose false h e = omega arith
     choose true false e = omega arith
     choose true true e = let n : one (is_empty x.order) ≡ 0 = ap one (leafy x.order e) in omega (arith, n)
@@ -230,7 +230,7 @@ module _ (canvas : Rectangle) where
       let s = λ (part : Part). no_empty (leaf_at canvas x part) in
       omega (arith, s Back, s Border, s Content, s Outline)
 
-  pub none_empty : (f : BoxForest) → IsApart same_key f → empty_groups (root_order canvas f) ≤ 0
+  pub none_empty : (f : BoxForest) → IsApart same_key f → empty_groups (root_order grouping canvas f) ≤ 0
   none_empty f apart =
       let w : Weighs canvas empty_groups (λ b. 0) (λ b. 0) = record { none = refl; join = empty-join; group = empty-group; parts = empty_parts } in
       omega (arith, root_fit canvas empty_groups (λ b. 0) (λ b. 0) w f apart, all-none f)

@@ -14,8 +14,8 @@ use Rattle.rd_list.specs.Lists.{groups}
 use Rattle.rd_list.proofs.Joins.{flat-join}
 use Rattle.rd_stack.specs.Paths.{BoxPath}
 use Rattle.rd_stack.specs.Parts.{leaf_at}
-use Rattle.rd_stack.specs.Painting.{Painted, paint, entry_of, is_grouped}
-use Rattle.rd_stack.specs.Fresh.{root_order}
+use Rattle.rd_stack.specs.Painting.{Painted, paint, entry_of, wrapper_of}
+use Rattle.rd_stack.specs.Fresh.{grouping, root_order}
 use Rattle.rd_stack.proofs.Counting.Weights.{Weighs}
 use Rattle.rd_stack.proofs.Counting.Takes.{all, root_fit}
 use Rattle.rd_stack.proofs.Counting.Counted.{groups-join}
@@ -36,9 +36,9 @@ leaf_count-join : (xs ys : Entries Wrapper Leaf) → leaf_count (xs ▷ ys) ≡ 
 leaf_count-join xs ys = ap length (flat-join xs ys) ∙ length-append (flat xs) (flat ys)
 
 leaf_count-group : (x : Painted) → leaf_count (entry_of x) ≤ 0 + leaf_count x.order
-leaf_count-group x = choose (is_grouped x.at && has_leaf (flat x.order))
+leaf_count-group x = choose (x.grouped && has_leaf (flat x.order))
   where
-    choose : (b : Bool) → leaf_count (cond b (group (record { key = x.at.here.key; opacity = x.at.here.style.opacity }) x.order nil) x.order) ≤ 0 + leaf_count x.order
+    choose : (b : Bool) → leaf_count (cond b (group (wrapper_of x.at) x.order nil) x.order) ≤ 0 + leaf_count x.order
     choose true = let s = length-append (flat x.order) [] in omega (arith, s)
     choose false = omega arith
 
@@ -54,9 +54,9 @@ group_count-join : (xs ys : Entries Wrapper Leaf) → group_count (xs ▷ ys) �
 group_count-join xs ys = ap length (groups-join xs ys) ∙ length-append (groups xs) (groups ys)
 
 group_count-group : (x : Painted) → group_count (entry_of x) ≤ 1 + group_count x.order
-group_count-group x = choose (is_grouped x.at && has_leaf (flat x.order))
+group_count-group x = choose (x.grouped && has_leaf (flat x.order))
   where
-    choose : (b : Bool) → group_count (cond b (group (record { key = x.at.here.key; opacity = x.at.here.style.opacity }) x.order nil) x.order) ≤ 1 + group_count x.order
+    choose : (b : Bool) → group_count (cond b (group (wrapper_of x.at) x.order nil) x.order) ≤ 1 + group_count x.order
     choose true = let s = length-append (groups x.order) [] in omega (arith, s)
     choose false = omega arith
 
@@ -75,12 +75,12 @@ module _ (canvas : Rectangle) where
       let s = λ (part : Part). group_count-part (leaf_at canvas x part) in
       omega (arith, s Back, s Border, s Content, s Outline)
 
-  pub few_leaves : (f : BoxForest) → IsApart same_key f → leaf_count (root_order canvas f) ≤ 4 * size f
+  pub few_leaves : (f : BoxForest) → IsApart same_key f → leaf_count (root_order grouping canvas f) ≤ 4 * size f
   few_leaves f apart =
       let w : Weighs canvas leaf_count (λ b. 0) (λ b. 4) = record { none = refl; join = leaf_count-join; group = leaf_count-group; parts = leaf_parts } in
       omega (arith, root_fit canvas leaf_count (λ b. 0) (λ b. 4) w f apart, all-fours f)
 
-  pub few_groups : (f : BoxForest) → IsApart same_key f → group_count (root_order canvas f) ≤ size f
+  pub few_groups : (f : BoxForest) → IsApart same_key f → group_count (root_order grouping canvas f) ≤ size f
   few_groups f apart =
       let w : Weighs canvas group_count (λ b. 1) (λ b. 1) = record { none = refl; join = group_count-join; group = group_count-group; parts = group_parts } in
       omega (arith, root_fit canvas group_count (λ b. 1) (λ b. 1) w f apart, all-ones f)

@@ -11,8 +11,8 @@ use Rattle.rd_tree.specs.Forest.{empty, tree, has, IsApart}
 use Rattle.rd_tree.specs.Document.{BoxForest}
 use Rattle.rd_tree.proofs.Linking.Standing.{cases, differs_back, apart_back, from_left, from_right, either}
 use Rattle.rd_stack.specs.Paths.{BoxData, BoxPath, is_class, has_class, is_local, is_in_line, is_below, is_all_inline, is_inline, is_inline_level}
-use Rattle.rd_stack.specs.Painting.{Painted, steps}
-use Rattle.rd_stack.specs.Fresh.{box_data, painted}
+use Rattle.rd_stack.specs.Painting.{Painted}
+use Rattle.rd_stack.specs.Fresh.{box_data, grouping, painted_at, painted}
 use Rattle.rd_stack.proofs.Counting.Paths.{between-path, is_none-path}
 use Rattle.rd_stack.proofs.Counting.Sums.{total, total-append, total-le}
 
@@ -40,7 +40,7 @@ module _ (canvas : Rectangle) where
   abbrev pub painted_box : List BoxData → BoxData → BoxForest → Painted
   painted_box above b children =
       let e : BoxPath = record { above = above; here = b } in
-      record { at = e; order = steps canvas e (painted canvas (b ∷ above) children) }
+      painted_at grouping canvas e (painted grouping canvas (b ∷ above) children)
 
   -- what a weight gives the boxes below a key
   abbrev pub below_sum : BoxKey → (Painted → ℕ) → List Painted → ℕ
@@ -57,7 +57,7 @@ module _ (canvas : Rectangle) where
   below_le j h xs = total-le (λ x. cond (key_in j x.at.above) (h x) 0) h xs (λ x. cond_le (key_in j x.at.above) (h x))
 
   -- below a key that is nowhere there is nothing
-  none_below : (j : BoxKey) (h : Painted → ℕ) (above : List BoxData) (f : BoxForest) → key_in j above ≡ false → has same_key j f ≡ false → below_sum j h (painted canvas above f) ≡ 0
+  none_below : (j : BoxKey) (h : Painted → ℕ) (above : List BoxData) (f : BoxForest) → key_in j above ≡ false → has same_key j f ≡ false → below_sum j h (painted grouping canvas above f) ≡ 0
   none_below j h above empty o n = refl
   none_below j h above (tree k d ch nx) o n =
       let s : (same_key j k ≡ false) × ((has same_key j ch || has same_key j nx) ≡ false) = either (same_key j k) (has same_key j ch || has same_key j nx) n in
@@ -66,7 +66,7 @@ module _ (canvas : Rectangle) where
       let turned : same_key k j ≡ false = turn j k s.0 in
       let o2 : key_in j (b ∷ above) ≡ false = rw turned o in
       let head : cond (key_in j above) (h (painted_box above b ch)) 0 ≡ 0 = off_cond (key_in j above) (h (painted_box above b ch)) o in
-      let split = total-append (λ x. cond (key_in j x.at.above) (h x) 0) (painted canvas (b ∷ above) ch) (painted canvas above nx) in
+      let split = total-append (λ x. cond (key_in j x.at.above) (h x) 0) (painted grouping canvas (b ∷ above) ch) (painted grouping canvas above nx) in
       omega (arith, head, split, none_below j h (b ∷ above) ch o2 t.0, none_below j h above nx o t.1)
     where
       turn : (j k : BoxKey) → same_key j k ≡ false → same_key k j ≡ false
@@ -111,7 +111,7 @@ module _ (canvas : Rectangle) where
     lines_in whole cs = total (λ c. cond (is_local e c.at && has_class Block c.at) (total (line_at c.at) whole) 0) cs
 
     -- past a box that is not inline no line goes on
-    no_line : (c : BoxPath) (path : List BoxData) (f : BoxForest) → list_all is_inline path ≡ false → total (under_at c) (painted canvas (path ++ c.here ∷ c.above) f) ≡ 0
+    no_line : (c : BoxPath) (path : List BoxData) (f : BoxForest) → list_all is_inline path ≡ false → total (under_at c) (painted grouping canvas (path ++ c.here ∷ c.above) f) ≡ 0
     no_line c path empty h = refl
     no_line c path (tree k d ch nx) h =
         let above = path ++ c.here ∷ c.above in
@@ -120,7 +120,7 @@ module _ (canvas : Rectangle) where
         let i : is_all_inline c x.at ≡ false = ap (list_all is_inline) (between-path c x.at path refl) ∙ h in
         let head : under_at c x ≡ 0 = none (is_local e x.at && is_inline_level x.at) (is_all_inline c x.at) (v x) i in
         let h2 : list_all is_inline (b ∷ path) ≡ false = also (is_inline b) (list_all is_inline path) h in
-        let split = total-append (under_at c) (painted canvas (b ∷ above) ch) (painted canvas above nx) in
+        let split = total-append (under_at c) (painted grouping canvas (b ∷ above) ch) (painted grouping canvas above nx) in
         omega (arith, head, split, no_line c (b ∷ path) ch h2, no_line c path nx h)
       where
         none : (l i : Bool) (n : ℕ) → i ≡ false → cond (l && i) n 0 ≡ 0
@@ -132,7 +132,7 @@ module _ (canvas : Rectangle) where
         also false b h = refl
 
     abbrev IsWhole : BoxForest → List BoxData → List Painted → Type 0
-    IsWhole f above whole = (j : BoxKey) → has same_key j f ≡ true → (h : Painted → ℕ) → below_sum j h whole ≡ below_sum j h (painted canvas above f)
+    IsWhole f above whole = (j : BoxKey) → has same_key j f ≡ true → (h : Painted → ℕ) → below_sum j h whole ≡ below_sum j h (painted grouping canvas above f)
 
     block_not_inline : (c : Class) → is_class Block c ≡ true → is_class Inline c ≡ false
     block_not_inline Layer h = cc
@@ -143,14 +143,14 @@ module _ (canvas : Rectangle) where
 
     -- The line of c and the lines of the blocks below it, together.
     lines_once : (c : BoxPath) (path : List BoxData) (f : BoxForest) (whole : List Painted) → IsApart same_key f → AreOff f (path ++ c.here ∷ c.above) → IsWhole f (path ++ c.here ∷ c.above) whole
-        → total (under_at c) (painted canvas (path ++ c.here ∷ c.above) f) + lines_in whole (painted canvas (path ++ c.here ∷ c.above) f) ≤ total flow_at (painted canvas (path ++ c.here ∷ c.above) f)
+        → total (under_at c) (painted grouping canvas (path ++ c.here ∷ c.above) f) + lines_in whole (painted grouping canvas (path ++ c.here ∷ c.above) f) ≤ total flow_at (painted grouping canvas (path ++ c.here ∷ c.above) f)
     lines_once c path empty whole a o w = omega arith
     lines_once c path (tree k d ch nx) whole a o w =
         let above = path ++ c.here ∷ c.above in
         let b = box_data k d in
         let x = painted_box above b ch in
-        let p1 = painted canvas (b ∷ above) ch in
-        let p2 = painted canvas above nx in
+        let p1 = painted grouping canvas (b ∷ above) ch in
+        let p2 = painted grouping canvas above nx in
         let lines : Painted → ℕ = λ y. cond (is_local e y.at && has_class Block y.at) (total (line_at y.at) whole) 0 in
         let k_off : key_in k above ≡ false = o k (from_left (same_key k k) (has same_key k ch || has same_key k nx) (same_key-refl k)) in
         let o1 : AreOff ch above = λ j m. o j (in_below j k (has same_key j ch) (has same_key j nx) m) in
@@ -203,9 +203,9 @@ module _ (canvas : Rectangle) where
 
     -- All lines that e paints weigh no more than the boxes that flow in them.
     pub lines_fit : (f : BoxForest) → IsApart same_key f → AreOff f (e.here ∷ e.above)
-        → total (line_at e) (painted canvas (e.here ∷ e.above) f) + lines_in (painted canvas (e.here ∷ e.above) f) (painted canvas (e.here ∷ e.above) f) ≤ total flow_at (painted canvas (e.here ∷ e.above) f)
+        → total (line_at e) (painted grouping canvas (e.here ∷ e.above) f) + lines_in (painted grouping canvas (e.here ∷ e.above) f) (painted grouping canvas (e.here ∷ e.above) f) ≤ total flow_at (painted grouping canvas (e.here ∷ e.above) f)
     lines_fit f a o =
-        let below = painted canvas (e.here ∷ e.above) f in
+        let below = painted grouping canvas (e.here ∷ e.above) f in
         let l1 = total-line e below in
         let l2 = below_le e.here.key (under_at e) below in
         omega (arith, l1, l2, lines_once e [] f below a o (λ j m h. refl))

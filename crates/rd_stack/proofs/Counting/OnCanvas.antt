@@ -19,7 +19,7 @@ use Rattle.rd_stack.specs.Paths.{BoxPath, is_root}
 use Rattle.rd_stack.specs.Clips.{clip_of, entered}
 use Rattle.rd_stack.specs.Parts.{leaf_at, shown, shape_of, is_seen, takes_hits}
 use Rattle.rd_stack.specs.Painting.{paint}
-use Rattle.rd_stack.specs.Fresh.{root_order}
+use Rattle.rd_stack.specs.Fresh.{grouping, root_order}
 use Rattle.rd_stack.specs.Laws.{IsOnCanvas}
 use Rattle.rd_stack.proofs.Counting.Weights.{Weighs}
 use Rattle.rd_stack.proofs.Counting.Takes.{root_fit}
@@ -135,7 +135,7 @@ module _ (canvas : Rectangle) where
       let s = λ (part : Part). that-option_entry test (leaf_at canvas x part) ∙ leaf-lies x part in
       omega (arith, s Back, s Border, s Content, s Outline)
 
-  pub none_off : (f : BoxForest) → IsApart same_key f → leaves_that test (root_order canvas f) ≤ 0
+  pub none_off : (f : BoxForest) → IsApart same_key f → leaves_that test (root_order grouping canvas f) ≤ 0
   none_off f apart =
       let w : Weighs canvas (leaves_that test) (λ b. 0) (λ b. 0) = record { none = refl; join = that-join test; group = that-group test; parts = lying_parts } in
       omega (arith, root_fit canvas (leaves_that test) (λ b. 0) (λ b. 0) w f apart, all-none f)

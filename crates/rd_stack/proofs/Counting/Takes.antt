@@ -7,14 +7,14 @@ use Rattle.rd_style.specs.declared.styles.Style.{Style}
 use Rattle.rd_style.specs.declared.kinds.Class.{Class}
 use Rattle.rd_style.specs.declared.kinds.Display.TheVariants as display
 use Rattle.rd_style.specs.declared.kinds.Class.TheVariants.{Layer, Float, Atom, Block, Inline}
-use Rattle.rd_style.specs.Classes.{class, real, is_positioned_or_translucent, in_flow_class}
+use Rattle.rd_style.specs.Classes.{class, real, makes_layer, in_flow_class}
 use Rattle.rd_keys.specs.Keys.{same_key}
 use Rattle.rd_tree.specs.Forest.{empty, tree, has, IsApart}
 use Rattle.rd_tree.specs.Document.{BoxForest}
 use Rattle.rd_list.specs.Wrappers.{Wrapper}
 use Rattle.rd_list.specs.Entries.{Entries}
 use Rattle.rd_stack.specs.Paths.{BoxData, BoxPath, is_class, is_local, is_context, is_plain, is_no_context, is_none, boxes_between}
-use Rattle.rd_stack.specs.Fresh.{box_data, painted, root_order}
+use Rattle.rd_stack.specs.Fresh.{box_data, grouping, painted, root_order}
 use Rattle.rd_stack.proofs.Counting.Paths.{between-path, is_none-path}
 use Rattle.rd_stack.proofs.Counting.Sums.{total, total-append}
 use Rattle.rd_stack.proofs.Counting.Weights.{Weighs, steps_fit, taken_of, parts_of, inline_of}
@@ -104,7 +104,7 @@ module _ (own : BoxData → ℕ) where
 
 -- Only a layer makes a stacking context below the root.
 pub unreal : (s : Style) → is_class Layer (class s false) ≡ false → real s false ≡ false
-unreal s h = by (is_positioned_or_translucent s false) refl h
+unreal s h = by (makes_layer s false) refl h
   where
     flow_layer : (f : Bool) → is_class Layer (cond f Float (in_flow_class s.display)) ≡ false
     flow_layer true = refl
@@ -115,7 +115,7 @@ unreal s h = by (is_positioned_or_translucent s false) refl h
         no_layer display.Inline = refl
         no_layer display.InlineBlock = refl
 
-    by : (t : Bool) → is_positioned_or_translucent s false ≡ t → is_class Layer (class s false) ≡ false → real s false ≡ false
+    by : (t : Bool) → makes_layer s false ≡ t → is_class Layer (class s false) ≡ false → real s false ≡ false
     by true e h = let k : true ≡ false = rw e at h in cc
     by false e h = rw e refl
 
@@ -177,14 +177,14 @@ module _ (canvas : Rectangle) (weight : Entries Wrapper Leaf → ℕ) (extra own
 
   -- What e takes of the boxes below it.
   taken_fit : (e : BoxPath) (path : List BoxData) (f : BoxForest) → IsApart same_key f → AreOff f (path ++ e.here ∷ e.above)
-      → total (taken_of canvas weight extra own w e) (painted canvas (path ++ e.here ∷ e.above) f) ≤ taken own (is_context e && list_all is_no_context path) (list_all is_plain path) f
+      → total (taken_of canvas weight extra own w e) (painted grouping canvas (path ++ e.here ∷ e.above) f) ≤ taken own (is_context e && list_all is_no_context path) (list_all is_plain path) f
   taken_fit e path empty a o = omega arith
   taken_fit e path (tree k d ch nx) a o =
       let above = path ++ e.here ∷ e.above in
       let b = box_data k d in
       let x = painted_box canvas above b ch in
-      let p1 = painted canvas (b ∷ above) ch in
-      let p2 = painted canvas above nx in
+      let p1 = painted grouping canvas (b ∷ above) ch in
+      let p2 = painted grouping canvas above nx in
       let take = taken_of canvas weight extra own w e in
       let o1 : AreOff ch above = λ j m. o j (in_below j k (has same_key j ch) (has same_key j nx) m) in
       let o2 : AreOff nx above = λ j m. o j (in_rest j k (has same_key j ch) (has same_key j nx) m) in
@@ -201,12 +201,12 @@ module _ (canvas : Rectangle) (weight : Entries Wrapper Leaf → ℕ) (extra own
       omega (arith, here, split, taken_fit e (b ∷ path) ch a.3 o3, taken_fit e path nx a.4 o2)
 
   -- What a tree paints weighs no more than all its boxes.
-  pub root_fit : (f : BoxForest) → IsApart same_key f → weight (root_order canvas f) ≤ all own f
+  pub root_fit : (f : BoxForest) → IsApart same_key f → weight (root_order grouping canvas f) ≤ all own f
   root_fit empty a = rw w.none (omega arith)
   root_fit (tree k d ch nx) a =
       let b = box_data k d in
       let x = painted_box canvas [] b ch in
-      let p1 = painted canvas (b ∷ []) ch in
+      let p1 = painted grouping canvas (b ∷ []) ch in
       let o : AreOff ch (b ∷ []) = off_below k b ch [] refl a.0 (λ j m. refl) in
       let own_steps = steps_fit canvas weight extra own w x.at p1 (lines_fit canvas x.at (inline_of canvas weight extra own w) ch a.3 o) in
       let own_taken = taken_fit x.at [] ch a.3 o in

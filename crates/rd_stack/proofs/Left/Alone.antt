@@ -18,27 +18,31 @@ use Rattle.rd_style.specs.Changes.{names_any}
 use Rattle.rd_tree.proofs.Linking.Standing.{cases, never, either, flip}
 use Rattle.rd_stack.proofs.Left.Bare.{bare, bare_item, bare_style, no_sides}
 
-unnamed : {A : Type 0} (o : Option A) (x : A) → is_some o ≡ false → unwrap_or o x ≡ x
+pub unnamed : {A : Type 0} (o : Option A) (x : A) → is_some o ≡ false → unwrap_or o x ≡ x
 unnamed None x h = refl
 unnamed (Some y) x h = cc
 
 -- The change names no member from which classes, levels and clips follow.
-record NamesNone (c : StyleChange) : Type 0 where
-  position : is_some c.position ≡ false
-  z : is_some c.z ≡ false
-  opacity : is_some c.opacity ≡ false
-  overflow : is_some c.overflow ≡ false
-  display : is_some c.display ≡ false
-  float : is_some c.float ≡ false
+pub record NamesNone (c : StyleChange) : Type 0 where
+  pub position : is_some c.position ≡ false
+  pub z : is_some c.z ≡ false
+  pub opacity : is_some c.opacity ≡ false
+  pub overflow : is_some c.overflow ≡ false
+  pub display : is_some c.display ≡ false
+  pub float : is_some c.float ≡ false
+  pub blend : is_some c.blend ≡ false
+  pub isolation : is_some c.isolation ≡ false
 
-names_none : (c : StyleChange) → names_class c ≡ false → NamesNone c
+pub names_none : (c : StyleChange) → names_class c ≡ false → NamesNone c
 names_none c h =
-    let a = either (is_some c.position || is_some c.z || is_some c.opacity || is_some c.overflow || is_some c.display) (is_some c.float) h in
+    let y = either (is_some c.position || is_some c.z || is_some c.opacity || is_some c.overflow || is_some c.display || is_some c.float || is_some c.blend) (is_some c.isolation) h in
+    let x = either (is_some c.position || is_some c.z || is_some c.opacity || is_some c.overflow || is_some c.display || is_some c.float) (is_some c.blend) y.0 in
+    let a = either (is_some c.position || is_some c.z || is_some c.opacity || is_some c.overflow || is_some c.display) (is_some c.float) x.0 in
     let b = either (is_some c.position || is_some c.z || is_some c.opacity || is_some c.overflow) (is_some c.display) a.0 in
     let d = either (is_some c.position || is_some c.z || is_some c.opacity) (is_some c.overflow) b.0 in
     let e = either (is_some c.position || is_some c.z) (is_some c.opacity) d.0 in
     let f = either (is_some c.position) (is_some c.z) e.0 in
-    record { position = f.0; z = f.1; opacity = e.1; overflow = d.1; display = b.1; float = a.1 }
+    record { position = f.0; z = f.1; opacity = e.1; overflow = d.1; display = b.1; float = a.1; blend = x.1; isolation = y.1 }
 
 module _ (s : Style) (c : StyleChange) (n : NamesNone c) where
   clips-changed : (root : Bool) → clips (changed s c) root ≡ clips s root
@@ -77,6 +81,8 @@ module _ (s : Style) (c : StyleChange) (n : NamesNone c) where
     outline_color = black;
     visibility = visibility.Hidden;
     pointer = pointer.Off;
+    blend = unnamed c.blend s.blend n.blend i;
+    isolation = unnamed c.isolation s.isolation n.isolation i;
   }
 
 pub bare-restyle : (root : Bool) (c : StyleChange) (d : Item) → whole d.style root c ≡ false → bare_item true root (restyle c d) ≡ bare_item true root d
@@ -129,6 +135,8 @@ restyle-none c d h =
         outline_color = unnamed c.outline_color s.outline_color e.1 i;
         visibility = unnamed c.visibility s.visibility b.1 i;
         pointer = unnamed c.pointer s.pointer a.1 i;
+        blend = unnamed c.blend s.blend n.blend i;
+        isolation = unnamed c.isolation s.isolation n.isolation i;
       };
     }
 

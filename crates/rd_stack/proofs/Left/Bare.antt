@@ -17,7 +17,7 @@ use Rattle.rd_tree.specs.Document.{BoxForest}
 abbrev pub no_sides : Sides
 no_sides = record { top = 0; right = 0; bottom = 0; left = 0 }
 
--- a hidden style, with the members from which classes, levels and clips follow.
+-- a hidden style, with the members from which classes, levels, groups and clips follow.
 abbrev pub bare_style : Bool → Bool → Style → Style
 bare_style gone root s = record {
   position = s.position;
@@ -34,6 +34,8 @@ bare_style gone root s = record {
   outline_color = if gone then black else s.outline_color;
   visibility = if gone then visibility.Hidden else s.visibility;
   pointer = if gone then pointer.Off else s.pointer;
+  blend = s.blend;
+  isolation = s.isolation;
 }
 
 -- a rectangle that counts where the box clips.

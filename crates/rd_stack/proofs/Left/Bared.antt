@@ -1,8 +1,7 @@
 -- What rests on a box that is bare is as it was.
-use Rattle.std.proofs.Common.{◌≡◌, refl, ap, ◌∙◌, sym, Bool, true, false, not, ◌&&◌, ◌||◌, cond, List, [], ◌∷◌, length, take, ℕ, zero, suc, ◌+◌, ◌-◌, Option, Some, None}
+use Rattle.std.proofs.Common.{◌≡◌, refl, ap, ◌∙◌, sym, Bool, true, false, not, ◌&&◌, ◌||◌, cond, List, [], ◌∷◌, length, take, ℕ, zero, suc, ◌+◌, ◌-◌, None}
 use Rattle.std.specs.List.{list_all, list_any}
-use Rattle.rd_geom.specs.Plane.{Rectangle, meet, has_none, no_pixels}
-use Rattle.rd_geom.specs.declared.color.Color.{Color}
+use Rattle.rd_geom.specs.Plane.{Rectangle, meet}
 use Rattle.rd_style.specs.declared.kinds.Class.{Class}
 use Rattle.rd_style.specs.declared.kinds.Class.TheVariants.{Layer, Atom, Inline}
 use Rattle.rd_style.specs.Classes.{clips, positioned, class, real, level, blocky}
@@ -10,8 +9,6 @@ use Rattle.rd_clip.specs.Clipping as clipping
 use Rattle.rd_clip.specs.Clipping.{Entered, Sought, parent, nearest_positioned, viewport, sought, containing_chain, clipped, clipped_by}
 use Rattle.rd_keys.specs.Keys.{BoxKey, same_key}
 use Rattle.rd_keys.specs.declared.entry.Part.{Part}
-use Rattle.rd_keys.specs.declared.entry.Part.TheVariants.{Back, Border, Content, Outline}
-use Rattle.rd_item.specs.declared.leaf.Shape.{Shape}
 use Rattle.rd_stack.specs.Paths.{BoxData, BoxPath, is_none, is_root, is_context, is_class, has_class, is_plain, is_inline, is_no_context, boxes_between, is_local, is_layer, is_in_line}
 use Rattle.rd_stack.specs.Clips.{entered, clip_of}
 use Rattle.rd_stack.specs.Parts.{leaf_at, shown, shape_of, is_seen}

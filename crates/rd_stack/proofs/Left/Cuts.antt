@@ -214,6 +214,72 @@ module _ (cut : BoxKey → Bool) where
         by true e p q = let c : cut k ≡ true = w k e in rw c q
         by false e p q = λ i. cond (cut k) (q i) (tree k d (p i) (q i))
 
+-- Sets of boxes that are put together.
+pub all_or : (a b : BoxKey → Bool) (f : BoxForest) → all_cut a f ≡ true → all_cut (λ j. a j || b j) f ≡ true
+all_or a b empty h = refl
+all_or a b (tree k d below rest) h =
+    let t = all-three a k d below rest h in
+    all_of (λ j. a j || b j) k d below rest (from_left (a k) (b k) t.0) (all_or a b below t.1) (all_or a b rest t.2)
+
+all_or_later : (a b : BoxKey → Bool) (f : BoxForest) → all_cut b f ≡ true → all_cut (λ j. a j || b j) f ≡ true
+all_or_later a b empty h = refl
+all_or_later a b (tree k d below rest) h =
+    let t = all-three b k d below rest h in
+    all_of (λ j. a j || b j) k d below rest (from_right (a k) (b k) t.0) (all_or_later a b below t.1) (all_or_later a b rest t.2)
+
+pub closed_or : (a b : BoxKey → Bool) (f : BoxForest) → IsClosed a f → IsClosed b f → IsClosed (λ j. a j || b j) f
+closed_or a b empty p q = tt
+closed_or a b (tree k d below rest) p q = (
+  (λ h. elim (which (a k) (b k) h) [ inl e ↦ all_or a b below (p.0 e) | inr e ↦ all_or_later a b below (q.0 e) ]),
+  closed_or a b below p.1 q.1,
+  closed_or a b rest p.2 q.2,
+)
+
+pub closed_and : (c : Bool) (a : BoxKey → Bool) (f : BoxForest) → IsClosed a f → IsClosed (λ j. c && a j) f
+closed_and true a f p = p
+closed_and false a f p = closed_none (λ j. false) f (λ j u. refl)
+
+module _ (cut : BoxKey → Bool) where
+  -- what is below a box that is cut off
+  pub all_children : (p : BoxKey) (f : BoxForest) → IsClosed cut f → cut p ≡ true → all_cut cut (children same_key p f) ≡ true
+  all_children p empty q c = refl
+  all_children p (tree k d below rest) q c =
+      elim (cases (same_key p k)) [
+        | inl e ↦ rw e (q.0 (subst (λ x. cut x ≡ true) (same_key-sound p k e) c))
+        | inr e ↦ rw e (all_join cut (children same_key p below) (children same_key p rest) (all_children p below q.1 c) (all_children p rest q.2 c))
+      ]
+
+  all_ahead : (j : BoxKey) (g f : BoxForest) → all_cut cut g ≡ true → all_cut cut f ≡ true → all_cut cut (insert_before same_key j g f) ≡ true
+  all_ahead j g empty h q = h
+  all_ahead j g (tree k d below rest) h q =
+      let t = all-three cut k d below rest q in
+      elim (same_key j k) as (λ b. all_cut cut (cond b (g ▷ tree k d below rest) (tree k d below (insert_before same_key j g rest))) ≡ true) [
+        | true ↦ all_join cut g (tree k d below rest) h q
+        | false ↦ all_of cut k d below (insert_before same_key j g rest) t.0 t.1 (all_ahead j g rest h t.2)
+      ]
+
+  pub all_amid : (o : Option BoxKey) (g f : BoxForest) → all_cut cut g ≡ true → all_cut cut f ≡ true → all_cut cut (insert_among same_key o g f) ≡ true
+  all_amid None g f h q = all_join cut f g q h
+  all_amid (Some j) g f h q = all_ahead j g f h q
+
+  -- others below a box that may be cut off with all below it
+  all_anew : (p : BoxKey) (g f : BoxForest) → (cut p ≡ true → all_cut cut g ≡ true) → all_cut cut f ≡ true → all_cut cut (with_children same_key p g f) ≡ true
+  all_anew p g empty n h = refl
+  all_anew p g (tree k d below rest) n h =
+      let t = all-three cut k d below rest h in
+      elim (cases (same_key p k)) [
+        | inl e ↦ rw e (all_of cut k d g rest t.0 (n (subst (λ x. cut x ≡ true) (sym (same_key-sound p k e)) t.0)) t.2)
+        | inr e ↦ rw e (all_of cut k d (with_children same_key p g below) (with_children same_key p g rest) t.0 (all_anew p g below n t.1) (all_anew p g rest n t.2))
+      ]
+
+  pub closed_anew : (p : BoxKey) (g f : BoxForest) → (cut p ≡ true → all_cut cut g ≡ true) → IsClosed cut g → IsClosed cut f → IsClosed cut (with_children same_key p g f)
+  closed_anew p g empty n h q = tt
+  closed_anew p g (tree k d below rest) n h q =
+      elim (cases (same_key p k)) [
+        | inl e ↦ rw e ((λ c. n (subst (λ x. cut x ≡ true) (sym (same_key-sound p k e)) c)), h, q.2)
+        | inr e ↦ rw e ((λ c. all_anew p g below n (q.0 c)), closed_anew p g below n h q.1, closed_anew p g rest n h q.2)
+      ]
+
 -- The subtree of a box is closed.
 closed_agree : (c e : BoxKey → Bool) (f : BoxForest) → ((j : BoxKey) → has same_key j f ≡ true → c j ≡ e j) → IsClosed c f → IsClosed e f
 closed_agree c e empty h q = tt

@@ -61,7 +61,7 @@ module _ (cut gone : BoxKey → Bool) where
   kept x = not (cut x.at.here.key)
 
   abbrev pub lighter : Painted → Painted
-  lighter x = record { at = bare_path gone x.at; order = without_touched gone x.order }
+  lighter x = record { at = bare_path gone x.at; order = without_touched gone x.order; grouped = x.grouped }
 
   -- what is left of painted boxes
   abbrev pub rest_of : List Painted → List Painted

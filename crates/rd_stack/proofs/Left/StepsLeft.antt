@@ -1,6 +1,6 @@
 -- What is left of the twelve lists of a box is the twelve lists of what is left.
 use Rattle.std.proofs.Common.{◌≡◌, refl, ap, ◌∙◌, sym, Bool, true, false, not, ◌&&◌, ◌||◌, cond, List, [], ◌∷◌, Option, Some, None, inl, inr}
-use Rattle.std.specs.Prelude.{filter, nat_lt}
+use Rattle.std.specs.Prelude.{filter}
 use Rattle.std.specs.List.{list_any}
 use Rattle.rd_geom.specs.Plane.{Rectangle, has_none, meet}
 use Rattle.rd_geom.specs.declared.color.Color.{Color}
@@ -13,7 +13,7 @@ use Rattle.rd_keys.specs.declared.entry.Part.TheVariants.{Back, Border, Content,
 use Rattle.rd_item.specs.declared.leaf.Leaf.{Leaf}
 use Rattle.rd_item.specs.declared.leaf.Shape.{Shape}
 use Rattle.rd_list.specs.Wrappers.{Wrapper}
-use Rattle.rd_list.specs.Entries.{Entries, nil, group, ◌▷◌, each, flat, option_entry, has_leaf}
+use Rattle.rd_list.specs.Entries.{Entries, nil, group, ◌▷◌, each, option_entry}
 use Rattle.rd_list.specs.Lists.{without_touched}
 use Rattle.rd_list.proofs.Levelling.{only-join}
 use Rattle.rd_list.proofs.Routing.{both_true}
@@ -21,7 +21,7 @@ use Rattle.rd_tree.proofs.Linking.Standing.{cases}
 use Rattle.rd_stack.specs.Paths.{BoxData, BoxPath, has_class, is_root, is_context, is_local, is_layer, is_in_line, is_inline_level, is_below, is_all_inline}
 use Rattle.rd_stack.specs.Clips.{clip_of}
 use Rattle.rd_stack.specs.Parts.{leaf_at, shown, shape_of, takes_hits, is_seen}
-use Rattle.rd_stack.specs.Painting.{Painted, by_level, entry_of, is_grouped, paint_if, paint, back_border, inline_part, content_and_line, steps, layers_of, line_of, is_negative, is_positive, is_zero, is_blocky}
+use Rattle.rd_stack.specs.Painting.{Painted, by_level, entry_of, wrapper_of, paint_if, paint, back_border, inline_part, content_and_line, steps, layers_of, line_of, is_negative, is_positive, is_zero, is_blocky}
 use Rattle.rd_stack.proofs.Left.Bared.{bare_path, root-bare, context-bare, is-bare, blocky-bare, local-bare, layer-bare, in-line-bare, leaf-gone, leaf-kept}
 use Rattle.rd_stack.proofs.Left.Onlies.{grouped-left}
 use Rattle.rd_stack.proofs.Left.Rests.{rest_of, lighter, IsFine, AllFine, join2, when-left, filter_rest, fine_filter, each_rest, by_level_rest, fine_by_level, negative-lighter, positive-lighter, zero-lighter}
@@ -77,18 +77,13 @@ module _ (cut gone : BoxKey → Bool) (within : (k : BoxKey) → cut k ≡ true 
         | inr k ↦ or_later (cut b.key) (list_any (λ b. cut b.key) bs) (below_cut c bs g (rw k at h))
       ]
 
-  translucent-bare : (x : BoxPath) → is_grouped (bare_path gone x) ≡ is_grouped x
-  translucent-bare x = ap (λ c. c && nat_lt x.here.style.opacity 255) (context-bare gone x)
-
   pub grouped-lighter : (x : Painted) → without_touched gone (entry_of x) ≡ entry_of (lighter cut gone x)
-  grouped-lighter x =
-      grouped-left (λ l. not (gone l.owner)) (record { key = x.at.here.key; opacity = x.at.here.style.opacity }) (is_grouped x.at) x.order
-      ∙ ap (λ c. cond (c && has_leaf (flat (without_touched gone x.order))) (group (record { key = x.at.here.key; opacity = x.at.here.style.opacity }) (without_touched gone x.order) nil) (without_touched gone x.order)) (sym (translucent-bare x.at))
+  grouped-lighter x = grouped-left (λ l. not (gone l.owner)) (wrapper_of x.at) x.grouped x.order
 
   pub grouped-gone : (x : Painted) → without_touched gone x.order ≡ nil → without_touched gone (entry_of x) ≡ nil
-  grouped-gone x h = grouped-left (λ l. not (gone l.owner)) (record { key = x.at.here.key; opacity = x.at.here.style.opacity }) (is_grouped x.at) x.order ∙ rw h (no_group (is_grouped x.at))
+  grouped-gone x h = grouped-left (λ l. not (gone l.owner)) (wrapper_of x.at) (x.grouped) x.order ∙ rw h (no_group (x.grouped))
     where
-      no_group : (c : Bool) → cond {A = Entries Wrapper Leaf} (c && false) (group (record { key = x.at.here.key; opacity = x.at.here.style.opacity }) nil nil) nil ≡ nil
+      no_group : (c : Bool) → cond {A = Entries Wrapper Leaf} (c && false) (group (wrapper_of x.at) nil nil) nil ≡ nil
       no_group true = refl
       no_group false = refl
 

@@ -1,21 +1,15 @@
 -- Leaves that do not cover a pixel leave it as it is.
-use Rattle.std.proofs.Common.{◌≡◌, refl, ap, ◌∙◌, sym, Bool, true, false, ◌&&◌, not, cond, ℕ, ◌+◌, ◌-◌, ℤ, arith, IsTrue}
-use Rattle.rd_geom.specs.Colors.{Premultiplied, premultiplied, laid_over, scaled, clear, times}
+use Rattle.std.proofs.Common.{◌≡◌, refl, ap, ◌∙◌, sym, Bool, true, false, ◌&&◌, not, cond, ℤ, IsTrue}
+use Rattle.rd_geom.specs.Blends.{blended}
+use Rattle.rd_geom.specs.Colors.{Premultiplied, premultiplied, laid_over, scaled, clear}
 use Rattle.rd_geom.specs.Plane.{holds_pixel}
-use Rattle.rd_geom.proofs.Products.{times_none, times_by_whole}
+use Rattle.rd_geom.proofs.Mixing.{nothing_blended}
 use Rattle.rd_geom.proofs.Pixels.{shares_meets}
 use Rattle.rd_item.specs.declared.leaf.Leaf.{Leaf}
 use Rattle.rd_item.specs.Leaves.{covers}
 use Rattle.rd_list.specs.Wrappers.{Wrapper}
 use Rattle.rd_list.specs.Entries.{Entries, nil, leaf, group, only, grouped_if_any}
 use Rattle.rd_list.specs.Lists.{composed, leaves_meet}
-
-channel : (a o : ℕ) → times 0 o + times a (255 - times 0 o) ≡ a
-channel a o = rw (times_none o) (omega (arith, times_by_whole a))
-
--- an empty group over a backdrop leaves it
-nothing_over : (o : ℕ) (d : Premultiplied) → laid_over (scaled clear o) d ≡ d
-nothing_over o d = λ i. record { r = channel d.r o i; g = channel d.g o i; b = channel d.b o i; a = channel d.a o i }
 
 module _ (x y : ℤ) where
   abbrev pub at : Leaf → Bool
@@ -32,10 +26,10 @@ module _ (x y : ℤ) where
   composed-only d (group g inner rest) = by (only at inner) (composed-only clear inner) (λ d. composed-only d rest)
     where
       by : (i : Entries Wrapper Leaf) → composed x y clear inner ≡ composed x y clear i → ((d : Premultiplied) → composed x y d rest ≡ composed x y d (only at rest))
-          → composed x y (laid_over (scaled (composed x y clear inner) g.opacity) d) rest ≡ composed x y d (grouped_if_any g i (only at rest))
-      by nil e h = ap (λ c. composed x y (laid_over (scaled c g.opacity) d) rest) e ∙ (ap (λ c. composed x y c rest) (nothing_over g.opacity d) ∙ h d)
-      by (leaf l i) e h = ap (λ c. composed x y (laid_over (scaled c g.opacity) d) rest) e ∙ h _
-      by (group g' i' i) e h = ap (λ c. composed x y (laid_over (scaled c g.opacity) d) rest) e ∙ h _
+          → composed x y (blended g.blend (scaled (composed x y clear inner) g.opacity) d) rest ≡ composed x y d (grouped_if_any g i (only at rest))
+      by nil e h = ap (λ c. composed x y (blended g.blend (scaled c g.opacity) d) rest) e ∙ (ap (λ c. composed x y c rest) (nothing_blended g.blend g.opacity d) ∙ h d)
+      by (leaf l i) e h = ap (λ c. composed x y (blended g.blend (scaled c g.opacity) d) rest) e ∙ h _
+      by (group g' i' i) e h = ap (λ c. composed x y (blended g.blend (scaled c g.opacity) d) rest) e ∙ h _
 
   last_and : (a b : Bool) → (a && b) ≡ true → b ≡ true
   last_and true b h = h

@@ -1,11 +1,11 @@
 -- A loop that lays on a list what the boxes of a kind paint goes on by one.
-use Rattle.std.proofs.Common.{◌≡◌, ◌∙◌, sym, refl, ap, Bool, true, false, ◌&&◌, cond, List, [], ◌∷◌, ◌++◌, ℕ, ◌<◌, ◌+◌, length, take, get_or, map}
-use Rattle.std.proofs.lemmas.List.{take_more, map-append}
+use Rattle.std.proofs.Common.{◌≡◌, ◌∙◌, sym, refl, ap, Bool, true, false, ◌&&◌, cond, List, [], ◌∷◌, ℕ, ◌<◌, ◌+◌, length, take, get_or}
+use Rattle.std.proofs.lemmas.List.{take_more}
 use Rattle.std.proofs.lemmas.List.Elements.{filter-append}
 use Rattle.std.specs.Prelude.{filter}
 use Rattle.rd_item.specs.declared.leaf.Leaf.{Leaf}
 use Rattle.rd_list.specs.Wrappers.{Wrapper}
-use Rattle.rd_list.specs.Entries.{Entries, ◌▷◌, nil, each}
+use Rattle.rd_list.specs.Entries.{Entries, ◌▷◌, each}
 use Rattle.rd_list.proofs.Joins.{join_assoc, each-append, join-nil}
 use Rattle.rd_stack.specs.Painting.{Painted, paint_if}
 use Rattle.rd_stack.proofs.Walk.Filters.{filter_both}

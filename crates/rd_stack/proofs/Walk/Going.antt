@@ -1,20 +1,19 @@
 -- What a look at a box tells of the walk over a tree.
-use Rattle.std.proofs.Common.{◌≡◌, refl, ap, ◌∙◌, sym, subst, inl, inr, ℕ, ◌+◌, ◌<◌, ◌≤◌, arith, List, [], ◌∷◌, ◌++◌, append_assoc}
+use Rattle.std.proofs.Common.{◌≡◌, refl, ap, ◌∙◌, sym, subst, ℕ, ◌+◌, ◌<◌, ◌≤◌, arith, List, ◌∷◌, ◌++◌, append_assoc}
 use Rattle.std.specs.Prelude.{Option, Some, None}
 use Rattle.rd_geom.specs.Plane.{Rectangle, IsPlaced, outset}
 use Rattle.rd_style.specs.declared.styles.Style.{Style}
 use Rattle.rd_style.specs.Limits.{FitsRect, Fits}
 use Rattle.rd_keys.specs.Keys.{BoxKey, same_key}
-use Rattle.rd_tree.specs.Forest.{empty, tree, has, head, starting_at, from_some, size, IsApart}
+use Rattle.rd_tree.specs.Forest.{empty, tree, head, starting_at, from_some, size, IsApart}
 use Rattle.rd_tree.specs.declared.node.Item.{Item}
 use Rattle.rd_tree.specs.Document.{BoxForest, AllFit}
 use Rattle.rd_tree.specs.Shown.{Shown, shown}
 use Rattle.rd_tree.proofs.Summaries.Extents.{extent_is_placed}
 use Rattle.rd_tree.proofs.Nodes.Looking as looking
 use Rattle.rd_tree.proofs.Nodes.Looking.{fit_from}
-use Rattle.rd_tree.proofs.Linking.Standing.{cases}
 use Rattle.rd_stack.specs.Paths.{BoxData}
-use Rattle.rd_stack.specs.Fresh.{box_data, painted, with_below}
+use Rattle.rd_stack.specs.Fresh.{box_data, grouping, painted, with_below}
 use Rattle.rd_stack.specs.Painting.{Painted}
 use Rattle.rd_stack.specs.Internal.Looks.{Onward}
 
@@ -64,19 +63,19 @@ smaller_next f k here c n w = rw (w.is, w.next) (omega arith)
 module _ (canvas : Rectangle) where
   -- one sibling more is painted
   pub painted_more : (f : BoxForest) (above : List BoxData) (k : BoxKey) (here : BoxData) (c n : Option BoxKey) (before after one whole : List Painted) → Onward f k here c n
-      → before ++ painted canvas above (starting_at same_key k f) ≡ whole → one ≡ with_below canvas above here (painted canvas (here ∷ above) (from_some same_key c f)) → after ≡ before ++ one
-      → after ++ painted canvas above (from_some same_key n f) ≡ whole
+      → before ++ painted grouping canvas above (starting_at same_key k f) ≡ whole → one ≡ with_below grouping canvas above here (painted grouping canvas (here ∷ above) (from_some same_key c f)) → after ≡ before ++ one
+      → after ++ painted grouping canvas above (from_some same_key n f) ≡ whole
   painted_more f above k here c n before after one whole w b o e =
-      let all : painted canvas above (starting_at same_key k f) ≡ one ++ painted canvas above (from_some same_key n f) = rw (w.is, o, w.data_is, w.child, w.next) refl in
-      rw (e, ← b, all) (append_assoc before one (painted canvas above (from_some same_key n f)))
+      let all : painted grouping canvas above (starting_at same_key k f) ≡ one ++ painted grouping canvas above (from_some same_key n f) = rw (w.is, o, w.data_is, w.child, w.next) refl in
+      rw (e, ← b, all) (append_assoc before one (painted grouping canvas above (from_some same_key n f)))
 
   -- what the loop over siblings keeps
   pub go_on : (f : BoxForest) (above : List BoxData) (o : Option BoxKey) (k : BoxKey) (here : BoxData) (c n : Option BoxKey) (m : ℕ) (before after one whole : List Painted) → Onward f k here c n → o ≡ Some k
-      → (size (from_some same_key o f) ≤ m) × (before ++ painted canvas above (from_some same_key o f) ≡ whole)
-      → one ≡ with_below canvas above here (painted canvas (here ∷ above) (from_some same_key c f)) → after ≡ before ++ one
-      → (size (from_some same_key n f) ≤ m) × (after ++ painted canvas above (from_some same_key n f) ≡ whole)
+      → (size (from_some same_key o f) ≤ m) × (before ++ painted grouping canvas above (from_some same_key o f) ≡ whole)
+      → one ≡ with_below grouping canvas above here (painted grouping canvas (here ∷ above) (from_some same_key c f)) → after ≡ before ++ one
+      → (size (from_some same_key n f) ≤ m) × (after ++ painted grouping canvas above (from_some same_key n f) ≡ whole)
   go_on f above o k here c n m before after one whole w e i p q =
-      let here_is = subst (λ x. (size (from_some same_key x f) ≤ m) × (before ++ painted canvas above (from_some same_key x f) ≡ whole)) e i in
+      let here_is = subst (λ x. (size (from_some same_key x f) ≤ m) × (before ++ painted grouping canvas above (from_some same_key x f) ≡ whole)) e i in
       (omega (arith, smaller_next f k here c n w, here_is.0), painted_more f above k here c n before after one whole w here_is.1 p q)
 
 -- a child, or a sibling, that is told of is there

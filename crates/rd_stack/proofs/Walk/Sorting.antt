@@ -1,5 +1,5 @@
 -- A stable sort by level is the list by level.
-use Rattle.std.proofs.Common.{◌≡◌, refl, ap, ◌∙◌, sym, subst, Bool, true, false, not, ◌&&◌, cond, List, [], ◌∷◌, ◌++◌, ℤ, ℕ, zero, suc, ◌+◌, ◌<◌, ◌≤◌, length, get_or, map, arith, inl, inr, is_lt, int_cmp, add-one}
+use Rattle.std.proofs.Common.{◌≡◌, refl, ap, ◌∙◌, sym, subst, Bool, true, false, not, ◌&&◌, cond, List, [], ◌∷◌, ℤ, ℕ, zero, suc, ◌+◌, ◌<◌, ◌≤◌, length, get_or, map, arith, inl, inr, is_lt, int_cmp, add-one}
 use Rattle.std.proofs.lemmas.Int.{ints}
 use Rattle.std.specs.Prelude.{int_lt, filter, AllPairs, IsPermutation}
 use Rattle.std.proofs.lemmas.List.Sorted.{IsPermutation-refl, IsPermutation-cons, IsPermutation-trans, IsPermutation-middle}

@@ -7,7 +7,7 @@ use Rattle.rd_tree.specs.declared.node.Item.{Item}
 use Rattle.rd_tree.specs.Document.{BoxForest, Document}
 use Rattle.rd_stack.specs.Paths.{BoxData}
 use Rattle.rd_stack.specs.Painting.{Painted}
-use Rattle.rd_stack.specs.Fresh.{box_data, painted_at, painted, with_below}
+use Rattle.rd_stack.specs.Fresh.{box_data, grouping, painted_at, painted, with_below}
 use Rattle.rd_stack.specs.declared.fresh.Visit.{Visit}
 
 -- The boxes from k on begin with this box; then come those from its first child on, and those from its next sibling on.
@@ -32,15 +32,15 @@ IsVisited k t v = Onward t.boxes k v.here v.first_child v.next_sibling
 
 -- a box below others with all that it paints
 abbrev pub painted_over : Rectangle → List BoxData → BoxData → List Painted → Painted
-painted_over canvas above here below = painted_at canvas (record { above = above; here = here }) below
+painted_over canvas above here below = painted_at grouping canvas (record { above = above; here = here }) below
 
 -- the boxes from one on, each with all that it paints
 abbrev pub painted_from : Rectangle → List BoxData → Option BoxKey → Document → List Painted
-painted_from canvas above first t = painted canvas above (from_some same_key first t.boxes)
+painted_from canvas above first t = painted grouping canvas above (from_some same_key first t.boxes)
 
 -- a box and those below it, from the first child on
 abbrev pub with_those_below : Rectangle → List BoxData → BoxData → Option BoxKey → Document → List Painted
-with_those_below canvas above here child t = with_below canvas above here (painted_from canvas (here ∷ above) child t)
+with_those_below canvas above here child t = with_below grouping canvas above here (painted_from canvas (here ∷ above) child t)
 
 -- a box that is there, or no box
 abbrev pub IsFirst : Option BoxKey → Document → Type 0

@@ -1,5 +1,5 @@
 use Rattle.std.proofs.Common.{arith}
-use Rattle.rd_stack.proofs.Walk.Going.{go_on, sizes, next_sibling_is, first_child_is}
+use Rattle.rd_stack.proofs.Walk.Going.{go_on, sizes, next_sibling_is}
 use Rattle.rd_stack.proofs.fresh.+paint.Goals as goal
 
 pub paint_all-loop-next-preserved : goal.paint_all-loop-next-preserved

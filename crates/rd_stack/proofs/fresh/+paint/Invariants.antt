@@ -13,7 +13,7 @@ decreases-paint_all g l = 2 * size (from_some same_key l.first l.tree.now.boxes)
 abbrev pub invariant-paint_all-loop-next : goal.invariant-paint_all-loop-next
 invariant-paint_all-loop-next g l =
     (size (from_some same_key l.next l.tree.boxes) ≤ size (from_some same_key l.fn.first l.tree.boxes))
-    × (l.all.items ++ spec.painted l.canvas l.above (from_some same_key l.next l.tree.boxes) ≡ spec.painted l.canvas l.above (from_some same_key l.fn.first l.tree.boxes))
+    × (l.all.items ++ spec.painted spec.grouping l.canvas l.above (from_some same_key l.next l.tree.boxes) ≡ spec.painted spec.grouping l.canvas l.above (from_some same_key l.fn.first l.tree.boxes))
     × (l.next ≡ head (from_some same_key l.next l.tree.boxes))
     × (l.looks + size (from_some same_key l.next l.tree.boxes) ≤ l.fn.looks + size (from_some same_key l.fn.first l.tree.boxes))
 

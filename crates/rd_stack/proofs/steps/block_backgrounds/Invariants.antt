@@ -1,9 +1,6 @@
 use Rattle.std.proofs.Common.{◌≡◌, take}
-use Rattle.rd_list.specs.Entries.{◌▷◌, each}
+use Rattle.rd_list.specs.Entries.{◌▷◌}
 use Rattle.rd_stack.specs.Painting as painting
-use Rattle.rd_stack.specs.Internal.Tests as tests
-use Rattle.rd_style.specs.declared.kinds.Class.TheVariants as classes
-use Rattle.rd_keys.specs.declared.entry.Part.TheVariants as parts
 use Rattle.rd_stack.proofs.steps.block_backgrounds.Given as goal
 
 abbrev pub invariant-loop-x : goal.invariant-loop-x

@@ -1,6 +1,5 @@
-use Rattle.std.proofs.Common.{sym, ◌||◌}
+use Rattle.std.proofs.Common.{sym}
 use Rattle.rd_style.specs.declared.kinds.Class.TheVariants as classes
-use Rattle.rd_keys.specs.declared.entry.Part.TheVariants as parts
 use Rattle.rd_stack.specs.Paths.{is_local, has_class}
 use Rattle.rd_stack.specs.Painting as painting
 use Rattle.rd_list.proofs.Joins.{join-nil}
