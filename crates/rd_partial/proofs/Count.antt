@@ -1,7 +1,7 @@
 -- A pass gives each leaf of each box once.
 use Rattle.std.proofs.Common.{◌≡◌, refl, ap, ◌∙◌, Bool, true, false, not, ◌&&◌, ◌||◌, cond, List, [], ◌∷◌, ◌++◌, ℕ, ◌+◌, length, length-append, arith, ℤ, pos}
 use Rattle.std.proofs.lemmas.Int.{ints}
-use Rattle.std.specs.Prelude.{nat_lt, int_lt}
+use Rattle.std.specs.Prelude.{int_lt}
 use Rattle.rd_style.specs.declared.kinds.Class.{Class}
 use Rattle.rd_style.specs.declared.kinds.Class.TheVariants.{Layer, Float, Atom, Block, Inline}
 use Rattle.rd_style.specs.Classes.{blocky, real, class}
@@ -12,11 +12,12 @@ use Rattle.rd_list.proofs.Joins.{flat-join}
 use Rattle.rd_list.specs.Wrappers.{Wrapper, wrapper}
 use Rattle.rd_tree.specs.Forest.{empty, tree}
 use Rattle.rd_tree.specs.Document.{BoxForest}
+use Rattle.rd_tree.specs.Contexts.{blends_in}
 use Rattle.rd_stack.specs.Paths.{BoxData, is_class, is_plain}
 use Rattle.rd_stack.specs.Fresh.{box_data}
 use Rattle.rd_stack.proofs.Counting.Takes.{unreal}
 use Rattle.rd_partial.specs.Internal.Bands.{Bands, Stacked, ◌⊕◌, entries_if, list_if, stacked, insert_layer, by_level}
-use Rattle.rd_partial.specs.Internal.Pass.{order_of, pass, box_bands, as_group, is_of, has_negative_level, has_positive_level, has_zero_level, level_in}
+use Rattle.rd_partial.specs.Internal.Pass.{order_of, pass, box_bands, is_one, as_group, is_of, has_negative_level, has_positive_level, has_zero_level, level_in}
 use Rattle.rd_partial.specs.Internal.Counting.{leaves_in, given_of, given}
 use Rattle.rd_partial.proofs.Levels.{none_there}
 
@@ -37,10 +38,10 @@ module _ {L : Type 0} where
   when_so true h = h
   when_so false h = record { is = refl }
 
-  grouped : {xs : Entries Wrapper L} {n : ℕ} → (root : Bool) (b : BoxData) → Counts xs n → Counts (as_group root b xs) n
-  grouped {xs = xs} {n = n} root b h = record { is = by ((real b.style root && nat_lt b.style.opacity 255) && has_leaf (flat xs)) ∙ h.is }
+  in_group : {xs : Entries Wrapper L} {n : ℕ} → (grouped : Bool) (b : BoxData) → Counts xs n → Counts (as_group grouped b xs) n
+  in_group {xs = xs} {n = n} grouped b h = record { is = by (grouped && has_leaf (flat xs)) ∙ h.is }
     where
-      by : (t : Bool) → leaves_in (cond t (group (wrapper b.key b.style.opacity) xs nil) xs) ≡ leaves_in xs
+      by : (t : Bool) → leaves_in (cond t (group (wrapper b.key b.style.opacity b.style.blend) xs nil) xs) ≡ leaves_in xs
       by true = length-append (flat xs) [] ∙ omega arith
       by false = refl
 
@@ -151,9 +152,9 @@ module _ {L : Type 0} where
     by_class Inline true u o bk bd ct ol b f l w t xu xz xo order h s e = let k : true ≡ false = h refl in cc
     by_class Inline false u o bk bd ct ol b f l w t xu xz xo order h s e = omega (arith, e)
 
-    count-box : (s : S) (b : BoxData) (order : Entries Wrapper L) (below : Bands L) → leaves_in order ≡ given_of enter give s b + local_leaves below + cond (real b.style false) (layer_leaves below) 0
-        → local_leaves (box_bands enter give s b order below) + layer_leaves (box_bands enter give s b order below) ≡ given_of enter give s b + (local_leaves below + layer_leaves below)
-    count-box s b order below e =
+    count-box : (s : S) (b : BoxData) (grouped : Bool) (order : Entries Wrapper L) (below : Bands L) → leaves_in order ≡ given_of enter give s b + local_leaves below + cond (real b.style false) (layer_leaves below) 0
+        → local_leaves (box_bands enter give s b grouped order below) + layer_leaves (box_bands enter give s b grouped order below) ≡ given_of enter give s b + (local_leaves below + layer_leaves below)
+    count-box s b grouped order below e =
         let part = λ (p : Part). self (give s b p) in
         let back_border = over (part Back) (part Border) in
         let h1 = over (when_so (is_of Block b) back_border) (when_so (is_plain b) (self below.backgrounds)) in
@@ -161,14 +162,14 @@ module _ {L : Type 0} where
         let h3 = over (over (when_so (is_of Inline b) (over back_border (part Content))) (when_so (is_of Atom b) (self order))) (when_so (is_of Inline b) (self below.line)) in
         let h4 = over (when_so (is_of Block b) (over (part Content) (self below.line))) (when_so (is_plain b) (self below.contents)) in
         let h5 = over (when_so (is_plain b) (part Outline)) (when_so (is_plain b) (self below.outlines)) in
-        let h6 = over (when_so (is_of Layer b && has_zero_level b) (grouped false b (self order))) (when_so (not (real b.style false)) (self below.zeros)) in
+        let h6 = over (when_so (is_of Layer b && has_zero_level b) (in_group grouped b (self order))) (when_so (not (real b.style false)) (self below.zeros)) in
         rw (h1.is, h2.is, h3.is, h4.is, h5.is, h6.is, layers (is_of Layer b && has_negative_level b) below.negatives, layers (is_of Layer b && has_positive_level b) below.positives)
         (by_class (class b.style false) (real b.style false) (has_negative_level b) (has_positive_level b) _ _ _ _ _ _ _ _ _ _ _ _ _ (unreal b.style) (signs (level_in b)) e)
       where
-        layers : (t : Bool) (ys : List (Stacked L)) → stack_leaves (list_if t (stacked (level_in b) (as_group false b order)) ++ list_if (not (real b.style false)) ys) ≡ cond t (leaves_in order) 0 + cond (not (real b.style false)) (stack_leaves ys) 0
+        layers : (t : Bool) (ys : List (Stacked L)) → stack_leaves (list_if t (stacked (level_in b) (as_group grouped b order)) ++ list_if (not (real b.style false)) ys) ≡ cond t (leaves_in order) 0 + cond (not (real b.style false)) (stack_leaves ys) 0
         layers t ys =
-            stack-append (list_if t (stacked (level_in b) (as_group false b order))) (list_if (not (real b.style false)) ys)
-            ∙ rw (stack-some t (stacked (level_in b) (as_group false b order)), stack-some (not (real b.style false)) ys, stack-one (level_in b) (as_group false b order), (grouped false b (self order)).is) refl
+            stack-append (list_if t (stacked (level_in b) (as_group grouped b order))) (list_if (not (real b.style false)) ys)
+            ∙ rw (stack-some t (stacked (level_in b) (as_group grouped b order)), stack-some (not (real b.style false)) ys, stack-one (level_in b) (as_group grouped b order), (in_group grouped b (self order)).is) refl
 
     count-add : (x y : Bands L) → local_leaves (x ⊕ y) + layer_leaves (x ⊕ y) ≡ (local_leaves x + layer_leaves x) + (local_leaves y + layer_leaves y)
     count-add x y =
@@ -180,17 +181,18 @@ module _ {L : Type 0} where
         let b = box_data k d in
         let below = pass enter give (enter s b) ch in
         let order = order_of enter give false s b below in
-        let h1 = count-add (box_bands enter give s b order below) (pass enter give s nx) in
-        let h2 = count-box s b order below (count-order false s b below) in
+        let one = is_one false (blends_in ch) b in
+        let h1 = count-add (box_bands enter give s b one order below) (pass enter give s nx) in
+        let h2 = count-box s b one order below (count-order false s b below) in
         h1 ∙ together _ _ _ _ _ _ h2 (count-pass (enter s b) ch) (count-pass s nx)
       where
         together : (x y z u v w : ℕ) → x ≡ u + y → y ≡ v → z ≡ w → x + z ≡ u + v + w
         together x y z u v w h k m = omega (arith, h, k, m)
 
     -- the leaves of the list of a root
-    pub count-root : (s : S) (b : BoxData) (f : BoxForest) → leaves_in (as_group true b (order_of enter give true s b (pass enter give (enter s b) f))) ≡ given_of enter give s b + given enter give (enter s b) f
-    count-root s b f =
+    pub count-root : (s : S) (b : BoxData) (grouped : Bool) (f : BoxForest) → leaves_in (as_group grouped b (order_of enter give true s b (pass enter give (enter s b) f))) ≡ given_of enter give s b + given enter give (enter s b) f
+    count-root s b grouped f =
         let below = pass enter give (enter s b) f in
-        (grouped true b (self (order_of enter give true s b below))).is
+        (in_group grouped b (self (order_of enter give true s b below))).is
         ∙ count-order true s b below
         ∙ omega (arith, count-pass (enter s b) f)

@@ -40,7 +40,8 @@ module _ (canvas : Rectangle) where
   passed above empty = no_bands
   passed above (tree k d ch nx) =
       let b = box_data k d in
-      box_bands enter give above b (painted_box canvas above b ch).order (passed (b ∷ above) ch) ⊕ passed above nx
+      let x = painted_box canvas above b ch in
+      box_bands enter give above b x.grouped x.order (passed (b ∷ above) ch) ⊕ passed above nx
 
   abbrev pub stack_of : Painted → List (Stacked Leaf)
   stack_of x = stacked (level_of x) (entry_of x)

@@ -16,7 +16,7 @@ use Rattle.rd_tree.specs.Document.{BoxForest}
 use Rattle.rd_tree.proofs.Linking.Standing.{cases, differs_back, apart_back, from_left, either}
 use Rattle.rd_stack.specs.Paths.{BoxData, BoxPath, has_class, is_class, is_none, is_plain, is_inline, is_local, is_in_line, is_below, is_all_inline, is_inline_level, boxes_between}
 use Rattle.rd_stack.specs.Painting.{Painted, paint, inline_part, content_and_line, line_of}
-use Rattle.rd_stack.specs.Fresh.{box_data, painted}
+use Rattle.rd_stack.specs.Fresh.{box_data, grouping, painted}
 use Rattle.rd_stack.proofs.Counting.Paths.{between-path, is_none-path}
 use Rattle.rd_stack.proofs.Counting.InlineLines.{key_in, AreOff, in_below, in_rest, off_below}
 use Rattle.rd_partial.specs.Internal.Bands.{entries_if}
@@ -54,7 +54,7 @@ inline_plain (b ∷ q) h = elim (cases (is_inline b)) [
 module _ (canvas : Rectangle) where
   -- what is in the line of c, of the boxes below it
   pub line_below : (e c : BoxPath) (f : BoxForest) (way : List BoxData) → c.here ∷ c.above ≡ way ++ e.here ∷ e.above → list_all is_plain way ≡ true
-      → filter (λ x. list_all is_inline (boxes_between c x.at) && is_inline_level x.at) (painted canvas (c.here ∷ c.above) f) ≡ filter (λ x. is_in_line e c x.at) (painted canvas (c.here ∷ c.above) f)
+      → filter (λ x. list_all is_inline (boxes_between c x.at) && is_inline_level x.at) (painted grouping canvas (c.here ∷ c.above) f) ≡ filter (λ x. is_in_line e c x.at) (painted grouping canvas (c.here ∷ c.above) f)
   line_below e c f way h plain =
       filter-agree canvas (c.here ∷ c.above) f (λ x. list_all is_inline (boxes_between c x.at) && is_inline_level x.at) (λ x. is_in_line e c x.at)
       (λ x q g.
@@ -85,7 +85,7 @@ module _ (canvas : Rectangle) where
   ]
 
   -- below a key that is nowhere there is nothing
-  none_below : (j : BoxKey) (r : Painted → Bool) (above : List BoxData) (f : BoxForest) → key_in j above ≡ false → has same_key j f ≡ false → filter (at_key j r) (painted canvas above f) ≡ []
+  none_below : (j : BoxKey) (r : Painted → Bool) (above : List BoxData) (f : BoxForest) → key_in j above ≡ false → has same_key j f ≡ false → filter (at_key j r) (painted grouping canvas above f) ≡ []
   none_below j r above empty o n = refl
   none_below j r above (tree k d ch nx) o n =
       let s : (same_key j k ≡ false) × ((has same_key j ch || has same_key j nx) ≡ false) = either (same_key j k) (has same_key j ch || has same_key j nx) n in
@@ -98,7 +98,7 @@ module _ (canvas : Rectangle) where
 
   -- of the whole, what is below a box of the forest is in the forest
   abbrev pub IsWhole : BoxForest → List BoxData → List Painted → Type 0
-  IsWhole f above whole = (j : BoxKey) → has same_key j f ≡ true → (r : Painted → Bool) → filter (at_key j r) whole ≡ filter (at_key j r) (painted canvas above f)
+  IsWhole f above whole = (j : BoxKey) → has same_key j f ≡ true → (r : Painted → Bool) → filter (at_key j r) whole ≡ filter (at_key j r) (painted grouping canvas above f)
 
   module _ (e : BoxPath) (whole : List Painted) where
     of_block : (c : Class) → is_class Block c ≡ true → (is_class Block c || is_class Inline c) ≡ true
@@ -133,12 +133,12 @@ module _ (canvas : Rectangle) where
         elim (cases (is_of Block b)) [
           | inl t ↦
               let way : list_all is_plain (b ∷ path) ≡ true = rw (of_block (class b.style false) t) plain in
-              let in_whole : filter (λ y. is_in_line e x.at y.at) whole ≡ filter (λ y. is_in_line e x.at y.at) (painted canvas (b ∷ above) ch) =
+              let in_whole : filter (λ y. is_in_line e x.at y.at) whole ≡ filter (λ y. is_in_line e x.at y.at) (painted grouping canvas (b ∷ above) ch) =
               filter-same (λ y. is_in_line e x.at y.at) (at_key k (λ y. is_in_line e x.at y.at)) whole (λ y. keyed (is_local e y.at) (is_inline_level y.at) (key_in k y.at.above) (is_all_inline x.at y.at))
               ∙ w k (from_left (same_key k k) (has same_key k ch || has same_key k nx) (same_key-refl k)) (λ y. is_in_line e x.at y.at)
               ∙ filter-tree canvas (at_key k (λ y. is_in_line e x.at y.at)) above k d ch nx
               ∙ rw (k_off, none_below k (λ y. is_in_line e x.at y.at) above nx k_off a.1)
-              (append-nil _ ∙ filter-same (at_key k (λ y. is_in_line e x.at y.at)) (λ y. is_in_line e x.at y.at) (painted canvas (b ∷ above) ch) (λ y. sym (keyed (is_local e y.at) (is_inline_level y.at) (key_in k y.at.above) (is_all_inline x.at y.at)))) in
+              (append-nil _ ∙ filter-same (at_key k (λ y. is_in_line e x.at y.at)) (λ y. is_in_line e x.at y.at) (painted grouping canvas (b ∷ above) ch) (λ y. sym (keyed (is_local e y.at) (is_inline_level y.at) (key_in k y.at.above) (is_all_inline x.at y.at)))) in
               let line : (passed canvas (b ∷ above) ch).line ≡ each (inline_part canvas) (line_of e whole x.at) =
               line_is canvas (b ∷ above) ch refl
               ∙ ap (each (inline_part canvas))

@@ -9,11 +9,12 @@ use Rattle.rd_item.specs.Items.{Made}
 use Rattle.rd_list.proofs.Joins.{join-nil, join_assoc}
 use Rattle.rd_tree.specs.Forest.{empty, tree, starting_at, from_some, size, head}
 use Rattle.rd_tree.specs.Document.{BoxForest}
+use Rattle.rd_tree.specs.Contexts.{blends_in}
 use Rattle.rd_tree.specs.declared.node.Item.{Item}
 use Rattle.rd_tree.specs.Hulls.{extent, hull_in}
 use Rattle.rd_stack.specs.Paths.{BoxData}
 use Rattle.rd_stack.specs.Fresh.{box_data}
-use Rattle.rd_partial.specs.Internal.Pass.{box_bands, order_of}
+use Rattle.rd_partial.specs.Internal.Pass.{box_bands, is_one, order_of}
 use Rattle.rd_partial.specs.Internal.Standing.{Standing}
 use Rattle.rd_partial.specs.Internal.Bands.{Bands, no_bands, ◌⊕◌}
 use Rattle.rd_partial.specs.Internal.Standing.{below}
@@ -69,7 +70,7 @@ module _ (wants : Rectangle → Bool) (n : ℕ) (s : Standing) where
   cost_none_below o f made e = let h : cost wants n s (from_some same_key o f) ≡ 0 = cost_of_none o f e in omega (arith, h)
 
   module _ (f : BoxForest) (k : BoxKey) (here : BoxData) (c nx : Option BoxKey) (hull : Rectangle) (w : Onward f k here c nx hull) where
-    pub passes_more : passes wants n s (starting_at same_key k f) ≡ boxed wants n s here (passes wants n (below s here) (from_some same_key c f)) ⊕ passes wants n s (from_some same_key nx f)
+    pub passes_more : passes wants n s (starting_at same_key k f) ≡ boxed wants n s here (is_one false (blends_in (from_some same_key c f)) here) (passes wants n (below s here) (from_some same_key c f)) ⊕ passes wants n s (from_some same_key nx f)
     unfolding passes
     passes_more = rw (w.is, w.data_is, w.child, w.next) refl
 
@@ -93,13 +94,13 @@ module _ (wants : Rectangle → Bool) (n : ℕ) (s : Standing) where
           tt,
         )
 
-    pub boxed_none : (grows : (a b : Rectangle) → IsWithin a b → IsTrue (wants a) → IsTrue (wants b)) → s.root ≡ false → wants hull ≡ false → boxed wants n s here (passes wants n (below s here) (from_some same_key c f)) ≡ no_bands
+    pub boxed_none : (grows : (a b : Rectangle) → IsWithin a b → IsTrue (wants a) → IsTrue (wants b)) → s.root ≡ false → wants hull ≡ false → (grouped : Bool) → boxed wants n s here grouped (passes wants n (below s here) (from_some same_key c f)) ≡ no_bands
     unfolding passes
-    boxed_none grows r h =
+    boxed_none grows r h grouped =
         let x = none_there grows r h in
         rw (w.data_is, w.child)
-        (ap (λ z. box_bands below (gives wants n) s (box_data k w.item) (order_of below (gives wants n) false s (box_data k w.item) z) z) (pass-none below (gives wants n) (below s (box_data k w.item)) w.below x.1)
-        ∙ no_box below (gives wants n) s (box_data k w.item) x.0)
+        (ap (λ z. box_bands below (gives wants n) s (box_data k w.item) grouped (order_of below (gives wants n) false s (box_data k w.item) z) z) (pass-none below (gives wants n) (below s (box_data k w.item)) w.below x.1)
+        ∙ no_box below (gives wants n) s (box_data k w.item) grouped x.0)
 
     pub cost_none : (grows : (a b : Rectangle) → IsWithin a b → IsTrue (wants a) → IsTrue (wants b)) → s.root ≡ false → wants hull ≡ false → own_cost wants n s here + cost wants n (below s here) (from_some same_key c f) ≡ 0
     unfolding cost
@@ -118,8 +119,11 @@ module _ (wants : Rectangle → Bool) (n : ℕ) (s : Standing) (f first : BoxFor
   abbrev inner : Bands Made
   inner = passes wants n (below s here) (from_some same_key c f)
 
+  abbrev one : Bool
+  one = is_one false (blends_in (from_some same_key c f)) here
+
   pub kept_one : (o : Option BoxKey) (then : Bands Made) (made2 looks1 looks2 : ℕ) → o ≡ Some k → Kept wants n s f first (from_some same_key o f) before now made0 made looks0 looks → wants hull ≡ true
-      → then ≡ now ⊕ boxed wants n s here inner → made2 ≡ made + (own_cost wants n s here + cost wants n (below s here) (from_some same_key c f)) → looks1 ≡ looks + 1 → looks2 ≤ looks1 + visits wants (from_some same_key c f)
+      → then ≡ now ⊕ boxed wants n s here one inner → made2 ≡ made + (own_cost wants n s here + cost wants n (below s here) (from_some same_key c f)) → looks1 ≡ looks + 1 → looks2 ≤ looks1 + visits wants (from_some same_key c f)
       → Kept wants n s f first (from_some same_key nx f) before then made0 made2 looks0 looks2
   kept_one o then made2 looks1 looks2 e i h t m l v =
       let j : Kept wants n s f first (starting_at same_key k f) before now made0 made looks0 looks = subst (λ x. Kept wants n s f first (from_some same_key x f) before now made0 made looks0 looks) e i in
@@ -128,7 +132,7 @@ module _ (wants : Rectangle → Bool) (n : ℕ) (s : Standing) (f first : BoxFor
       let cm = cost_more wants n s f k here c nx hull w in
       record {
         fewer = omega (arith, sm, j.fewer);
-        list = rw t (plus_assoc now (boxed wants n s here inner) (passes wants n s (from_some same_key nx f)) ∙ ap (λ z. now ⊕ z) (sym (passes_more wants n s f k here c nx hull w)) ∙ j.list);
+        list = rw t (plus_assoc now (boxed wants n s here one inner) (passes wants n s (from_some same_key nx f)) ∙ ap (λ z. now ⊕ z) (sym (passes_more wants n s f k here c nx hull w)) ∙ j.list);
         made_is = omega (arith, cm, j.made_is, m);
         looks_is = omega (arith, vm, j.looks_is, l, v);
       }
@@ -141,7 +145,7 @@ module _ (wants : Rectangle → Bool) (n : ℕ) (s : Standing) (f first : BoxFor
       let vm : visits wants (starting_at same_key k f) ≡ 1 + 0 + visits wants (from_some same_key nx f) = visits_more wants n s f k here c nx hull w ∙ rw h refl in
       let cm = cost_more wants n s f k here c nx hull w in
       let cn = cost_none wants n s f k here c nx hull w grows r h in
-      let bn = boxed_none wants n s f k here c nx hull w grows r h in
+      let bn = boxed_none wants n s f k here c nx hull w grows r h one in
       record {
         fewer = omega (arith, sm, j.fewer);
         list = ap (λ z. now ⊕ z) (sym (passes_more wants n s f k here c nx hull w ∙ ap (λ z. z ⊕ passes wants n s (from_some same_key nx f)) bn)) ∙ j.list;

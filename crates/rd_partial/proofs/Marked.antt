@@ -24,7 +24,7 @@ use Rattle.rd_stack.specs.Parts.{leaf_at, leaf_of, shown, shape_of, is_seen, tak
 use Rattle.rd_stack.specs.Fresh.{box_data, fresh_list}
 use Rattle.rd_partial.specs.Invalid.{shows_touched, any_shows}
 use Rattle.rd_partial.specs.Internal.Counting.{leaves_in, given_of, given}
-use Rattle.rd_partial.specs.Internal.Pass.{whole}
+use Rattle.rd_partial.specs.Internal.Pass.{whole, is_one}
 use Rattle.rd_partial.specs.Internal.Picking.{picked, made_if}
 use Rattle.rd_partial.specs.Internal.Standing.{Standing, standing_below, at_root, below, clip_in, leaf_in}
 use Rattle.rd_partial.specs.Internal.Touched.{leaf_shows, box_shows, touched_shows}
@@ -160,7 +160,7 @@ module _ (canvas : Rectangle) (T : BoxKey → Bool) (x y : ℤ) where
 
   counted : (k : BoxKey) (d : Item) (ch : BoxForest) → leaves_in (whole enter (give_on pick enter (give canvas)) [] (tree k d ch empty)) ≡ given_here [] (tree k d ch empty)
   counted k d ch =
-      let e = count-root enter (give_on pick enter (give canvas)) [] (box_data k d) ch in
+      let e = count-root enter (give_on pick enter (give canvas)) [] (box_data k d) (is_one true false (box_data k d)) ch in
       e ∙ no_more (given_own [] (box_data k d) + given_here (box_data k d ∷ []) ch)
     where
       no_more : (n : ℕ) → n ≡ n + 0

@@ -1,6 +1,6 @@
 -- The pass over picked leaves gives the picked list.
 use Rattle.std.proofs.Common.{◌≡◌, refl, ap, ◌∙◌, sym, Bool, true, false, not, ◌&&◌, cond, List, [], ◌∷◌, ◌++◌, append_assoc, ℤ}
-use Rattle.std.specs.Prelude.{Option, Some, None, nat_lt}
+use Rattle.std.specs.Prelude.{Option, Some, None}
 use Rattle.rd_style.specs.Classes.{blocky, real}
 use Rattle.rd_style.specs.declared.kinds.Class.TheVariants.{Layer, Float, Atom, Block, Inline}
 use Rattle.rd_keys.specs.declared.entry.Part.{Part}
@@ -10,10 +10,11 @@ use Rattle.rd_list.proofs.Joins.{join_assoc}
 use Rattle.rd_list.specs.Wrappers.{Wrapper, wrapper}
 use Rattle.rd_tree.specs.Forest.{empty, tree}
 use Rattle.rd_tree.specs.Document.{BoxForest}
+use Rattle.rd_tree.specs.Contexts.{blends_in}
 use Rattle.rd_stack.specs.Paths.{BoxData, is_plain}
 use Rattle.rd_stack.specs.Fresh.{box_data}
 use Rattle.rd_partial.specs.Internal.Bands.{Bands, Stacked, ◌⊕◌, entries_if, list_if, stacked, by_level}
-use Rattle.rd_partial.specs.Internal.Pass.{order_of, pass, whole, box_bands, as_group, is_of, has_negative_level, has_positive_level, has_zero_level, level_in}
+use Rattle.rd_partial.specs.Internal.Pass.{order_of, pass, whole, box_bands, is_one, as_group, is_of, has_negative_level, has_positive_level, has_zero_level, level_in}
 use Rattle.rd_partial.specs.Internal.Picking.{picked, picked_stacks, picked_bands}
 use Rattle.rd_partial.proofs.Joined.{joined}
 use Rattle.rd_partial.proofs.Levels.{levels_are, none_there}
@@ -74,11 +75,11 @@ module _ {L M : Type 0} (pick : L → Option M) where
       let s = no_leaf (flat inner) (flat xs) h in
       rw (on-none inner s.0, on-none xs s.1) refl
 
-  pub on-group : (root : Bool) (b : BoxData) (order : Entries Wrapper L) → on (as_group root b order) ≡ as_group root b (on order)
-  on-group root b order = by (real b.style root && nat_lt b.style.opacity 255) (has_leaf (flat order)) refl
+  pub on-group : (grouped : Bool) (b : BoxData) (order : Entries Wrapper L) → on (as_group grouped b order) ≡ as_group grouped b (on order)
+  on-group grouped b order = by grouped (has_leaf (flat order)) refl
     where
-      wrap : (t : Bool) → has_leaf (flat (on order)) ≡ t → grouped_if_any (wrapper b.key b.style.opacity) (on order) nil ≡ cond t (group (wrapper b.key b.style.opacity) (on order) nil) (on order)
-      wrap true h = group-leaf (wrapper b.key b.style.opacity) (on order) h
+      wrap : (t : Bool) → has_leaf (flat (on order)) ≡ t → grouped_if_any (wrapper b.key b.style.opacity b.style.blend) (on order) nil ≡ cond t (group (wrapper b.key b.style.opacity b.style.blend) (on order) nil) (on order)
+      wrap true h = group-leaf (wrapper b.key b.style.opacity b.style.blend) (on order) h
       wrap false h =
           let e : on order ≡ nil = none_there (on order) (not_not (is_empty (on order)) (sym (on-filled order) ∙ h)) in
           rw e refl
@@ -87,7 +88,7 @@ module _ {L M : Type 0} (pick : L → Option M) where
           not_not true h = refl
           not_not false h = cc
 
-      by : (t u : Bool) → has_leaf (flat order) ≡ u → on (cond (t && u) (group (wrapper b.key b.style.opacity) order nil) order) ≡ cond (t && has_leaf (flat (on order))) (group (wrapper b.key b.style.opacity) (on order) nil) (on order)
+      by : (t u : Bool) → has_leaf (flat order) ≡ u → on (cond (t && u) (group (wrapper b.key b.style.opacity b.style.blend) order nil) order) ≡ cond (t && has_leaf (flat (on order))) (group (wrapper b.key b.style.opacity b.style.blend) (on order) nil) (on order)
       by false u h = refl
       by true true h = wrap (has_leaf (flat (on order))) refl
       by true false h = rw (on-none order h) refl
@@ -172,24 +173,24 @@ module _ {L M : Type 0} (pick : L → Option M) where
             → ◌≡◌ {A = Bands M} (record { negatives = u; backgrounds = k; floats = f; line = l; contents = w; zeros = z; positives = o; outlines = t }) (record { negatives = u2; backgrounds = k2; floats = f2; line = l2; contents = w2; zeros = z2; positives = o2; outlines = t2 })
         of_parts u u2 k k2 f f2 l l2 w w2 z z2 o o2 t t2 h1 h2 h3 h4 h5 h6 h7 h8 = rw (h1, h2, h3, h4, h5, h6, h7, h8) refl
 
-    on-box : (s : S) (b : BoxData) (order : Entries Wrapper L) (below : Bands L) → pb (box_bands enter give s b order below) ≡ box_bands enter give_on s b (on order) (pb below)
-    on-box s b order below =
+    on-box : (s : S) (b : BoxData) (grouped : Bool) (order : Entries Wrapper L) (below : Bands L) → pb (box_bands enter give s b grouped order below) ≡ box_bands enter give_on s b grouped (on order) (pb below)
+    on-box s b grouped order below =
         let back_border = over (part s b Back) (part s b Border) in
         let h2 = over (under_so (is_of Block b) back_border) (under_so (is_plain b) (self below.backgrounds)) in
         let h3 = over (under_so (is_of Float b) (self order)) (under_so (is_plain b) (self below.floats)) in
         let h4 = over (over (under_so (is_of Inline b) (over back_border (part s b Content))) (under_so (is_of Atom b) (self order))) (under_so (is_of Inline b) (self below.line)) in
         let h5 = over (under_so (is_of Block b) (over (part s b Content) (self below.line))) (under_so (is_plain b) (self below.contents)) in
-        let entry : On (as_group false b order) (as_group false b (on order)) = record { is = on-group false b order } in
+        let entry : On (as_group grouped b order) (as_group grouped b (on order)) = record { is = on-group grouped b order } in
         let h6 = over (under_so (is_of Layer b && has_zero_level b) entry) (under_so (not (real b.style false)) (self below.zeros)) in
         let h8 = over (under_so (is_plain b) (part s b Outline)) (under_so (is_plain b) (self below.outlines)) in
-        same_bands (pb (box_bands enter give s b order below)) (box_bands enter give_on s b (on order) (pb below))
+        same_bands (pb (box_bands enter give s b grouped order below)) (box_bands enter give_on s b grouped (on order) (pb below))
         (layers (is_of Layer b && has_negative_level b) below.negatives) h2.is h3.is h4.is h5.is h6.is (layers (is_of Layer b && has_positive_level b) below.positives) h8.is
       where
-        layers : (t : Bool) (below_of : List (Stacked L)) → picked_stacks pick (list_if t (stacked (level_in b) (as_group false b order)) ++ list_if (not (real b.style false)) below_of)
-            ≡ list_if t (stacked (level_in b) (as_group false b (on order))) ++ list_if (not (real b.style false)) (picked_stacks pick below_of)
+        layers : (t : Bool) (below_of : List (Stacked L)) → picked_stacks pick (list_if t (stacked (level_in b) (as_group grouped b order)) ++ list_if (not (real b.style false)) below_of)
+            ≡ list_if t (stacked (level_in b) (as_group grouped b (on order))) ++ list_if (not (real b.style false)) (picked_stacks pick below_of)
         layers t below_of =
-            stacks-append (list_if t (stacked (level_in b) (as_group false b order))) (list_if (not (real b.style false)) below_of)
-            ∙ rw (stacks-some t (stacked (level_in b) (as_group false b order)), stacks-some (not (real b.style false)) below_of, stacks-one (level_in b) (as_group false b order), on-group false b order) refl
+            stacks-append (list_if t (stacked (level_in b) (as_group grouped b order))) (list_if (not (real b.style false)) below_of)
+            ∙ rw (stacks-some t (stacked (level_in b) (as_group grouped b order)), stacks-some (not (real b.style false)) below_of, stacks-one (level_in b) (as_group grouped b order), on-group grouped b order) refl
 
     on-add : (x y : Bands L) → pb (x ⊕ y) ≡ pb x ⊕ pb y
     on-add x y =
@@ -201,15 +202,17 @@ module _ {L M : Type 0} (pick : L → Option M) where
         let b = box_data k d in
         let below = pass enter give (enter s b) ch in
         let order = order_of enter give false s b below in
-        on-add (box_bands enter give s b order below) (pass enter give s nx)
-        ∙ ap (λ z. z ⊕ pb (pass enter give s nx)) (on-box s b order below)
-        ∙ ap (λ z. box_bands enter give_on s b z (pb below) ⊕ pb (pass enter give s nx)) ((on-order false s b below).is)
-        ∙ ap (λ z. box_bands enter give_on s b (order_of enter give_on false s b z) z ⊕ pb (pass enter give s nx)) (on-pass (enter s b) ch)
-        ∙ ap (λ z. box_bands enter give_on s b (order_of enter give_on false s b (pass enter give_on (enter s b) ch)) (pass enter give_on (enter s b) ch) ⊕ z) (on-pass s nx)
+        let one = is_one false (blends_in ch) b in
+        on-add (box_bands enter give s b one order below) (pass enter give s nx)
+        ∙ ap (λ z. z ⊕ pb (pass enter give s nx)) (on-box s b one order below)
+        ∙ ap (λ z. box_bands enter give_on s b one z (pb below) ⊕ pb (pass enter give s nx)) ((on-order false s b below).is)
+        ∙ ap (λ z. box_bands enter give_on s b one (order_of enter give_on false s b z) z ⊕ pb (pass enter give s nx)) (on-pass (enter s b) ch)
+        ∙ ap (λ z. box_bands enter give_on s b one (order_of enter give_on false s b (pass enter give_on (enter s b) ch)) (pass enter give_on (enter s b) ch) ⊕ z) (on-pass s nx)
 
     pub on-whole : (s : S) (f : BoxForest) → on (whole enter give s f) ≡ whole enter give_on s f
     on-whole s empty = refl
     on-whole s (tree k d ch nx) =
         let b = box_data k d in
         let below = pass enter give (enter s b) ch in
-        on-group true b (order_of enter give true s b below) ∙ ap (as_group true b) ((on-order true s b below).is ∙ ap (order_of enter give_on true s b) (on-pass (enter s b) ch))
+        let one = is_one true (blends_in ch) b in
+        on-group one b (order_of enter give true s b below) ∙ ap (as_group one b) ((on-order true s b below).is ∙ ap (order_of enter give_on true s b) (on-pass (enter s b) ch))

@@ -1,6 +1,5 @@
 -- Boxes that give no leaf may be left out.
 use Rattle.std.proofs.Common.{◌≡◌, refl, ap, ◌∙◌, Bool, true, false, not, ◌&&◌, cond, List, [], ◌++◌}
-use Rattle.std.specs.Prelude.{nat_lt}
 use Rattle.rd_style.specs.Classes.{blocky, real}
 use Rattle.rd_style.specs.declared.kinds.Class.TheVariants.{Layer, Float, Atom, Block, Inline}
 use Rattle.rd_keys.specs.declared.entry.Part.{Part}
@@ -9,10 +8,11 @@ use Rattle.rd_list.specs.Entries.{Entries, nil, group, ◌▷◌}
 use Rattle.rd_list.specs.Wrappers.{Wrapper, wrapper}
 use Rattle.rd_tree.specs.Forest.{empty, tree}
 use Rattle.rd_tree.specs.Document.{BoxForest}
+use Rattle.rd_tree.specs.Contexts.{blends_in}
 use Rattle.rd_stack.specs.Paths.{BoxData, is_plain}
 use Rattle.rd_stack.specs.Fresh.{box_data}
 use Rattle.rd_partial.specs.Internal.Bands.{Bands, Stacked, no_bands, ◌⊕◌, entries_if, list_if}
-use Rattle.rd_partial.specs.Internal.Pass.{order_of, pass, box_bands, as_group, is_of, has_negative_level, has_positive_level, has_zero_level}
+use Rattle.rd_partial.specs.Internal.Pass.{order_of, pass, box_bands, is_one, as_group, is_of, has_negative_level, has_positive_level, has_zero_level}
 
 module _ {L : Type 0} where
   so-nil : (t : Bool) → ◌≡◌ {A = Entries Wrapper L} (entries_if t nil) nil
@@ -23,10 +23,10 @@ module _ {L : Type 0} where
   some-nil true = refl
   some-nil false = refl
 
-  no_group : (root : Bool) (b : BoxData) → ◌≡◌ {A = Entries Wrapper L} (as_group root b nil) nil
-  no_group root b = by (real b.style root && nat_lt b.style.opacity 255)
+  no_group : (grouped : Bool) (b : BoxData) → ◌≡◌ {A = Entries Wrapper L} (as_group grouped b nil) nil
+  no_group grouped b = by grouped
     where
-      by : (t : Bool) → ◌≡◌ {A = Entries Wrapper L} (cond (t && false) (group (wrapper b.key b.style.opacity) nil nil) nil) nil
+      by : (t : Bool) → ◌≡◌ {A = Entries Wrapper L} (cond (t && false) (group (wrapper b.key b.style.opacity b.style.blend) nil nil) nil) nil
       by true = refl
       by false = refl
 
@@ -40,10 +40,10 @@ module _ {L : Type 0} where
     no_order root s b h =
         rw (h Back, h Border, h Content, h Outline, so-nil root, so-nil (not root), so-nil (blocky b.style root), so-nil (real b.style root), so-nil (not (blocky b.style root))) refl
 
-    pub no_box : (s : S) (b : BoxData) → ((p : Part) → give s b p ≡ nil) → box_bands enter give s b (order_of enter give false s b no_bands) no_bands ≡ no_bands
-    no_box s b h =
-        ap (λ z. box_bands enter give s b z no_bands) (no_order false s b h)
-        ∙ rw (h Back, h Border, h Content, h Outline, no_group false b) (none (is_of Block b) (is_of Float b) (is_of Atom b) (is_of Inline b) (is_plain b) (not (real b.style false)) (is_of Layer b && has_negative_level b) (is_of Layer b && has_zero_level b) (is_of Layer b && has_positive_level b))
+    pub no_box : (s : S) (b : BoxData) (grouped : Bool) → ((p : Part) → give s b p ≡ nil) → box_bands enter give s b grouped (order_of enter give false s b no_bands) no_bands ≡ no_bands
+    no_box s b grouped h =
+        ap (λ z. box_bands enter give s b grouped z no_bands) (no_order false s b h)
+        ∙ rw (h Back, h Border, h Content, h Outline, no_group grouped b) (none (is_of Block b) (is_of Float b) (is_of Atom b) (is_of Inline b) (is_plain b) (not (real b.style false)) (is_of Layer b && has_negative_level b) (is_of Layer b && has_zero_level b) (is_of Layer b && has_positive_level b))
       where
         none : (block float atom inline opened unreal under zero over : Bool)
             → ◌≡◌ {A = Bands L} (record {
@@ -64,6 +64,7 @@ module _ {L : Type 0} where
     pass-none s empty h = refl
     pass-none s (tree k d ch nx) h =
         let b = box_data k d in
-        ap (λ z. box_bands enter give s b (order_of enter give false s b z) z ⊕ pass enter give s nx) (pass-none (enter s b) ch h.1)
-        ∙ ap (λ z. z ⊕ pass enter give s nx) (no_box s b h.0)
+        let one = is_one false (blends_in ch) b in
+        ap (λ z. box_bands enter give s b one (order_of enter give false s b z) z ⊕ pass enter give s nx) (pass-none (enter s b) ch h.1)
+        ∙ ap (λ z. z ⊕ pass enter give s nx) (no_box s b one h.0)
         ∙ pass-none s nx h.2

@@ -21,9 +21,10 @@ use Rattle.rd_partial.specs.Internal.Bands.{Bands, ◌⊕◌}
 use Rattle.rd_partial.specs.Internal.Counting.{looks_below, visits}
 use Rattle.rd_partial.specs.declared.look.Looked.{Looked}
 use Rattle.rd_partial.specs.Internal.Looked.{Onward, here_of, looked_of}
+use Rattle.rd_partial.specs.Internal.Pass.{is_one}
 use Rattle.rd_partial.specs.Internal.Standing.{Standing, below}
 use Rattle.rd_partial.specs.Internal.Touched.{touched_shows, marks_from, leads_to_touched}
-use Rattle.rd_partial.specs.Internal.Work.{passes}
+use Rattle.rd_partial.specs.Internal.Work.{blends_from, passes}
 use Rattle.rd_partial.specs.Internal.Seeking.{PassesMarks, PassesWanted, IsNextMarked, IsNextNear}
 use Rattle.rd_partial.proofs.Adding.{joins_same}
 use Rattle.rd_partial.proofs.Kids.{Kept, passes_more, cost_more, boxed_none, cost_none}
@@ -118,7 +119,7 @@ wanted_over wants t grows k here c nx hull w off looks =
       fewer = omega (arith, a, b);
       gives = λ n s r.
           sym (passes_more wants n s t.boxes k here c nx hull w
-          ∙ ap (λ z. z ⊕ passes wants n s (from_some same_key nx t.boxes)) (boxed_none wants n s t.boxes k here c nx hull w grows r off));
+          ∙ ap (λ z. z ⊕ passes wants n s (from_some same_key nx t.boxes)) (boxed_none wants n s t.boxes k here c nx hull w grows r off (is_one false (blends_from c t) here)));
       made = λ n s r.
           let cm = cost_more wants n s t.boxes k here c nx hull w in
           let cn = cost_none wants n s t.boxes k here c nx hull w grows r off in
@@ -230,6 +231,7 @@ next_near_is wants t first v w looks0 looks apart fits e f = subst (λ z. IsNext
   passed = f.passed;
   told = going.onward t.root t.boxes f.key (told v) _ apart f.seen refl;
   fits = walk.placed t.root t.boxes f.key (told v) apart fits f.seen;
+  low = going.low_first t.root t.boxes f.key (told v) apart f.seen;
   cost = f.cost;
 })
 

@@ -6,20 +6,24 @@ use Rattle.std.specs.List.{list_all}
 use Rattle.rd_geom.specs.Plane.{Rectangle}
 use Rattle.rd_geom.specs.Canvas.{canvas_of}
 use Rattle.rd_style.specs.declared.kinds.Class.TheVariants.{Layer, Float, Block, Inline}
-use Rattle.rd_keys.specs.Keys.{same_key}
+use Rattle.rd_keys.specs.Keys.{BoxKey, same_key}
 use Rattle.rd_keys.specs.declared.entry.Part.TheVariants.{Outline}
 use Rattle.rd_list.specs.Entries.{◌▷◌, each}
 use Rattle.rd_tree.specs.Forest.{empty, tree, IsApart}
+use Rattle.rd_tree.specs.declared.node.Item.{Item}
 use Rattle.rd_tree.specs.Document.{BoxForest, Document}
+use Rattle.rd_tree.specs.Contexts.{blends_in}
 use Rattle.rd_stack.specs.Paths.{BoxData, BoxPath, has_class, is_none, is_plain, is_inline, is_no_context, is_local, is_layer, is_inline_level, boxes_between}
 use Rattle.rd_list.proofs.Joins.{join_assoc}
 use Rattle.rd_stack.specs.Painting as painting
 use Rattle.rd_stack.specs.Painting.{Painted, insert_by_level, steps, paint, back_border, inline_part, content_and_line, line_of, layers_of, local_boxes, of_class, entry_of, stack_level, level_of, is_negative, is_positive, is_zero, paint_if, is_blocky, root_background, own_background_and_border, negative_layers, block_backgrounds, floats, inline_context, zero_layers, positive_layers, outlines}
-use Rattle.rd_stack.specs.Fresh.{box_data, painted, root_order, fresh_list}
+use Rattle.rd_stack.specs.Fresh.{box_data, grouping, painted, root_order, fresh_list}
+use Rattle.rd_stack.proofs.Present.{grouped-below}
+use Rattle.rd_stack.proofs.Grouping.Shape.{box-found}
 use Rattle.rd_stack.proofs.Walk.Filters.{filter_both}
 use Rattle.rd_stack.proofs.Counting.InlineLines.{AreOff, in_below, in_rest, off_below}
 use Rattle.rd_partial.specs.Internal.Bands.{◌⊕◌, by_level}
-use Rattle.rd_partial.specs.Internal.Pass.{order_of, pass, whole, box_bands, as_group}
+use Rattle.rd_partial.specs.Internal.Pass.{order_of, pass, whole, box_bands, is_one, as_group}
 use Rattle.rd_partial.proofs.Gather.{painted_box, gathered, gathered-reached}
 use Rattle.rd_partial.proofs.Fields.{passed, enter, give, stack_of, backgrounds_are, floats_are, outlines_are, zeros_are, negatives_are, positives_are, line_is}
 use Rattle.rd_partial.proofs.Joined.{joined}
@@ -55,7 +59,7 @@ zeros_in_order (x ∷ xs) = by (is_zero x) refl (zeros_in_order xs)
 module _ (canvas : Rectangle) where
   module _ (e : BoxPath) (f : BoxForest) where
     abbrev below : List Painted
-    below = painted canvas (e.here ∷ e.above) f
+    below = painted grouping canvas (e.here ∷ e.above) f
 
     local_is : (q : Painted → Bool) → gathered canvas q is_plain (e.here ∷ e.above) f ≡ filter q (local_boxes e below)
     local_is q = gathered-reached canvas q is_plain e [] f refl ∙ sym (filter_both (λ x. is_local e x.at) q below)
@@ -92,6 +96,11 @@ module _ (canvas : Rectangle) where
         (join_assoc (paint_if (is_blocky e) (content_and_line canvas e below e)) (each (λ x. content_and_line canvas e below x.at) (of_class Block (local_boxes e below))) (zero_layers e below ▷ positive_layers e below ▷ outlines canvas e below))
         ∙ rw (h1, h2, h3, h4, h5, h6, h7, own_line) refl
 
+  -- a box that is not the root is grouped as it is told of what is below it
+  one_is : (above : List BoxData) (k : BoxKey) (d : Item) (ch : BoxForest) → is_none above ≡ false → (painted_box canvas above (box_data k d) ch).grouped ≡ is_one false (blends_in ch) (box_data k d)
+  one_is [] k d ch n = cc
+  one_is (b ∷ up) k d ch n = grouped-below canvas (record { at = record { above = b ∷ up; here = box_data k d }; below = ch }) ∙ box-found b up k d ch
+
   passed_is : (above : List BoxData) (f : BoxForest) → is_none above ≡ false → IsApart same_key f → AreOff f above → passed canvas above f ≡ pass enter (give canvas) above f
   passed_is above empty n a o = refl
   passed_is above (tree k d ch nx) n a o =
@@ -104,17 +113,19 @@ module _ (canvas : Rectangle) where
       steps_are (painted_box canvas above b ch).at ch a.3 o3
       ∙ ap (λ t. order_of enter (give canvas) t above b (passed canvas (b ∷ above) ch)) n
       ∙ ap (order_of enter (give canvas) false above b) deeper in
-      ap (λ p. box_bands enter (give canvas) above b p (passed canvas (b ∷ above) ch) ⊕ passed canvas above nx) order
-      ∙ ap (λ p. box_bands enter (give canvas) above b (order_of enter (give canvas) false above b (pass enter (give canvas) (b ∷ above) ch)) p ⊕ passed canvas above nx) deeper
-      ∙ ap (λ p. box_bands enter (give canvas) above b (order_of enter (give canvas) false above b (pass enter (give canvas) (b ∷ above) ch)) (pass enter (give canvas) (b ∷ above) ch) ⊕ p) (passed_is above nx n a.4 o2)
+      let one = is_one false (blends_in ch) b in
+      ap (λ g. box_bands enter (give canvas) above b g (painted_box canvas above b ch).order (passed canvas (b ∷ above) ch) ⊕ passed canvas above nx) (one_is above k d ch n)
+      ∙ ap (λ p. box_bands enter (give canvas) above b one p (passed canvas (b ∷ above) ch) ⊕ passed canvas above nx) order
+      ∙ ap (λ p. box_bands enter (give canvas) above b one (order_of enter (give canvas) false above b (pass enter (give canvas) (b ∷ above) ch)) p ⊕ passed canvas above nx) deeper
+      ∙ ap (λ p. box_bands enter (give canvas) above b one (order_of enter (give canvas) false above b (pass enter (give canvas) (b ∷ above) ch)) (pass enter (give canvas) (b ∷ above) ch) ⊕ p) (passed_is above nx n a.4 o2)
 
   -- CSS 2.2 Appendix E: the pass over a tree gives its painting order
-  pub whole_is : (f : BoxForest) → IsApart same_key f → root_order canvas f ≡ whole enter (give canvas) [] f
+  pub whole_is : (f : BoxForest) → IsApart same_key f → root_order grouping canvas f ≡ whole enter (give canvas) [] f
   whole_is empty a = refl
   whole_is (tree k d ch nx) a =
       let b = box_data k d in
       let o : AreOff ch (b ∷ []) = off_below k b ch [] refl a.0 (λ j m. refl) in
-      ap (as_group true b)
+      ap (as_group (is_one true (blends_in ch) b) b)
       (steps_are (record { above = []; here = b }) ch a.3 o
       ∙ ap (order_of enter (give canvas) true [] b) (passed_is (b ∷ []) ch refl a.3 o))
 

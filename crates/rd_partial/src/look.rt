@@ -13,8 +13,8 @@ use rd_style::Style;
 use rd_tree::{BoxView, Tree};
 use std::sync::ledger::Ledger;
 
-/// What a walk needs of a box: the box, where to go on, what all below it may cover, and what was touched. Its style is
-/// lent, so that nothing is copied of a box that is only passed.
+/// What a walk needs of a box: the box, where to go on, what all below it may cover, what was touched, and whether a
+/// blended layer is below it. Its style is lent, so that nothing is copied of a box that is only passed.
 #[derive(Drop)]
 pub struct Looked<'a> {
     key: BoxKey,
@@ -25,6 +25,7 @@ pub struct Looked<'a> {
     pub hull: Rect,
     pub touched: bool,
     pub touched_below: u32,
+    pub blend_below: bool,
 }
 
 impl<'a> Looked<'a> {
@@ -60,6 +61,7 @@ pub(crate) fn looked_of(view: BoxView<'_>) -> Looked<'_>
         hull: view.hull,
         touched: view.touched,
         touched_below: view.touched_below,
+        blend_below: view.blend_below,
     }
 }
 

@@ -1,5 +1,5 @@
 //! What a box paints: its own parts, and the lists that it was given on top.
-ghost use Rattle.std.specs.Prelude.{◌≡◌, OnOk, IfOk, ◌+◌, ◌≤◌, not, map};
+ghost use Rattle.std.specs.Prelude.{◌≡◌, OnOk, IfOk, ◌+◌, ◌≤◌, ◌&&◌, ◌||◌, not, nat_lt, map};
 ghost use Rattle.rd_style.specs.Classes as styles;
 ghost use Rattle.rd_keys.specs.declared.entry.Part.TheVariants as parts;
 ghost use Rattle.rd_list.specs.Entries.{◌▷◌, nil, each, has_leaf, flat, is_empty};
@@ -17,7 +17,7 @@ use crate::wanted::Wanted;
 use rd_geom::{NoMemory, Steps};
 use rd_list::{NewList, Pieces};
 use rd_stack::BoxData;
-use rd_style::{blocky, real};
+use rd_style::{Style, blocky, is_blended, real};
 use std::alloc::Global;
 use std::sync::ledger::Ledger;
 
@@ -163,16 +163,25 @@ pub fn finish<A: Ledger>(
     Ok(out)
 }
 
-/// A translucent stacking context is composed as one group (CSS Color 3 section 3.2).
+/// Is a stacking context put as one group: translucent, blended, or, unless it is the root, with a blended layer below it (CSS
+/// Color 3 section 3.2, CSS Compositing 1 section 3.2)?
+fn is_composed(s: &Style, root: bool, blend_below: bool) -> bool
+    ensures { result ≡ (nat_lt s.now.opacity 255 || styles.blended s.now || (not root && blend_below)) }
+{
+    s.opacity < 255 || is_blended(s) || (!root && blend_below)
+}
+
+/// A stacking context is put as one group where that is so, and where it paints anything.
 #[tactic(auto, using(crate::proofs::Joining::joins))]
 pub fn as_group<A: Ledger>(
     alloc: Global,
     root: bool,
+    blend_below: bool,
     b: &BoxData,
     order: Pieces<A>,
 ) -> Result<Pieces<A>, NoMemory>
     requires filled { has_leaf (flat (laid_out order)) ≡ not (is_empty (laid_out order)) }
-    ensures { IfOk result (λ p. laid_out p ≡ pass.as_group root b.now (laid_out order)) }
+    ensures { IfOk result (λ p. laid_out p ≡ pass.as_group (pass.is_one root blend_below b.now) b.now (laid_out order)) }
 {
     if order.is_empty() {
         return Ok(order);
@@ -180,12 +189,12 @@ pub fn as_group<A: Ledger>(
     if !real(b.style(), root) {
         return Ok(order);
     }
-    if b.style().opacity == 255 {
+    if !is_composed(b.style(), root, blend_below) {
         return Ok(order);
     }
     let mut inner = NewList::empty(alloc);
     order.lay_out(&mut inner)?;
     let mut out = Pieces::empty(alloc);
-    out.push_group(b.key(), b.style().opacity, inner)?;
+    out.push_group(b.key(), b.style().opacity, b.style().blend, inner)?;
     Ok(out)
 }

@@ -16,7 +16,7 @@ ghost use Rattle.rd_partial.specs.Internal.Standing as standing;
 ghost use Rattle.rd_partial.specs.Internal.Held.{held};
 ghost use Rattle.rd_partial.specs.Internal.Given.{gives, gives_back_border};
 ghost use Rattle.rd_partial.specs.Internal.Counting.{leaves_in, root_visits};
-ghost use Rattle.rd_partial.specs.Internal.Work.{layer_bands, layers_of, held_layers, own_cost, passes_from, passes_below, paints_from, boxed_from, cost_from, siblings_cost, visits_from};
+ghost use Rattle.rd_partial.specs.Internal.Work.{blends_from, layer_bands, layers_of, held_layers, own_cost, passes_from, passes_below, paints_from, boxed_from, cost_from, siblings_cost, visits_from};
 
 use crate::bands::{Layers, Local, Stacked};
 use crate::give::{give_content, give_outline};
@@ -410,6 +410,7 @@ fn real_layer<A: Ledger, B: Ledger, W: Wanted>(
     number: u64,
     s: &Standing,
     b: &BoxData,
+    blend_below: bool,
     first: Option<BoxKey>,
     local: &mut Local<A>,
     layers: &mut Layers<A>,
@@ -419,6 +420,7 @@ fn real_layer<A: Ledger, B: Ledger, W: Wanted>(
     requires class { styles.class b.now.style false ≡ classes.Layer }
     requires real { styles.real b.now.style false ≡ true }
     requires root { s.now.root ≡ false }
+    requires low { blend_below ≡ blends_from first tree.now }
     requires live { IsFirst first tree.now }
     ensures list { OnOk result (held local.new layers.new ≡ held local.old layers.old
         ⊕ boxed_from (W.wants wanted.now) number s.now b.now first tree.now) }
@@ -428,7 +430,7 @@ fn real_layer<A: Ledger, B: Ledger, W: Wanted>(
     ensures looks { looks.new ≤ looks.old + visits_from (W.wants wanted.now) first tree.now }
 {
     let order = context(alloc, tree, wanted, number, s, b, first, made, looks)?;
-    let order = as_group(alloc, false, b, order)?;
+    let order = as_group(alloc, false, blend_below, b, order)?;
     stack(layers, b, order)?;
     Ok(())
 }
@@ -478,6 +480,7 @@ fn one<A: Ledger, B: Ledger, W: Wanted>(
     number: u64,
     s: &Standing,
     b: &BoxData,
+    blend_below: bool,
     first: Option<BoxKey>,
     local: &mut Local<A>,
     layers: &mut Layers<A>,
@@ -485,6 +488,7 @@ fn one<A: Ledger, B: Ledger, W: Wanted>(
     looks: &mut Steps<B>,
 ) -> Result<(), NoMemory>
     requires root { s.now.root ≡ false }
+    requires low { blend_below ≡ blends_from first tree.now }
     requires live { IsFirst first tree.now }
     ensures list { OnOk result (held local.new layers.new ≡ held local.old layers.old
         ⊕ boxed_from (W.wants wanted.now) number s.now b.now first tree.now) }
@@ -495,7 +499,18 @@ fn one<A: Ledger, B: Ledger, W: Wanted>(
 {
     match class_of(b.style(), false) {
         Class::Layer => layer(
-            alloc, tree, wanted, number, s, b, first, local, layers, made, looks,
+            alloc,
+            tree,
+            wanted,
+            number,
+            s,
+            b,
+            blend_below,
+            first,
+            local,
+            layers,
+            made,
+            looks,
         ),
         Class::Float => float(
             alloc, tree, wanted, number, s, b, first, local, layers, made, looks,
@@ -522,6 +537,7 @@ fn layer<A: Ledger, B: Ledger, W: Wanted>(
     number: u64,
     s: &Standing,
     b: &BoxData,
+    blend_below: bool,
     first: Option<BoxKey>,
     local: &mut Local<A>,
     layers: &mut Layers<A>,
@@ -530,6 +546,7 @@ fn layer<A: Ledger, B: Ledger, W: Wanted>(
 ) -> Result<(), NoMemory>
     requires class { styles.class b.now.style false ≡ classes.Layer }
     requires root { s.now.root ≡ false }
+    requires low { blend_below ≡ blends_from first tree.now }
     requires live { IsFirst first tree.now }
     ensures list { OnOk result (held local.new layers.new ≡ held local.old layers.old
         ⊕ boxed_from (W.wants wanted.now) number s.now b.now first tree.now) }
@@ -540,7 +557,18 @@ fn layer<A: Ledger, B: Ledger, W: Wanted>(
 {
     if real(b.style(), false) {
         real_layer(
-            alloc, tree, wanted, number, s, b, first, local, layers, made, looks,
+            alloc,
+            tree,
+            wanted,
+            number,
+            s,
+            b,
+            blend_below,
+            first,
+            local,
+            layers,
+            made,
+            looks,
         )
     } else {
         auto_layer(
@@ -622,6 +650,7 @@ fn children<A: Ledger, B: Ledger, W: Wanted>(
             number,
             s,
             &here,
+            looked.blend_below,
             looked.first_child,
             local,
             layers,
@@ -666,7 +695,7 @@ pub fn build_wanted<A: Ledger, B: Ledger, W: Wanted>(
         made,
         looks,
     )?;
-    let order = as_group(alloc, true, &here, order)?;
+    let order = as_group(alloc, true, looked.blend_below, &here, order)?;
     let mut list = NewList::empty(alloc);
     order.lay_out(&mut list)?;
     Ok(list)

@@ -22,6 +22,7 @@ looked_of v = record {
   hull = v.hull;
   touched = v.touched;
   touched_below = v.touched_below;
+  blend_below = v.blend_below;
 }
 
 -- the box that a look shows

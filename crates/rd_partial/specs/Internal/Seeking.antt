@@ -9,7 +9,7 @@ use Rattle.rd_partial.specs.declared.look.Looked.{Looked}
 use Rattle.rd_partial.specs.Internal.Looked.{Onward, here_of}
 use Rattle.rd_partial.specs.Internal.Standing.{Standing}
 use Rattle.rd_partial.specs.Internal.Touched.{HasMarks, shows_from, marks_from, touched_looks}
-use Rattle.rd_partial.specs.Internal.Work.{passes_from, siblings_cost, visits_from}
+use Rattle.rd_partial.specs.Internal.Work.{blends_from, passes_from, siblings_cost, visits_from}
 
 -- So many boxes there are from one on.
 abbrev pub size_from : Option BoxKey → Document → ℕ
@@ -47,6 +47,7 @@ module _ (wants : Rectangle → Bool) where
     pub passed : PassesWanted t first (Some key) looks0 before
     pub told : Onward t.boxes key (here_of v) v.first_child v.next_sibling v.hull
     pub fits : OutlineFits (here_of v)
+    pub low : v.blend_below ≡ blends_from v.first_child t
     pub cost : looks ≡ before + 1
 
   -- A look at the next one in whose hull something is wanted.
@@ -56,5 +57,6 @@ module _ (wants : Rectangle → Bool) where
     pub passed : PassesWanted t first (Some key) looks0 before
     pub told : Onward t.boxes key (here_of v) v.first_child v.next_sibling v.hull
     pub fits : OutlineFits (here_of v)
+    pub low : v.blend_below ≡ blends_from v.first_child t
     pub wanted : wants v.hull ≡ true
     pub cost : looks ≡ before + 1

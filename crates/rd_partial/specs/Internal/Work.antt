@@ -7,6 +7,7 @@ use Rattle.rd_item.specs.Items.{Made}
 use Rattle.rd_keys.specs.Keys.{BoxKey, same_key}
 use Rattle.rd_tree.specs.Forest.{from_some}
 use Rattle.rd_tree.specs.Document.{BoxForest, Document}
+use Rattle.rd_tree.specs.Contexts.{blends_in}
 use Rattle.rd_stack.specs.Paths.{BoxData}
 use Rattle.rd_list.specs.Nested.{laid_out}
 use Rattle.rd_list.specs.Wrappers.{Wrapper}
@@ -40,6 +41,11 @@ layer_bands z order = record {
   outlines = nil;
 }
 
+-- CSS Compositing 1 section 3.2: is a blended layer among some siblings and those below them, from one on, in the stacking
+-- context round them?
+abbrev pub blends_from : Option BoxKey → Document → Bool
+blends_from first t = blends_in (from_some same_key first t.boxes)
+
 module _ (wants : Rectangle → Bool) (n : ℕ) where
   -- what a forest gives
   unfoldable pub passes : Standing → BoxForest → Bands Made
@@ -49,9 +55,9 @@ module _ (wants : Rectangle → Bool) (n : ℕ) where
   abbrev pub paints : Standing → BoxData → Bands Made → Entries Wrapper Made
   paints s b inner = by_pass.order_of below (gives wants n) s.root s b inner
 
-  -- what a box gives with those below it
-  abbrev pub boxed : Standing → BoxData → Bands Made → Bands Made
-  boxed s b inner = by_pass.box_bands below (gives wants n) s b (by_pass.order_of below (gives wants n) false s b inner) inner
+  -- what a box gives with those below it, where it is told whether it is grouped
+  abbrev pub boxed : Standing → BoxData → Bool → Bands Made → Bands Made
+  boxed s b grouped inner = by_pass.box_bands below (gives wants n) s b grouped (by_pass.order_of below (gives wants n) false s b inner) inner
 
   -- how many items a box gives
   abbrev pub own_cost : Standing → BoxData → ℕ
@@ -79,7 +85,7 @@ module _ (wants : Rectangle → Bool) (n : ℕ) where
 
   -- what b gives with those below it
   abbrev pub boxed_from : Standing → BoxData → Option BoxKey → Document → Bands Made
-  boxed_from s b first t = boxed s b (passes_below s b first t)
+  boxed_from s b first t = boxed s b (by_pass.is_one false (blends_from first t) b) (passes_below s b first t)
 
   -- how many items some siblings give, from one on
   abbrev pub siblings_cost : Standing → Option BoxKey → Document → ℕ

@@ -1,6 +1,7 @@
-use Rattle.std.proofs.Common.{◌≡◌, refl, ◌∙◌, ap, arith, subst, ℕ, Bool}
-use Rattle.std.specs.Prelude.{Option, Some, None, OnOk}
+use Rattle.std.proofs.Common.{◌≡◌, refl, ◌∙◌, ap, arith, subst, ℕ, Bool, false, not, ◌&&◌, ◌||◌}
+use Rattle.std.specs.Prelude.{Option, Some, None, OnOk, nat_lt}
 use Rattle.rd_geom.specs.Plane.{Rectangle}
+use Rattle.rd_style.specs.Classes.{blended, real}
 use Rattle.rd_keys.specs.Keys.{BoxKey, same_key}
 use Rattle.rd_keys.specs.declared.entry.Part.TheVariants.{Back, Border, Content}
 use Rattle.rd_item.specs.Items.{Made}
@@ -12,11 +13,11 @@ use Rattle.rd_list.specs.Nested.{laid_out}
 use Rattle.rd_partial.specs.Internal.Standing.{Standing}
 use Rattle.rd_partial.specs.Internal.Bands.{Bands, ◌⊕◌}
 use Rattle.rd_partial.specs.Internal.Standing as standing
-use Rattle.rd_partial.specs.Internal.Pass.{level_in}
+use Rattle.rd_partial.specs.Internal.Pass.{is_one, as_group, level_in}
 use Rattle.rd_partial.specs.Internal.Given.{gives}
 use Rattle.rd_partial.specs.Internal.Held.{held}
 use Rattle.rd_partial.specs.Internal.Looked.{here_of}
-use Rattle.rd_partial.specs.Internal.Work.{passes}
+use Rattle.rd_partial.specs.Internal.Work.{blends_from, passes}
 use Rattle.rd_partial.proofs.Arms.{over_known, two_joined, context_order, aside_order, float_arm, atom_arm, inline_arm, block_arm, lone_arm, auto_arm, real_arm}
 use Rattle.rd_partial.proofs.Kids.{kept_one, kept_end, kept_most, live_next, onward_as, passes_none, passes_of_none, cost_none_below, cost_of_none}
 use Rattle.rd_partial.proofs.Filled.{filled}
@@ -25,6 +26,10 @@ use Rattle.rd_partial.proofs.walk.+build.Goals as goal
 
 abbrev inner : (Rectangle → Bool) → ℕ → Standing → BoxData → Option BoxKey → BoxForest → Bands Made
 inner wants n s b first boxes = passes wants n (standing.below s b) (from_some same_key first boxes)
+
+-- A box that makes no stacking context is not grouped.
+not_one : (low : Bool) (b : BoxData) → real b.style false ≡ false → is_one false low b ≡ false
+not_one low b h = ap (λ r. r && (nat_lt b.style.opacity 255 || blended b.style || (not false && low))) h
 
 pub aside-same-out : goal.aside-same-out
 aside-same-out g t c = refl
@@ -40,15 +45,15 @@ context-same-out g t c = refl
 
 pub float-returns-clause-list : goal.float-returns-clause-list
 float-returns-clause-list g t c =
-    float_arm (g.W.Wanted.wants c.args.wanted.now) c.args.number c.args.s.now c.args.b.now (inner (g.W.Wanted.wants c.args.wanted.now) c.args.number c.args.s.now c.args.b.now c.args.first c.args.tree.now.boxes) c.args.local.now c.args.layers.now c.aside.new.layers c.join.new.self (laid_out c.in_ok-order.order) c.requires.class c.requires.root c.in_ok-order.ensures.list c.in_ok-order.ensures.layers c.in_ok-join.ensures
+    float_arm (g.W.Wanted.wants c.args.wanted.now) c.args.number c.args.s.now c.args.b.now (inner (g.W.Wanted.wants c.args.wanted.now) c.args.number c.args.s.now c.args.b.now c.args.first c.args.tree.now.boxes) (is_one false (blends_from c.args.first c.args.tree.now) c.args.b.now) c.args.local.now c.args.layers.now c.aside.new.layers c.join.new.self (laid_out c.in_ok-order.order) c.requires.class c.requires.root c.in_ok-order.ensures.list c.in_ok-order.ensures.layers c.in_ok-join.ensures
 
 pub atom-returns-clause-list : goal.atom-returns-clause-list
 atom-returns-clause-list g t c =
-    atom_arm (g.W.Wanted.wants c.args.wanted.now) c.args.number c.args.s.now c.args.b.now (inner (g.W.Wanted.wants c.args.wanted.now) c.args.number c.args.s.now c.args.b.now c.args.first c.args.tree.now.boxes) c.args.local.now c.args.layers.now c.aside.new.layers c.join.new.self (laid_out c.in_ok-order.order) c.requires.class c.requires.root c.in_ok-order.ensures.list c.in_ok-order.ensures.layers c.in_ok-join.ensures
+    atom_arm (g.W.Wanted.wants c.args.wanted.now) c.args.number c.args.s.now c.args.b.now (inner (g.W.Wanted.wants c.args.wanted.now) c.args.number c.args.s.now c.args.b.now c.args.first c.args.tree.now.boxes) (is_one false (blends_from c.args.first c.args.tree.now) c.args.b.now) c.args.local.now c.args.layers.now c.aside.new.layers c.join.new.self (laid_out c.in_ok-order.order) c.requires.class c.requires.root c.in_ok-order.ensures.list c.in_ok-order.ensures.layers c.in_ok-join.ensures
 
 pub inline-returns-clause-list : goal.inline-returns-clause-list
 inline-returns-clause-list g t c =
-    inline_arm (g.W.Wanted.wants c.args.wanted.now) c.args.number c.args.s.now c.args.b.now (inner (g.W.Wanted.wants c.args.wanted.now) c.args.number c.args.s.now c.args.b.now c.args.first c.args.tree.now.boxes) c.args.local.now c.args.layers.now c.give_content.new.out c.give_outline.new.out (held c.those_below.new.local c.those_below.new.layers) c.requires.class
+    inline_arm (g.W.Wanted.wants c.args.wanted.now) c.args.number c.args.s.now c.args.b.now (inner (g.W.Wanted.wants c.args.wanted.now) c.args.number c.args.s.now c.args.b.now c.args.first c.args.tree.now.boxes) (is_one false (blends_from c.args.first c.args.tree.now) c.args.b.now) c.args.local.now c.args.layers.now c.give_content.new.out c.give_outline.new.out (held c.those_below.new.local c.those_below.new.layers) c.requires.class
     c.in_ok-those_below.ensures.list
     (over_known (laid_out c.give_content.new.out) (laid_out c.back_border.new.out) (gives (g.W.Wanted.wants c.args.wanted.now) c.args.number c.args.s.now c.args.b.now Content) (laid_out c.args.local.now.line ▷ ((gives (g.W.Wanted.wants c.args.wanted.now) c.args.number c.args.s.now c.args.b.now Back) ▷ (gives (g.W.Wanted.wants c.args.wanted.now) c.args.number c.args.s.now c.args.b.now Border))) c.in_ok-give_content.ensures.list c.in_ok-back_border.ensures.list)
     c.in_ok-give_outline.ensures.list
@@ -58,7 +63,7 @@ block-same-outer g t c = refl
 
 pub block-returns-in-None-clause-list : goal.block-returns-in-None-clause-list
 block-returns-in-None-clause-list g t c =
-    lone_arm (g.W.Wanted.wants c.args.wanted.now) c.args.number c.args.s.now c.args.b.now (inner (g.W.Wanted.wants c.args.wanted.now) c.args.number c.args.s.now c.args.b.now c.args.first c.args.tree.now.boxes) c.args.local.now c.args.layers.now c.block_itself.new.local c.requires.class (passes_of_none (g.W.Wanted.wants c.args.wanted.now) c.args.number (standing.below c.args.s.now c.args.b.now) c.args.first c.args.tree.now.boxes c.in-None.is)
+    lone_arm (g.W.Wanted.wants c.args.wanted.now) c.args.number c.args.s.now c.args.b.now (inner (g.W.Wanted.wants c.args.wanted.now) c.args.number c.args.s.now c.args.b.now c.args.first c.args.tree.now.boxes) (is_one false (blends_from c.args.first c.args.tree.now) c.args.b.now) c.args.local.now c.args.layers.now c.block_itself.new.local c.requires.class (passes_of_none (g.W.Wanted.wants c.args.wanted.now) c.args.number (standing.below c.args.s.now c.args.b.now) c.args.first c.args.tree.now.boxes c.in-None.is)
     c.in_ok-block_itself.ensures.floats c.in_ok-block_itself.ensures.backgrounds c.in_ok-block_itself.ensures.line c.in_ok-block_itself.ensures.contents c.in_ok-block_itself.ensures.outlines
 
 pub block-returns-in-None-clause-made : goal.block-returns-in-None-clause-made
@@ -67,7 +72,7 @@ block-returns-in-None-clause-made g t c =
 
 pub block-returns-clause-list : goal.block-returns-clause-list
 block-returns-clause-list g t c =
-    block_arm (g.W.Wanted.wants c.args.wanted.now) c.args.number c.args.s.now c.args.b.now (inner (g.W.Wanted.wants c.args.wanted.now) c.args.number c.args.s.now c.args.b.now c.args.first c.args.tree.now.boxes) c.args.local.now c.args.layers.now c.block_itself.new.local c.open_line-outer.new.local c.those_below.new.local c.close_line.new.local c.those_below.new.layers c.open_line-outer.result c.requires.class
+    block_arm (g.W.Wanted.wants c.args.wanted.now) c.args.number c.args.s.now c.args.b.now (inner (g.W.Wanted.wants c.args.wanted.now) c.args.number c.args.s.now c.args.b.now c.args.first c.args.tree.now.boxes) (is_one false (blends_from c.args.first c.args.tree.now) c.args.b.now) c.args.local.now c.args.layers.now c.block_itself.new.local c.open_line-outer.new.local c.those_below.new.local c.close_line.new.local c.those_below.new.layers c.open_line-outer.result c.requires.class
     c.in_ok-block_itself.ensures.floats c.in_ok-block_itself.ensures.backgrounds c.in_ok-block_itself.ensures.line c.in_ok-block_itself.ensures.contents c.in_ok-block_itself.ensures.outlines
     c.open_line-outer.ensures.outer c.open_line-outer.ensures.backgrounds c.open_line-outer.ensures.floats c.open_line-outer.ensures.line c.open_line-outer.ensures.contents c.open_line-outer.ensures.outlines
     c.in_ok-those_below.ensures.list
@@ -75,7 +80,8 @@ block-returns-clause-list g t c =
 
 pub auto_layer-returns-clause-list : goal.auto_layer-returns-clause-list
 auto_layer-returns-clause-list g t c =
-    auto_arm (g.W.Wanted.wants c.args.wanted.now) c.args.number c.args.s.now c.args.b.now (inner (g.W.Wanted.wants c.args.wanted.now) c.args.number c.args.s.now c.args.b.now c.args.first c.args.tree.now.boxes) c.args.local.now c.args.layers.now c.aside.new.layers c.replace-outer.new.dest c.join-2.new.self (laid_out c.in_ok-order.order) c.requires.class c.requires.unreal c.requires.root c.in_ok-order.ensures.list c.in_ok-order.ensures.layers
+    auto_arm (g.W.Wanted.wants c.args.wanted.now) c.args.number c.args.s.now c.args.b.now (inner (g.W.Wanted.wants c.args.wanted.now) c.args.number c.args.s.now c.args.b.now c.args.first c.args.tree.now.boxes) (is_one false (blends_from c.args.first c.args.tree.now) c.args.b.now) c.args.local.now c.args.layers.now c.aside.new.layers c.replace-outer.new.dest c.join-2.new.self (laid_out c.in_ok-order.order) c.requires.class c.requires.unreal
+    (not_one (blends_from c.args.first c.args.tree.now) c.args.b.now c.requires.unreal) c.requires.root c.in_ok-order.ensures.list c.in_ok-order.ensures.layers
     (ap laid_out c.replace-outer.ensures.after ∙ c.empty.ensures)
     (two_joined c.join-2.new.self c.join.new.self c.replace-inner.new.dest c.args.layers.now.zeros c.in_ok-order.order c.in_ok-order.order c.replace-inner.result c.aside.new.layers.zeros c.in_ok-join-2.ensures c.in_ok-join.ensures (c.replace-inner.ensures.after ∙ c.replace-outer.ensures.value) refl c.replace-inner.ensures.value)
 
@@ -85,7 +91,8 @@ real_layer-as_group-requires g t c =
 
 pub real_layer-returns-clause-list : goal.real_layer-returns-clause-list
 real_layer-returns-clause-list g t c =
-    real_arm (g.W.Wanted.wants c.args.wanted.now) c.args.number c.args.s.now c.args.b.now (inner (g.W.Wanted.wants c.args.wanted.now) c.args.number c.args.s.now c.args.b.now c.args.first c.args.tree.now.boxes) c.args.local.now c.args.layers.now c.stack.new.layers (level_in c.args.b.now) (laid_out c.in_ok-order.order) (laid_out c.in_ok-order-2.order) c.requires.class c.requires.real c.requires.root c.in_ok-order.ensures.list c.in_ok-order-2.ensures refl c.in_ok-stack.ensures
+    real_arm (g.W.Wanted.wants c.args.wanted.now) c.args.number c.args.s.now c.args.b.now (inner (g.W.Wanted.wants c.args.wanted.now) c.args.number c.args.s.now c.args.b.now c.args.first c.args.tree.now.boxes) (is_one false (blends_from c.args.first c.args.tree.now) c.args.b.now) c.args.local.now c.args.layers.now c.stack.new.layers (level_in c.args.b.now) (laid_out c.in_ok-order.order) (laid_out c.in_ok-order-2.order) c.requires.class c.requires.real c.requires.root c.in_ok-order.ensures.list
+    (c.in_ok-order-2.ensures ∙ ap (λ low. as_group (is_one false low c.args.b.now) c.args.b.now (laid_out c.in_ok-order.order)) c.requires.low) refl c.in_ok-stack.ensures
 
 pub context-returns-clause-list : goal.context-returns-clause-list
 context-returns-clause-list g t c =

@@ -4,7 +4,7 @@ use Rattle.rd_list.specs.Entries.{◌▷◌}
 use Rattle.rd_list.specs.Nested.{laid_out}
 use Rattle.rd_keys.specs.Keys.{same_key}
 use Rattle.rd_tree.specs.Forest.{from_some}
-use Rattle.rd_partial.specs.Internal.Pass.{as_group}
+use Rattle.rd_partial.specs.Internal.Pass.{is_one, as_group}
 use Rattle.rd_partial.proofs.Kids.{onward_as}
 use Rattle.rd_partial.proofs.Top.{list_of, count_of, looks_of}
 use Rattle.rd_partial.specs.Internal.Standing.{at_root}
@@ -17,7 +17,7 @@ as_group-requires g c =
 
 pub returns-clause-list : goal.returns-clause-list
 returns-clause-list g c =
-    c.in_ok-lay_out.ensures ∙ ap (λ z. z ▷ laid_out c.in_ok-order-2.order) c.empty-list.ensures ∙ c.in_ok-order-2.ensures ∙ ap (as_group true c.here-here.result) c.in_ok-order.ensures.list ∙ list_of (g.W.Wanted.wants c.args.wanted.now) c.args.number c.args.tree.now c.root.ensures.rooted c.root.ensures.apart c.root.result c.root.ensures.root c.at_root-s.result (c.at_root-s.ensures ∙ ap (λ z. at_root (canvas_of z)) c.canvas.ensures.size) c.here-here.result c.in-Some.looked.first_child c.in-Some.looked.next_sibling c.in-Some.looked.hull (onward_as c.here-here.ensures c.in-Some.ensures.told)
+    c.in_ok-lay_out.ensures ∙ ap (λ z. z ▷ laid_out c.in_ok-order-2.order) c.empty-list.ensures ∙ c.in_ok-order-2.ensures ∙ ap (as_group (is_one true c.in-Some.looked.blend_below c.here-here.result) c.here-here.result) c.in_ok-order.ensures.list ∙ list_of (g.W.Wanted.wants c.args.wanted.now) c.args.number c.args.tree.now c.root.ensures.rooted c.root.ensures.apart c.root.result c.root.ensures.root c.at_root-s.result (c.at_root-s.ensures ∙ ap (λ z. at_root (canvas_of z)) c.canvas.ensures.size) c.here-here.result c.in-Some.looked.first_child c.in-Some.looked.next_sibling c.in-Some.looked.hull (onward_as c.here-here.ensures c.in-Some.ensures.told)
 
 pub returns-clause-made : goal.returns-clause-made
 returns-clause-made g c =
