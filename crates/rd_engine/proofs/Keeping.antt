@@ -1,7 +1,9 @@
 -- An engine stays one through edits, and shows what its tree shows.
 use Rattle.std.proofs.Common.{◌≡◌, refl, ap, ◌∙◌, sym, subst, ℕ, zero, suc, ◌<◌, ℤ, pos, negsuc, Bool, true, false, cond, ◌&&◌, [], arith}
-use Rattle.std.specs.Prelude.{Option, Some, None, nat_lt}
+use Rattle.std.specs.Prelude.{Option, Some, None, IfSome, is_some, nat_lt}
+use Rattle.std.proofs.lemmas.Bool.{lt-ltb}
 use Rattle.std.proofs.lemmas.Int.{ints}
+use Rattle.rd_geom.specs.Areas.{Region}
 use Rattle.rd_geom.specs.Plane.{holds_pixel}
 use Rattle.rd_geom.specs.Canvas.{canvas_of}
 use Rattle.rd_geom.specs.declared.rect.Size.{Size}
@@ -29,7 +31,7 @@ use Rattle.rd_stack.proofs.Promises.{stands_for_itself}
 use Rattle.rd_stack.proofs.Locality.{locality}
 use Rattle.rd_paint.specs.Pictures.{Picture, size_of, pixel_at}
 use Rattle.rd_engine.specs.Accepted.{IsWellMade}
-use Rattle.rd_engine.specs.State.{EngineState, IsEngine}
+use Rattle.rd_engine.specs.State.{EngineState, IsEngine, IsLast}
 use Rattle.rd_engine.specs.Painted.{opaque, shown_at, IsAllTouched}
 use Rattle.rd_engine.proofs.Kept.{editing}
 use Rattle.rd_engine.proofs.Nothing.{nothing_kept}
@@ -53,6 +55,7 @@ edited_engine e s t is made accepted did =
       size = is.size ∙ sym same;
       first = λ z. (refl, (is.first z).1);
       shows = is.shows;
+      last = is.last;
       stands = λ h. absurd (let no : true ≡ false = h in cc);
       few = is.few;
       shallow = is.shallow;
@@ -61,15 +64,16 @@ edited_engine e s t is made accepted did =
 
 -- before the first paint
 pub begun_engine : (t : Document) (c : Picture) (k : KeptList EntryKey Wrapper Made) → IsAllTouched t → k ≡ record { graph = []; entries = nil } → size_of c ≡ t.canvas
-    → IsEngine (record { tree = t; kept = k; canvas = c; pending = true; paints = 0 })
+    → IsEngine (record { tree = t; kept = k; canvas = c; pending = true; paints = 0; area = None })
 begun_engine t c k touched is size =
-    subst (λ (z : KeptList EntryKey Wrapper Made). IsEngine (record { tree = t; kept = z; canvas = c; pending = true; paints = 0 })) (sym is)
+    subst (λ (z : KeptList EntryKey Wrapper Made). IsEngine (record { tree = t; kept = z; canvas = c; pending = true; paints = 0; area = None })) (sym is)
     (record {
       ready = nothing_kept t touched;
       seen = λ l h. absurd (omega (arith, h.1));
       size = size;
       first = λ _. (refl, refl);
       shows = λ h. absurd (omega (arith, h));
+      last = refl;
       stands = λ h. absurd (let no : true ≡ false = h in cc);
       few = omega arith;
       shallow = omega arith;
@@ -121,3 +125,12 @@ module _ (s : EngineState) (is : IsEngine s) (apart : IsApart same_key s.tree.bo
 
   pub shown_none : pixel_at s.canvas x y ≡ None → None ≡ shown_at s.tree x y
   shown_none h = by (holds_pixel (canvas_of s.tree.canvas) x y) refl None h
+
+-- the area of the last paint
+pub last_some : (c : Picture) (n : ℕ) (o : Option Region) → IsLast c n o → is_some o ≡ nat_lt 0 n
+last_some c n None h = rw h refl
+last_some c n (Some a) h = sym (lt-ltb 0 n h.0)
+
+pub last_size : (c : Picture) (n : ℕ) (o : Option Region) → IsLast c n o → IfSome o (λ a. a.size ≡ size_of c)
+last_size c n None h = tt
+last_size c n (Some a) h = h.1

@@ -96,7 +96,7 @@ module _ {A : Type 0} where
   count_front es zero = omega arith
   count_front [] (suc i) = omega arith
   count_front (Leaf m ∷ es) (suc i) = let r = count_front es i in omega (arith, r)
-  count_front (Group k o inner ∷ es) (suc i) =
+  count_front (Group k o b inner ∷ es) (suc i) =
       let r = count_front es i in
       let a = length-append (flat inner) (flat (new_entries (take i es))) in
       let b = length-append (flat inner) (flat (new_entries es)) in

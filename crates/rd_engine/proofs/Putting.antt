@@ -39,7 +39,7 @@ use Rattle.rd_paint.specs.Repainted.{IsRepainted}
 use Rattle.rd_engine.specs.Kept.{IsPainted, stays}
 use Rattle.rd_engine.specs.State.{EngineState, IsEngine}
 use Rattle.rd_engine.specs.Invalid.{invalid_area}
-use Rattle.rd_engine.specs.Painted.{remade, untouched, IsNoted, AreNumbered}
+use Rattle.rd_engine.specs.Painted.{remade, untouched, IsNoted, AreNumbered, IsAreaPainted}
 use Rattle.rd_engine.specs.Internal.Parts.{IsPrepared}
 use Rattle.rd_engine.specs.declared.prepared.Prepared.{Prepared}
 use Rattle.rd_engine.proofs.Kept.{painting}
@@ -166,15 +166,27 @@ module _ {A : Type 0} (s : EngineState) (e : IsEngine s) (p : Prepared A) (prep 
     same_size : size_of c ≡ s.tree.canvas
     same_size = ap (λ n. record { w = pos n; h = pos c.height }) re.width ∙ ap (λ n. record { w = pos s.canvas.width; h = pos n }) re.height ∙ e.size
 
-    pub put_engine : IsEngine (record { tree = untouched s.tree; kept = j; canvas = c; pending = false; paints = s.paints + 1 })
+    pub put_engine : IsEngine (record { tree = untouched s.tree; kept = j; canvas = c; pending = false; paints = s.paints + 1; area = Some p.area })
     put_engine = record {
       ready = painted.kept;
       seen = λ l h. All-contains (IsOnCanvas (canvas_of s.tree.canvas)) (flat fresh) l (shows_on_canvas s.tree apart) (same_leaves (kept_leaves j.entries) fresh stands l h);
       size = same_size;
       first = λ z. absurd (omega (arith, z));
       shows = λ _. shows;
+      last = (omega arith, prep.area.size ∙ sym same_size);
       stands = λ _. subst (λ (f : Entries Wrapper Leaf). StandsFor (kept_leaves j.entries) f) (sym (settled_list s.tree)) stands;
       few = few_kept;
       shallow = deep;
       groups = groups;
+    }
+
+    pub area_painted : (t : EngineState) → t.kept ≡ j → t.canvas ≡ c → t.area ≡ Some p.area → IsAreaPainted s t
+    area_painted t k d a = record {
+      area = p.area;
+      last = a;
+      size = prep.area.size;
+      pixels = prep.area.pixels;
+      painted =
+          subst (λ (z : KeptList EntryKey Wrapper Made). IsRepainted (kept_leaves z.entries) p.area s.canvas t.canvas) (sym k)
+          (subst (λ (z : Picture). IsRepainted (kept_leaves j.entries) p.area s.canvas z) (sym d) re);
     }

@@ -13,8 +13,8 @@ use Rattle.rd_tree.specs.Forest.{empty, tree, height}
 use Rattle.rd_tree.specs.Document.{BoxForest, Document}
 use Rattle.rd_stack.specs.Paths.{BoxData, BoxPath, is_root, is_context, is_local, is_layer, is_in_line}
 use Rattle.rd_stack.specs.Parts.{leaf_at}
-use Rattle.rd_stack.specs.Painting.{Painted, by_level, insert_by_level, is_lower, entry_of, is_grouped, wrapper_of, paint_if, paint, back_border, inline_part, content_and_line, steps, layers_of, line_of, is_negative, is_positive, is_zero, is_blocky}
-use Rattle.rd_stack.specs.Fresh.{box_data, painted, root_order, fresh_list}
+use Rattle.rd_stack.specs.Painting.{Painted, by_level, insert_by_level, is_lower, entry_of, wrapper_of, paint_if, paint, back_border, inline_part, content_and_line, steps, layers_of, line_of, is_negative, is_positive, is_zero, is_blocky}
+use Rattle.rd_stack.specs.Fresh.{box_data, grouping, painted, painted_at, root_order, fresh_list}
 use Rattle.rd_engine.proofs.Larger.{larger_within, left_within, right_within, deeper_within}
 
 -- A list has at most so many levels.
@@ -56,7 +56,7 @@ single n (Some l) = record { within = omega arith }
 -- a group adds one
 entry : (n : ℕ) (x : Painted) → IsShallow n x.order → IsShallow (n + 1) (entry_of x)
 entry n x h =
-    choice (n + 1) (is_grouped x.at && has_leaf (flat x.order)) (group (wrapper_of x.at) x.order nil) x.order
+    choice (n + 1) (x.grouped && has_leaf (flat x.order)) (group (wrapper_of x.at) x.order nil) x.order
     (record { within = larger_within (deeper (levels x.order)) 0 (n + 1) (deeper_within (levels x.order) n h.within) (omega arith) })
     (more n (n + 1) x.order (omega arith) h)
 
@@ -141,25 +141,25 @@ module _ (canvas : Rectangle) where
       (join m _ _ (part n Outline e)
       (kind n (λ x. paint canvas Outline x.at) local _ (λ x k. part n Outline x.at) below h))))))))))
 
-  in_painted : (above : List BoxData) (f : BoxForest) → EachOrder (height f) (painted canvas above f)
+  in_painted : (above : List BoxData) (f : BoxForest) → EachOrder (height f) (painted grouping canvas above f)
   in_painted above empty = tt
   in_painted above (tree k d below rest) =
       let e : BoxPath = record { above = above; here = box_data k d } in
-      let inner = painted canvas (box_data k d ∷ above) below in
-      let next = painted canvas above rest in
+      let inner = painted grouping canvas (box_data k d ∷ above) below in
+      let next = painted grouping canvas above rest in
       let h = in_painted (box_data k d ∷ above) below in
       let m = max (1 + height below) (height rest) in (
         more (height below + 1) m (steps canvas e inner) (omega arith) (in_steps (height below) e inner h),
         each_append m inner next (each_more (height below) m inner (omega arith) h) (each_more (height rest) m next (omega arith) (in_painted above rest)),
       )
 
-  in_order : (f : BoxForest) → IsShallow (height f + 1) (root_order canvas f)
+  in_order : (f : BoxForest) → IsShallow (height f + 1) (root_order grouping canvas f)
   in_order empty = none 1
   in_order (tree k d below rest) =
       let e : BoxPath = record { above = []; here = box_data k d } in
-      let inner = painted canvas (box_data k d ∷ []) below in
+      let inner = painted grouping canvas (box_data k d ∷ []) below in
       let order = in_steps (height below) e inner (in_painted (box_data k d ∷ []) below) in
-      more (height below + 1 + 1) (height (tree k d below rest) + 1) _ (omega arith) (entry (height below + 1) (record { at = e; order = steps canvas e inner }) order)
+      more (height below + 1 + 1) (height (tree k d below rest) + 1) _ (omega arith) (entry (height below + 1) (painted_at grouping canvas e inner) order)
 
 -- A fresh list has at most one level more than its tree.
 pub shallow : (t : Document) → levels (fresh_list t) ≤ height t.boxes + 1

@@ -2,7 +2,7 @@
 use Rattle.std.specs.Prelude.{◌≡◌, ℕ, ℤ, ◌+◌, ◌*◌, true, false, if◌then◌else◌, Option, Some, None, Contains, length, replicate}
 use Rattle.rd_geom.specs.Plane.{holds_pixel}
 use Rattle.rd_geom.specs.Canvas.{canvas_of}
-use Rattle.rd_geom.specs.Areas.{meets_area, count_of}
+use Rattle.rd_geom.specs.Areas.{Region, in_area, meets_area, count_of}
 use Rattle.rd_geom.specs.Colors.{Premultiplied, white}
 use Rattle.rd_geom.specs.declared.color.Color.{Color}
 use Rattle.rd_item.specs.declared.leaf.Leaf.{Leaf}
@@ -11,7 +11,7 @@ use Rattle.rd_list.specs.Wrappers.{Wrapper}
 use Rattle.rd_list.specs.Entries.{Entries, nil, flat}
 use Rattle.rd_list.specs.Lists.{meeting, pixel}
 use Rattle.rd_list.specs.Kept.{IsMerged}
-use Rattle.rd_list.specs.EntryNames.{entry_names, made_leaf}
+use Rattle.rd_list.specs.EntryNames.{entry_names, kept_leaves, made_leaf}
 use Rattle.rd_tree.specs.Forest.{map_where}
 use Rattle.rd_tree.specs.Touching.{settled}
 use Rattle.rd_tree.specs.Document.{Document, is_touched}
@@ -19,6 +19,7 @@ use Rattle.rd_stack.specs.Fresh.{fresh_list}
 use Rattle.rd_partial.specs.Looks.{is_visited, looks_bound}
 use Rattle.rd_partial.specs.Numbered.{numbered}
 use Rattle.rd_paint.specs.Pictures.{size_of}
+use Rattle.rd_paint.specs.Repainted.{IsRepainted}
 use Rattle.rd_engine.specs.Kept.{stays}
 use Rattle.rd_engine.specs.State.{EngineState}
 use Rattle.rd_engine.specs.Invalid.{invalid_area}
@@ -36,6 +37,7 @@ pub record IsBegun (t : Document) (s : EngineState) : Type 0 where
   pub canvas : s.canvas.pixels ≡ replicate (s.canvas.height * s.canvas.width) white
   pub pending : s.pending ≡ true
   pub paints : s.paints ≡ 0
+  pub area : s.area ≡ None
 
 -- an opaque colour
 abbrev pub opaque : Premultiplied → Color
@@ -88,3 +90,11 @@ most_looks s = 2 * half_looks s
 -- the pixel of a tree in column x and row y; none off its canvas
 abbrev pub shown_at : Document → ℤ → ℤ → Option Color
 shown_at t x y = if holds_pixel (canvas_of t.canvas) x y then Some (opaque (pixel (fresh_list t) x y)) else None
+
+-- the area of a paint has the pixels of the invalid area; those of the canvas became the list's, and no other pixel changed
+pub record IsAreaPainted (old new : EngineState) : Type 0 where
+  pub area : Region
+  pub last : new.area ≡ Some area
+  pub size : area.size ≡ old.tree.canvas
+  pub pixels : (x y : ℤ) → in_area area x y ≡ in_area (invalid_area old) x y
+  pub painted : IsRepainted (kept_leaves new.kept.entries) area old.canvas new.canvas

@@ -1,13 +1,14 @@
 //! The engine.
-ghost use Rattle.std.specs.Prelude.{◌≡◌, ◌≤◌, ◌<◌, ◌+◌, false, true, IfOk, IfErr, OnOk, OnErr, None, length};
+ghost use Rattle.std.specs.Prelude.{◌≡◌, ◌≤◌, ◌<◌, ◌+◌, false, true, IfOk, IfErr, OnOk, OnErr, IfSome, None, is_some, nat_lt, option_copied, length};
 ghost use Rattle.rd_list.specs.Entries.{flat};
 ghost use Rattle.rd_list.specs.EntryNames.{kept_leaves};
 ghost use Rattle.rd_list.specs.Lists as lists;
+ghost use Rattle.rd_paint.specs.Pictures.{size_of};
 ghost use Rattle.rd_stack.specs.Fresh.{fresh_list};
 ghost use Rattle.rd_edits.specs.Edited.{IsEdited};
 ghost use Rattle.rd_edits.specs.Refusals.{IsRefused, refusal_of};
 ghost use Rattle.rd_engine.specs.State.{IsEngine, ShowsKept};
-ghost use Rattle.rd_engine.specs.Painted.{IsAllTouched, IsBegun, IsSettled, IsJoinedBy, IsNoted, AreNumbered};
+ghost use Rattle.rd_engine.specs.Painted.{IsAllTouched, IsBegun, IsSettled, IsJoinedBy, IsNoted, AreNumbered, IsAreaPainted};
 ghost use Rattle.rd_engine.specs.Painted.{remade, half_looks, most_looks, shown_at};
 ghost use Rattle.rd_engine.specs.Internal.Parts.{IsInvalidArea, IsRemade, IsPlanned, IsPrepared};
 
@@ -43,15 +44,19 @@ pub struct Engine<A: Ledger, B: Ledger> {
     canvas: Canvas,
     pending: bool,
     paints: u64,
+
+    /// What the last paint painted anew.
+    area: Option<Area>,
 }
 
 impl<A: Ledger, B: Ledger> Model for Engine<A, B> {
     ghost use Rattle.rd_engine.specs.State.{EngineState, IsEngine};
-    ghost use Rattle.rd_engine.specs.Internal.StateCode.{engine_code};
+    ghost use Rattle.rd_engine.specs.Internal.StateCode.{engine_code, region_code};
     ghost use Rattle.rd_tree.specs.Internal.Coding.{document_code};
     ghost use Rattle.rd_list.specs.Internal.KeptCode.{kept_code, made_code};
     ghost use Rattle.rd_list.specs.Wrappers.{wrapper_code};
     ghost use Rattle.rd_geom.specs.contracts.rect.Size as canvas_size;
+    ghost use Rattle.rd_geom.specs.contracts.span.Span as span;
     ghost use Rattle.rd_geom.specs.contracts.color.Px as px;
     ghost use Rattle.rd_keys.specs.contracts.key.Key as key;
     ghost use Rattle.rd_keys.specs.contracts.entry.BoxMark as mark;
@@ -64,7 +69,7 @@ impl<A: Ledger, B: Ledger> Model for Engine<A, B> {
     ghost coded = { engine_code
         (document_code canvas_size.the_row.coded (key.the_row mark.the_row).coded item.the_row.coded)
         (kept_code order.the_row.coded (wrapper_code (key.the_row mark.the_row).coded) (made_code leaf.the_row.coded))
-        px.the_row.coded };
+        px.the_row.coded (region_code canvas_size.the_row.coded span.the_row.coded) };
 
     ghost view = { λ e. record {
       tree = e.tree;
@@ -72,6 +77,7 @@ impl<A: Ledger, B: Ledger> Model for Engine<A, B> {
       canvas = e.canvas;
       pending = e.pending;
       paints = e.paints;
+      area = e.area;
     } };
 
     ghost invariant = { λ e. IsEngine (record {
@@ -80,6 +86,7 @@ impl<A: Ledger, B: Ledger> Model for Engine<A, B> {
       canvas = e.canvas;
       pending = e.pending;
       paints = e.paints;
+      area = e.area;
     }) };
 }
 
@@ -112,6 +119,7 @@ impl<A: Ledger, B: Ledger> Engine<A, B> {
             canvas,
             pending: true,
             paints: 0,
+            area: None,
         })
     }
 
@@ -167,6 +175,15 @@ impl<A: Ledger, B: Ledger> Engine<A, B> {
         self.list.view()
     }
 
+    /// The pixels that the last paint painted anew, lent; None exactly before the first paint.
+    pub fn last_area(&self) -> Option<&Area>
+        ensures value { option_copied result ≡ self.now.area }
+        ensures some { is_some result ≡ nat_lt 0 self.now.paints }
+        ensures size { IfSome self.now.area (λ a. a.size ≡ size_of self.now.canvas) }
+    {
+        self.area.as_ref()
+    }
+
     /// The box of the topmost leaf that is hit in column `x` and row `y`, for the tree as it is. No paint is pending.
     pub fn hit(&self, x: i32, y: i32) -> Option<BoxKey>
         requires { self.now.pending ≡ false }
@@ -203,6 +220,7 @@ impl<A: Ledger, B: Ledger> Engine<A, B> {
         ensures settled { OnOk result (IsSettled self.old self.new) }
         ensures note { IfOk result (IsNoted self.old) }
         ensures numbers { OnOk result (AreNumbered self.old self.new) }
+        ensures area { OnOk result (IsAreaPainted self.old self.new) }
         ensures made { IfOk result (λ note. made.new ≡ made.old + note.built) }
         ensures most { made.new ≤ made.old + length (flat (remade self.old)) }
         ensures looks { looks.new ≤ looks.old + most_looks self.old }
@@ -296,6 +314,7 @@ impl<A: Ledger, B: Ledger> Engine<A, B> {
         ensures settled { IsSettled self.old self.new }
         ensures note { IsNoted self.old result }
         ensures numbers { AreNumbered self.old self.new }
+        ensures area { IsAreaPainted self.old self.new }
     {
         let Prepared {
             area,
@@ -314,11 +333,13 @@ impl<A: Ledger, B: Ledger> Engine<A, B> {
         self.pending = false;
         self.paints += 1;
         let leaves = self.list.view().leaves();
+        let pixels = area.count();
+        self.area = Some(area);
         PaintNote {
             number: self.paints,
             built,
             kept: leaves - built,
-            area: area.count(),
+            area: pixels,
         }
     }
 }

@@ -94,8 +94,9 @@ fn is_painted_once<A: Ledger, B: Ledger>(engine: &Engine<A, B>) -> bool {
         canvas: _,
         pending,
         paints,
+        area,
     } = engine;
-    !*pending && *paints == 1
+    !*pending && *paints == 1 && area.is_some()
 }
 
 /// Two boxes that overlap and one apart from them; the lower of the two gets another colour.
@@ -119,6 +120,7 @@ fn painted_twice<A: Ledger, B: Ledger>(
     let b = insertion(alloc, "b", rect(rt, 3, 3, 4, 4), GREEN)?;
     let c = insertion(alloc, "c", rect(rt, 8, 8, 2, 2), BLUE)?;
     assert!(rt; engine.edit(&a).is_ok() && engine.edit(&b).is_ok() && engine.edit(&c).is_ok());
+    assert!(rt; engine.last_area().is_none());
     let first = repainted(rt, &mut engine, &mut made, &mut looks)?;
     assert!(rt;
         first
@@ -148,6 +150,7 @@ fn painted_twice<A: Ledger, B: Ledger>(
             }
     );
     assert!(rt; !engine.pending());
+    assert!(rt; engine.last_area().map_or(0, |area| area.count()) == 16);
     let over = engine.tree().find(&Id::new(alloc, "b")?);
     assert!(rt; over.is_some() && engine.hit(4, 4) == over && engine.hit(10, 4).is_none());
     assert!(rt; engine.pixel(4, 4) == Some(GREEN) && engine.pixel(2, 2) == Some(BLUE));

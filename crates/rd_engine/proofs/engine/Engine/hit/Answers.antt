@@ -9,7 +9,7 @@ use Rattle.rd_engine.proofs.engine.Engine.hit.Goals as goal
 
 pub returns : goal.returns
 returns g c =
-    let s : EngineState = record { tree = c.self.inside.tree; kept = c.self.inside.list; canvas = c.self.inside.canvas; pending = c.self.inside.pending; paints = c.self.inside.paints } in
+    let s : EngineState = record { tree = c.self.inside.tree; kept = c.self.inside.list; canvas = c.self.inside.canvas; pending = c.self.inside.pending; paints = c.self.inside.paints; area = c.self.inside.area } in
     let now = rw (← c.self.view_is) at c.requires in
     let x : ℤ = to_z w32 (of_z w32 c.args.x) in
     let y : ℤ = to_z w32 (of_z w32 c.args.y) in
