@@ -4,3 +4,4 @@ pub mod Depths
 pub mod Growth
 pub mod Fitting
 pub mod FittingEdits
+pub mod Unblended

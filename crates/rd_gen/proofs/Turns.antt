@@ -44,6 +44,6 @@ edit_unpainted number j s before after s1 e t so_far last other is =
 -- the script of these boxes and commands
 pub script_of_parts : (number edits s : ℕ) (made : List SceneBox) (s1 : ℕ) (done all : List Command) (s2 : ℕ)
     → boxes number s ≡ (made, s1) → commands number edits s1 ≡ (done, s2) → all ≡ done ++ Paint ∷ []
-    → record { canvas = canvas; boxes = made; commands = all } ≡ (script number edits s).0
+    → record { version = 1; canvas = canvas; boxes = made; commands = all } ≡ (script number edits s).0
 unfolding script
 script_of_parts number edits s made s1 done all s2 first second is = rw (first, second, is) refl

@@ -6,12 +6,12 @@ use Rattle.rd_gen.specs.Draws.{Drawing, give, ◌>>=◌}
 use Rattle.rd_gen.specs.Boxes.{canvas, boxes}
 use Rattle.rd_gen.specs.Commands.{commands}
 
--- so many boxes; a paint, so many edits and a paint
+-- version 1; so many boxes; a paint, so many edits and a paint
 unfoldable pub script : ℕ → ℕ → Drawing Script
 script number edits = do
   made ← boxes number
   done ← commands number edits
-  give (record { canvas = canvas; boxes = made; commands = done ++ (Paint ∷ []) })
+  give (record { version = 1; canvas = canvas; boxes = made; commands = done ++ (Paint ∷ []) })
 
 -- the script that the draws from this seed give, of so many boxes and edits
 abbrev pub generated_script : ℕ → ℕ → ℕ → Script

@@ -39,7 +39,7 @@ fn commands(
     Ok(commands)
 }
 
-/// The script that the draws from the seed give: a canvas of 256 by 256, so many boxes `b0`, `b1` and so on of which `b0` is
+/// The script of version 1 that the draws from the seed give: a canvas of 256 by 256, so many boxes `b0`, `b1` and so on of which `b0` is
 /// the root, and so many edits with paints among them.
 pub fn script(alloc: Global, seed: u64, boxes: u32, edits: u32) -> Result<Script, NoMemory>
     requires some { 1 ≤ boxes }
@@ -53,6 +53,7 @@ pub fn script(alloc: Global, seed: u64, boxes: u32, edits: u32) -> Result<Script
     let mut done = commands(alloc, &mut draw, boxes, edits)?;
     done.push(Command::Paint)?;
     Ok(Script {
+        version: 1,
         canvas: Size { w: 256, h: 256 },
         boxes: made,
         commands: done,

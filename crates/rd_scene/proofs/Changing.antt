@@ -7,11 +7,10 @@ use Rattle.rd_tree.specs.declared.node.Item.{Item}
 use Rattle.rd_tree.specs.Document.{Document, BoxForest, Slot, slot_of, with_left, with_all_left, with_taken, with_child, IsNext, IsKeyed, contains}
 use Rattle.rd_tree.specs.Forest.{empty, tree, keys, has, children, insert_among, insert_before, without_branch, branch, map_where, in_subtree}
 use Rattle.rd_tree.specs.Changes.{Change, insertion, removal, moving, styling, placing, shifting, after, restyle, with_rect, shift_item}
-use Rattle.rd_tree.specs.Touching.{edited, touch, touched_by}
+use Rattle.rd_tree.specs.Touching.{edited, touch}
 use Rattle.rd_tree.proofs.Linking.Standing.{cases, either, from_left, from_right, has-join, out_of_children}
 use Rattle.rd_tree.proofs.Forests.Under.{out_of_under}
 use Rattle.rd_tree.proofs.Forests.Without.{out_of_without, in_without, stays_out, apart_without}
-use Rattle.rd_tree.proofs.Nodes.Each.{apart_each, has-each}
 use Rattle.rd_tree.proofs.Changing.NextKeys.{next-absent}
 use Rattle.rd_tree.specs.Document.{named}
 use Rattle.rd_edits.specs.declared.edit.Edit.{Edit}
@@ -23,7 +22,7 @@ use Rattle.rd_edits.specs.Refusals.{refusal_of, is_unknown}
 use Rattle.std.specs.Prelude.{is_none}
 use Rattle.rd_scene.specs.Internal.WellFormed.{IsWellFormed}
 use Rattle.rd_scene.proofs.Apart.{child_apart, elsewhere_apart, out_of_branch}
-use Rattle.rd_scene.proofs.Keyed.{own_slot, other_slot, held}
+use Rattle.rd_scene.proofs.Keyed.{own_slot, other_slot, held, each_well}
 
 -- what is there, where its want would be a want of the other
 forced : (b c : Bool) → (b ≡ false → c ≡ false) → c ≡ true → b ≡ true
@@ -121,12 +120,6 @@ removed_keyed k t w = λ j m.
 
 -- ---- changes
 
-pub each_well : (q : BoxKey → Bool) (g : Item → Item) (t : Document) → IsWellFormed t → IsWellFormed (record t { boxes = map_where q g t.boxes })
-each_well q g t w = record {
-  apart = apart_each q g same_key t.boxes w.apart;
-  keyed = λ j m. w.keyed j (sym (has-each q g same_key j t.boxes) ∙ m);
-}
-
 -- What a change asks of the tree: a new box has the next key of a slot.
 abbrev pub IsPossible : Change → Document → Type 0
 IsPossible (insertion p before k d) t = IsNext t k
@@ -164,7 +157,7 @@ after_well (placing k r) t n w = each_well (λ j. same_key j k) (with_rect r) t 
 after_well (shifting k dx dy) t n w = each_well (λ j. in_subtree same_key j k t.boxes) (shift_item dx dy) t w
 
 pub edited_well : (c : Change) (t : Document) → IsPossible c t → IsWellFormed t → IsWellFormed (edited c t)
-edited_well c t n w = each_well (touched_by c t) touch (after c t) (after_well c t n w)
+edited_well c t n w = each_well _ touch (after c t) (after_well c t n w)
 
 -- ---- edits
 

@@ -7,11 +7,14 @@ use Rattle.rd_keys.specs.Keys.{BoxKey, same_key}
 use Rattle.rd_keys.proofs.Keys.{same_key-sound}
 use Rattle.rd_tree.specs.declared.node.Item.{Item}
 use Rattle.rd_tree.specs.Document.{Document, BoxForest, Slot, slot_of, with_taken, IsNext, IsNextOf, IsKeyed, contains}
-use Rattle.rd_tree.specs.Forest.{has, IsApart}
-use Rattle.rd_tree.specs.Touching.{touch}
+use Rattle.rd_tree.specs.Forest.{has, map_where, IsApart}
+use Rattle.rd_tree.specs.Changes.{Change, insertion, after}
+use Rattle.rd_tree.specs.Touching.{touch, reached_by, regrouped_by, with_marks}
 use Rattle.rd_tree.proofs.Forests.Under.{which}
 use Rattle.rd_tree.proofs.Changing.NextKeys.{next-absent}
-use Rattle.rd_tree.proofs.Changing.Effects.{edited-insertion}
+use Rattle.rd_tree.proofs.Changing.Effects.{reached-insertion}
+use Rattle.rd_tree.proofs.Contexts.Marks.{marks_then}
+use Rattle.rd_tree.proofs.Nodes.Each.{apart_each, has-each}
 use Rattle.rd_scene.specs.Internal.WellFormed.{IsWellFormed}
 use Rattle.rd_scene.specs.declared.script.SceneBox.{SceneBox}
 use Rattle.rd_scene.specs.Planting.{IsAlone, Adds, AddsAll, Grows, Plants, item_of}
@@ -56,14 +59,27 @@ keyed_grown old p k d keyed next m = λ j h.
           subst (λ (i : BoxKey). (i.slot < length (with_taken old.slots k)) × (slot_of (with_taken old.slots k) i ≡ held i)) e (own_slot old.slots k next)
     ]
 
--- the tree with a box more
+-- which boxes are regrouped where a box is added
+abbrev pub regrouped : (b : SceneBox) (old new : Document) → Adds b old new → BoxKey → Bool
+regrouped b old new a = regrouped_by (insertion a.parent None a.key (item_of b)) old
+
+-- the tree with a box more, and these marked
 pub added_is : (b : SceneBox) (old new : Document) (w : IsWellFormed old) (a : Adds b old new)
-    → new ≡ record old { boxes = grow a.parent a.key (touch (item_of b)) old.boxes; slots = with_taken old.slots a.key }
+    → new ≡ with_marks (regrouped b old new a) (record old { boxes = grow a.parent a.key (touch (item_of b)) old.boxes; slots = with_taken old.slots a.key })
 added_is b old new w a =
+    let c : Change = insertion a.parent None a.key (item_of b) in
     let out : contains old a.key ≡ false = next-absent old a.key w.keyed a.next in
     let there : has same_key a.parent old.boxes ≡ true = parent_there old.boxes b a.parent a.parent_is in
-    a.new_is ∙ edited-insertion a.parent None a.key (item_of b) old out
-    ∙ ap (λ f. record old { boxes = f; slots = with_taken old.slots a.key }) (grow_is a.parent a.key (touch (item_of b)) old.boxes w.apart there)
+    a.new_is ∙ sym (marks_then (regrouped_by c old) (reached_by c old) (after c old))
+    ∙ ap (with_marks (regrouped_by c old)) (reached-insertion a.parent None a.key (item_of b) old out
+    ∙ ap (λ f. record old { boxes = f; slots = with_taken old.slots a.key }) (grow_is a.parent a.key (touch (item_of b)) old.boxes w.apart there))
+
+-- a change of items leaves a tree well formed
+pub each_well : (q : BoxKey → Bool) (g : Item → Item) (t : Document) → IsWellFormed t → IsWellFormed (record t { boxes = map_where q g t.boxes })
+each_well q g t w = record {
+  apart = apart_each q g same_key t.boxes w.apart;
+  keyed = λ j m. w.keyed j (sym (has-each q g same_key j t.boxes) ∙ m);
+}
 
 -- it stays well formed
 pub added_well : (b : SceneBox) (old new : Document) → IsWellFormed old → Adds b old new → IsWellFormed new
@@ -72,7 +88,9 @@ added_well b old new w a =
     let there : has same_key a.parent old.boxes ≡ true = parent_there old.boxes b a.parent a.parent_is in
     let apart : IsApart same_key (grow a.parent a.key (touch (item_of b)) old.boxes) =
     subst (IsApart same_key) (grow_is a.parent a.key (touch (item_of b)) old.boxes w.apart there) (child_apart a.key (touch (item_of b)) a.parent None old.boxes w.apart out) in
-    subst IsWellFormed (sym (added_is b old new w a)) (record { apart = apart; keyed = keyed_grown old a.parent a.key (touch (item_of b)) w.keyed a.next there })
+    let grown : Document = record old { boxes = grow a.parent a.key (touch (item_of b)) old.boxes; slots = with_taken old.slots a.key } in
+    subst IsWellFormed (sym (added_is b old new w a)) (each_well (regrouped b old new a) touch grown
+    (record { apart = apart; keyed = keyed_grown old a.parent a.key (touch (item_of b)) w.keyed a.next there }))
 
 all_added_well : (bs : List SceneBox) (old new : Document) → IsWellFormed old → AddsAll bs old new → IsWellFormed new
 all_added_well [] old new w h = subst IsWellFormed (sym h) w

@@ -17,6 +17,11 @@ use Rattle.std.proofs.lemmas.Bool.Decides.{nat_tests}
 use Rattle.rd_scene.specs.Styles.{painting, joined}
 use Rattle.rd_scene.specs.Rects.{Four, coordinate, extent, placed}
 use Rattle.rd_scene.specs.Internal.Widths.{AreWidths}
+use Rattle.rd_geom.specs.declared.blend.Blend.{Blend}
+use Rattle.rd_geom.specs.declared.blend.Blend.TheVariants as blend
+use Rattle.rd_style.specs.declared.kinds.Isolation.{Isolation}
+use Rattle.rd_style.specs.declared.kinds.Isolation.TheVariants as isolation
+use Rattle.rd_scene.specs.Versions.{HasStyle, HasChange}
 
 both : (a b : Bool) → IsTrue a → IsTrue b → IsTrue (a && b)
 both true b p q = q
@@ -85,6 +90,18 @@ painting_fits b w c t n o ws m = five _ _ _ _ _ (top w ws) (right w ws) (bottom 
     outline None h = omega arith
     outline (Some k) h = h
 
-pub joined_fits : (c p : StyleChange) (v : Option Visibility) (h : Option Pointer) → Fits (changed plain p) → Fits (changed plain (joined c p v h))
+pub joined_fits : (c p : StyleChange) (v : Option Visibility) (h : Option Pointer) (b : StyleChange) → Fits (changed plain p) → Fits (changed plain (joined c p v h b))
 unfolding fits joined
-joined_fits c p v h f = f
+joined_fits c p v h b f = f
+
+-- what a version has
+
+pub joined_had : (version : ℕ) (c p : StyleChange) (v : Option Visibility) (h : Option Pointer) (b : StyleChange) → HasChange version b → HasChange version (joined c p v h b)
+unfolding joined
+joined_had version c p v h b n = λ e. record { blend = (n e).blend; isolation = (n e).isolation }
+
+pub changed_had : (version : ℕ) (c : StyleChange) → HasChange version c → HasStyle version (changed plain c)
+changed_had version c n = λ e. record { blend = ap (λ (o : Option Blend). unwrap_or o blend.Normal) (n e).blend; isolation = ap (λ (o : Option Isolation). unwrap_or o isolation.Auto) (n e).isolation }
+
+pub plain_had : (version : ℕ) → HasStyle version plain
+plain_had version = λ e. record { blend = refl; isolation = refl }

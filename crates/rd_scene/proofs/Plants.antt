@@ -1,16 +1,18 @@
 -- The walk over the boxes that are planted.
-use Rattle.std.proofs.Common.{◌≡◌, ℕ, ◌+◌, ◌≤◌, Bool, true, false, ◌&&◌, List, [], ◌∷◌, ◌++◌, reverse, Option, Some, None, is_none, is_some, IsSome, refl, sym, ap, ◌∙◌, bytes_eq, option_and_then, option_map, arith, inl, inr}
+use Rattle.std.proofs.Common.{◌≡◌, ℕ, ◌+◌, ◌≤◌, Bool, true, false, ◌&&◌, ◌-◌, cond, List, [], ◌∷◌, ◌++◌, length, get_or, take, drop, reverse, Option, Some, None, is_none, is_some, IsSome, refl, sym, ap, ◌∙◌, subst, bytes_eq, option_and_then, option_map, arith, inl, inr}
+use Rattle.std.proofs.lemmas.List.{take_all}
 use Rattle.rd_keys.specs.Keys.{same_key}
-use Rattle.rd_tree.specs.Forest.{has, depth}
+use Rattle.rd_tree.specs.Forest.{empty, tree, has, depth, map_where}
 use Rattle.rd_tree.specs.Touching.{touch}
 use Rattle.rd_tree.specs.declared.limits.TheConstants.{MAX_DEPTH}
 use Rattle.rd_tree.proofs.Nodes.Naming.{named_there, bytes_same}
 use Rattle.rd_tree.proofs.Linking.Standing.{cases}
+use Rattle.rd_tree.proofs.Nodes.Each.{has-each}
 use Rattle.rd_keys.proofs.Keys.{same_key-sound}
-use Rattle.rd_tree.specs.Document.{Document, BoxKey, BoxForest, named}
+use Rattle.rd_tree.specs.Document.{Document, BoxKey, BoxForest, named, or_else}
 use Rattle.rd_scene.specs.declared.script.SceneBox.{SceneBox}
 use Rattle.rd_scene.specs.Order.{depth_of, is_first, has_level_below, has_place, are_in_order}
-use Rattle.rd_scene.specs.Planting.{item_of, parent_in, Adds, AddsAll}
+use Rattle.rd_scene.specs.Planting.{item_of, parent_in, IsAlone, Adds, AddsAll, Grows}
 use Rattle.rd_scene.proofs.Growing.{grow, named-new, named-kept, depth-new, depth-kept}
 
 -- one more box is added after the others
@@ -99,6 +101,27 @@ depths_grown f before b p k same out e free q =
           | inr s ↦ s
         ]
 
+-- Marks leave ids and depths.
+named-marked : (q : BoxKey → Bool) (i : List ℕ) (f : BoxForest) → named i (map_where q touch f) ≡ named i f
+named-marked q i empty = refl
+named-marked q i (tree k d below rest) = λ j. cond (bytes_eq (same (q k) j) i) (Some k) (or_else (named-marked q i below j) (named-marked q i rest j))
+  where
+    same : (b : Bool) → (cond b (touch d) d).id ≡ d.id
+    same true = refl
+    same false = refl
+
+depth-marked : (q : BoxKey → Bool) (k : BoxKey) (f : BoxForest) → depth same_key k (map_where q touch f) ≡ depth same_key k f
+depth-marked q k empty = refl
+depth-marked q k (tree i d below rest) =
+    λ j. cond (same_key k i) 1 (cond (has-each q touch same_key k below j) (1 + depth-marked q k below j) (depth-marked q k rest j))
+
+pub depths_marked : (q : BoxKey → Bool) (f : BoxForest) (before : List SceneBox) → SameDepths f before → SameDepths (map_where q touch f) before
+depths_marked q f before same i = ap (option_map (λ k. depth same_key k (map_where q touch f))) (named-marked q i f) ∙ by (named i f) ∙ same i
+  where
+    by : (o : Option BoxKey) → option_map (λ k. depth same_key k (map_where q touch f)) o ≡ option_map (λ k. depth same_key k f) o
+    by None = refl
+    by (Some k) = ap Some (depth-marked q k f)
+
 pub new_name : (f : BoxForest) (before : List SceneBox) (b : SceneBox) → SameDepths f before → depth_of b.id before ≡ None → named b.id f ≡ None
 new_name f before b same free = some_depth (named b.id f) f (depth_of b.id before) (same b.id) free
 
@@ -122,3 +145,14 @@ room_below f (c ∷ before) b p same away place e = by b.parent place (parent_de
     by (Some i) h d =
         let room : has_level_below (Some (depth same_key p f)) ≡ true = ap has_level_below (sym d) ∙ h in
         grind arith
+
+-- ---- the first box, and the others
+
+pub first_and_rest : (xs : List SceneBox) (b : SceneBox) → 1 ≤ length xs → b ≡ get_or xs 0 b → xs ≡ b ∷ take (length xs - 1) (drop 1 xs)
+first_and_rest [] b some is = absurd (omega arith)
+first_and_rest (x ∷ xs) b some is =
+    let few : length xs ≤ length (x ∷ xs) - 1 = omega arith in
+    rw (take_all (length (x ∷ xs) - 1) xs few) (ap (λ (y : SceneBox). y ∷ xs) (sym is))
+
+pub grows_from : (xs rest : List SceneBox) (b : SceneBox) (root t : Document) → xs ≡ b ∷ rest → IsAlone b root → AddsAll rest root t → Grows xs root t
+grows_from xs rest b root t e a h = subst (λ (l : List SceneBox). Grows l root t) (sym e) (a, h)

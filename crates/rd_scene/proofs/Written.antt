@@ -18,7 +18,7 @@ use Rattle.rd_scene.specs.declared.script.Command.{Command}
 use Rattle.rd_scene.specs.declared.script.Command.TheVariants.{Change, Paint, Hit, Pixel, Dump, Shot}
 use Rattle.rd_scene.specs.Differing.{differing}
 use Rattle.rd_scene.specs.Scripts.{Script}
-use Rattle.rd_scene.specs.Writing.{with_given, number_value, rect_value, sides_value, position_word, overflow_word, display_word, float_word, visibility_word, pointer_word, id_value, color_value, content_value, z_value, with_placing, with_painting, change_value, box_value, edit_value, at_pixel, command_value, canvas_value, scene_value}
+use Rattle.rd_scene.specs.Writing.{with_given, number_value, rect_value, sides_value, position_word, overflow_word, display_word, float_word, visibility_word, pointer_word, blend_word, isolation_word, id_value, color_value, content_value, z_value, with_placing, with_painting, with_blending, change_value, box_value, edit_value, at_pixel, command_value, canvas_value, scene_value}
 
 -- no float, and at most n levels
 record Flat (n : ℕ) (d : Data) : Type 0 where
@@ -139,12 +139,18 @@ painting_flat n c ms all =
     (given_flat (suc n) (codes "content") content_value c.content _ (λ t. content_flat (suc n) t) (given_flat (suc n) (codes "border-width") sides_value c.border_width _ (λ s. sides_flat n s)
     (given_flat (suc n) (codes "border-color") color_value c.border_color _ (λ k. color_flat (suc n) k) (given_flat (suc n) (codes "background") color_value c.background _ (λ k. color_flat (suc n) k) all)))))
 
+blending_flat : (n : ℕ) (c : StyleChange) (ms : Members) → Flats n ms → Flats n (with_blending c ms)
+unfolding with_blending
+blending_flat n c ms all =
+    given_flat n (codes "mix-blend-mode") (λ b. string (blend_word b)) c.blend _ (λ b. text_flat n (blend_word b))
+    (given_flat n (codes "isolation") (λ i. string (isolation_word i)) c.isolation _ (λ i. text_flat n (isolation_word i)) all)
+
 change_flat : (n : ℕ) (c : StyleChange) → Flat (suc (suc n)) (change_value c)
 unfolding change_value
-change_flat n c = object_flat (suc n) _
+change_flat n c = object_flat (suc n) _ (blending_flat (suc n) c _
     (given_flat (suc n) (codes "visibility") (λ v. string (visibility_word v)) c.visibility _ (λ v. text_flat (suc n) (visibility_word v))
     (given_flat (suc n) (codes "pointer-events") (λ p. string (pointer_word p)) c.pointer _ (λ p. text_flat (suc n) (pointer_word p))
-    (painting_flat n c _ (placing_flat (suc n) c no_members (no_more (suc n))))))
+    (painting_flat n c _ (placing_flat (suc n) c no_members (no_more (suc n)))))))
 
 box_flat : (b : SceneBox) → Flat 3 (box_value b)
 unfolding box_value
@@ -190,7 +196,7 @@ scene_flat s = object_flat 4 _
     (put_flat 4 (codes "boxes") (array (items_of (map box_value s.boxes))) _ (array_flat 3 box_value s.boxes box_flat)
     (put_flat 4 (codes "canvas") (canvas_value s.canvas) _
     (object_flat 3 _ (put_flat 3 (codes "h") (number_value s.canvas.h) _ (number_flat 3 s.canvas.h) (put_flat 3 (codes "w") (number_value s.canvas.w) no_members (number_flat 3 s.canvas.w) (no_more 3))))
-    (put_flat 4 (codes "version") (number (unsigned 1)) no_members (count_flat 4 1) (no_more 4)))))
+    (put_flat 4 (codes "version") (number (unsigned s.version)) no_members (count_flat 4 s.version) (no_more 4)))))
 
 -- the text of a script's value is its compact text, and is read as it
 pub plain_text : (s : Script) → has_float (scene_value s) ≡ false

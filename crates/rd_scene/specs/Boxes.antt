@@ -8,6 +8,7 @@ use Rattle.rd_scene.specs.declared.fault.Why.{Why}
 use Rattle.rd_scene.specs.declared.fault.Why.TheVariants as why
 use Rattle.rd_scene.specs.declared.fault.Place.TheVariants as place
 use Rattle.rd_scene.specs.declared.script.SceneBox.{SceneBox}
+use Rattle.rd_scene.specs.declared.version.Version.{Version}
 use Rattle.rd_scene.specs.Checked.{Checked, value, rule, good, ◌⊛◌, ◌>>=◌}
 use Rattle.rd_scene.specs.Members.{there, holds, members, known, needed, string}
 use Rattle.rd_scene.specs.Places.{FormFault, at}
@@ -50,15 +51,15 @@ depth_under is_first depths None = rule (if is_first then Ok 1 else Err why.Pare
 depth_under is_first depths (Some p) =
     there why.Parent (depths p) >>= λ above. (holds why.Depth (nat_lt above MAX_DEPTH) >>= λ _. good (above + 1))
 
--- a box object after these boxes
-unfoldable pub box_of : Bool → (List ℕ → Option ℕ) → Data → Checked Why SceneBox
-box_of is_first depths d = members d >>= λ ms.
+-- a box object of this version after these boxes
+unfoldable pub box_of : Version → Bool → (List ℕ → Option ℕ) → Data → Checked Why SceneBox
+box_of version is_first depths d = members d >>= λ ms.
     good (λ _ id parent rect style. record { id = id; parent = parent; rect = rect; style = style })
     ⊛ known (codes "id" ∷ codes "parent" ∷ codes "rect" ∷ codes "style" ∷ []) ms
     ⊛ (id_text d >>= new_id depths)
     ⊛ (parent_name d >>= λ p. (depth_under is_first depths p >>= λ _. good p))
     ⊛ rect_at d
-    ⊛ style_at d
+    ⊛ style_at version d
 
 -- these boxes and the one that was read; one that breaks a rule is passed over
 abbrev pub with_box : Option SceneBox → List SceneBox → List SceneBox
@@ -66,11 +67,12 @@ with_box None before = before
 with_box (Some b) before = b ∷ before
 
 -- the next box after these, the latest first
-abbrev pub next_box : List SceneBox → Data → Checked Why SceneBox
-next_box before d = box_of (is_first before) (λ id. depth_of id before) d
+abbrev pub next_box : Version → List SceneBox → Data → Checked Why SceneBox
+next_box version before d = box_of version (is_first before) (λ id. depth_of id before) d
 
 -- the boxes of an array from the i-th on, after the boxes before
-unfoldable pub boxes_from : ℕ → List SceneBox → Items → Checked FormFault (List SceneBox)
-boxes_from i before no_items = good []
-boxes_from i before (item d ds) =
-    good ◌∷◌ ⊛ at (place.Box i) (next_box before d) ⊛ boxes_from (i + 1) (with_box (value (next_box before d)) before) ds
+unfoldable pub boxes_from : Version → ℕ → List SceneBox → Items → Checked FormFault (List SceneBox)
+boxes_from version i before no_items = good []
+boxes_from version i before (item d ds) =
+    good ◌∷◌ ⊛ at (place.Box i) (next_box version before d)
+    ⊛ boxes_from version (i + 1) (with_box (value (next_box version before d)) before) ds

@@ -7,6 +7,7 @@ use Rattle.rd_scene.specs.declared.fault.Why.{Why}
 use Rattle.rd_scene.specs.declared.fault.Place.TheVariants as place
 use Rattle.rd_scene.specs.declared.script.Command.{Command}
 use Rattle.rd_scene.specs.declared.script.Command.TheVariants.{Change, Paint, Hit, Pixel, Dump, Shot}
+use Rattle.rd_scene.specs.declared.version.Version.{Version}
 use Rattle.rd_scene.specs.Checked.{Checked, good, ◌⊛◌, ◌>>=◌}
 use Rattle.rd_scene.specs.Members.{members, known, needed, string, number}
 use Rattle.rd_scene.specs.Places.{FormFault, at}
@@ -29,26 +30,27 @@ at_pixel c ms d =
     ⊛ pixel_at (codes "y") d
 
 -- the words of commands; any other one is that of an edit
-unfoldable pub command_named : List ℕ → Members → Data → Checked Why Command
-command_named w ms d =
+unfoldable pub command_named : Version → List ℕ → Members → Data → Checked Why Command
+command_named version w ms d =
     if bytes_eq w (codes "paint") then alone Paint ms else
     if bytes_eq w (codes "hit") then at_pixel Hit ms d else
     if bytes_eq w (codes "pixel") then at_pixel Pixel ms d else
     if bytes_eq w (codes "dump") then alone Dump ms else
-    if bytes_eq w (codes "shot") then alone Shot ms else (edit_named w ms d >>= λ e. good (Change e))
+    if bytes_eq w (codes "shot") then alone Shot ms else (edit_named version w ms d >>= λ e. good (Change e))
 
 -- the word at the member `do`
 abbrev pub word_at : Data → Checked Why (List ℕ)
 word_at d = needed (codes "do") d >>= string
 
 -- an object whose member `do` names the command
-unfoldable pub command_of : Data → Checked Why Command
-command_of d = members d >>= λ ms. (word_at d >>= λ w. command_named w ms d)
+unfoldable pub command_of : Version → Data → Checked Why Command
+command_of version d = members d >>= λ ms. (word_at d >>= λ w. command_named version w ms d)
 
 -- the commands of an array from the i-th on
-unfoldable pub commands_from : ℕ → Items → Checked FormFault (List Command)
-commands_from i no_items = good []
-commands_from i (item d ds) = good ◌∷◌ ⊛ at (place.Command i) (command_of d) ⊛ commands_from (i + 1) ds
+unfoldable pub commands_from : Version → ℕ → Items → Checked FormFault (List Command)
+commands_from version i no_items = good []
+commands_from version i (item d ds) =
+    good ◌∷◌ ⊛ at (place.Command i) (command_of version d) ⊛ commands_from version (i + 1) ds
 
 -- may a pixel be asked for there?
 abbrev pub IsPixel : ℤ → ℤ → Type 0

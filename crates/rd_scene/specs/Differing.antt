@@ -3,6 +3,8 @@ use Rattle.std.specs.Prelude.{ℕ, ◌==◌, ◌&&◌, if◌then◌else◌, Opti
 use Rattle.rd_geom.specs.declared.color.Color.{Color}
 use Rattle.rd_geom.specs.Colors.{black, transparent}
 use Rattle.rd_geom.specs.declared.rect.Sides.{Sides}
+use Rattle.rd_geom.specs.declared.blend.Blend.{Blend}
+use Rattle.rd_geom.specs.declared.blend.Blend.TheVariants as blend
 use Rattle.rd_style.specs.declared.styles.Style.{Style}
 use Rattle.rd_style.specs.declared.styles.StyleChange.{StyleChange}
 use Rattle.rd_style.specs.declared.kinds.Position.{Position}
@@ -17,6 +19,8 @@ use Rattle.rd_style.specs.declared.kinds.Visibility.{Visibility}
 use Rattle.rd_style.specs.declared.kinds.Visibility.TheVariants as visibility
 use Rattle.rd_style.specs.declared.kinds.Pointer.{Pointer}
 use Rattle.rd_style.specs.declared.kinds.Pointer.TheVariants as pointer
+use Rattle.rd_style.specs.declared.kinds.Isolation.{Isolation}
+use Rattle.rd_style.specs.declared.kinds.Isolation.TheVariants as isolation
 
 -- a position other than the default
 abbrev pub position_unless : Position → Option Position
@@ -55,6 +59,19 @@ abbrev pub pointer_unless : Pointer → Option Pointer
 pointer_unless pointer.Auto = None
 pointer_unless pointer.Off = Some pointer.Off
 
+-- a blend mode other than the default
+abbrev pub blend_unless : Blend → Option Blend
+blend_unless blend.Normal = None
+blend_unless blend.Multiply = Some blend.Multiply
+blend_unless blend.Screen = Some blend.Screen
+blend_unless blend.Darken = Some blend.Darken
+blend_unless blend.Lighten = Some blend.Lighten
+
+-- an isolation other than the default
+abbrev pub isolation_unless : Isolation → Option Isolation
+isolation_unless isolation.Auto = None
+isolation_unless isolation.Isolate = Some isolation.Isolate
+
 -- a number other than this
 abbrev pub number_unless : ℕ → ℕ → Option ℕ
 number_unless default n = if n == default then None else Some n
@@ -84,4 +101,6 @@ differing s = record {
   outline_color = color_unless black s.outline_color;
   visibility = visibility_unless s.visibility;
   pointer = pointer_unless s.pointer;
+  blend = blend_unless s.blend;
+  isolation = isolation_unless s.isolation;
 }

@@ -10,6 +10,7 @@ use Rattle.rd_edits.specs.declared.edit.Edit.TheVariants.{Insert, Remove, Move, 
 use Rattle.rd_scene.specs.declared.fault.Why.{Why}
 use Rattle.rd_scene.specs.declared.fault.Why.TheVariants as why
 use Rattle.rd_scene.specs.declared.script.TheConstants.{MAX_DISTANCE}
+use Rattle.rd_scene.specs.declared.version.Version.{Version}
 use Rattle.rd_scene.specs.Checked.{Checked, rule, good, ◌⊛◌, ◌>>=◌}
 use Rattle.rd_scene.specs.Members.{known, needed, number}
 use Rattle.rd_scene.specs.Rects.{rect_at}
@@ -30,15 +31,15 @@ abbrev pub before_at : Data → Checked Why (Option (List ℕ))
 before_at d = before_of (get (codes "before") d)
 
 -- `insert` has an id, a parent, perhaps a box to stand before, a rectangle and perhaps a style
-unfoldable pub insert_of : Members → Data → Checked Why Edit
-insert_of ms d =
+unfoldable pub insert_of : Version → Members → Data → Checked Why Edit
+insert_of version ms d =
     good (λ _ id parent before rect style. Insert id parent before rect style)
     ⊛ known (codes "do" ∷ codes "id" ∷ codes "parent" ∷ codes "before" ∷ codes "rect" ∷ codes "style" ∷ []) ms
     ⊛ id_at (codes "id") d
     ⊛ id_at (codes "parent") d
     ⊛ before_at d
     ⊛ rect_at d
-    ⊛ style_at d
+    ⊛ style_at version d
 
 -- `remove` has an id
 unfoldable pub remove_of : Members → Data → Checked Why Edit
@@ -55,16 +56,16 @@ move_of ms d =
     ⊛ before_at d
 
 -- the members of a style, at its member
-abbrev pub change_at : Data → Checked Why StyleChange
-change_at d = needed (codes "style") d >>= change_of
+abbrev pub change_at : Version → Data → Checked Why StyleChange
+change_at version d = needed (codes "style") d >>= change_of version
 
 -- `style` has an id and the members of the style that are named
-unfoldable pub set_style_of : Members → Data → Checked Why Edit
-set_style_of ms d =
+unfoldable pub set_style_of : Version → Members → Data → Checked Why Edit
+set_style_of version ms d =
     good (λ _ id change. SetStyle id change)
     ⊛ known (codes "do" ∷ codes "id" ∷ codes "style" ∷ []) ms
     ⊛ id_at (codes "id") d
-    ⊛ change_at d
+    ⊛ change_at version d
 
 -- `rect` has an id and a rectangle
 unfoldable pub set_rect_of : Members → Data → Checked Why Edit
@@ -88,12 +89,12 @@ shift_of ms d =
     ⊛ distance_at (codes "dy") d
 
 -- the words of edits
-unfoldable pub edit_named : List ℕ → Members → Data → Checked Why Edit
-edit_named w ms d =
-    if bytes_eq w (codes "insert") then insert_of ms d else
+unfoldable pub edit_named : Version → List ℕ → Members → Data → Checked Why Edit
+edit_named version w ms d =
+    if bytes_eq w (codes "insert") then insert_of version ms d else
     if bytes_eq w (codes "remove") then remove_of ms d else
     if bytes_eq w (codes "move") then move_of ms d else
-    if bytes_eq w (codes "style") then set_style_of ms d else
+    if bytes_eq w (codes "style") then set_style_of version ms d else
     if bytes_eq w (codes "rect") then set_rect_of ms d else
     if bytes_eq w (codes "shift") then shift_of ms d else rule (Err why.Command)
 

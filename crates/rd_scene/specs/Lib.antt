@@ -13,5 +13,6 @@ pub mod Reading
 pub mod Rects
 pub mod Scripts
 pub mod Styles
+pub mod Versions
 pub mod Writing
 pub mod Internal

@@ -1,10 +1,12 @@
 -- Styles as a script writes them. Which members there are, and in which order they are read, is this project's own
 -- choice.
-use Rattle.std.specs.Prelude.{ℕ, ℤ, pos, negsuc, Bool, false, if◌then◌else◌, List, [], ◌∷◌, codes, bytes_eq, Option, Some, None, unsigned_abs}
+use Rattle.std.specs.Prelude.{ℕ, ℤ, pos, negsuc, Bool, false, if◌then◌else◌, List, [], ◌∷◌, ◌++◌, codes, bytes_eq, Option, Some, None, unsigned_abs}
 use Rattle.serde_json.specs.Data.{Data}
 use Rattle.serde_json.specs.Find.{get, as_str}
 use Rattle.rd_geom.specs.declared.color.Color.{Color}
 use Rattle.rd_geom.specs.declared.rect.Sides.{Sides}
+use Rattle.rd_geom.specs.declared.blend.Blend.{Blend}
+use Rattle.rd_geom.specs.declared.blend.Blend.TheVariants as blend
 use Rattle.rd_style.specs.declared.styles.Style.{Style}
 use Rattle.rd_style.specs.declared.styles.StyleChange.{StyleChange}
 use Rattle.rd_style.specs.declared.kinds.Position.{Position}
@@ -19,9 +21,13 @@ use Rattle.rd_style.specs.declared.kinds.Visibility.{Visibility}
 use Rattle.rd_style.specs.declared.kinds.Visibility.TheVariants as visibility
 use Rattle.rd_style.specs.declared.kinds.Pointer.{Pointer}
 use Rattle.rd_style.specs.declared.kinds.Pointer.TheVariants as pointer
+use Rattle.rd_style.specs.declared.kinds.Isolation.{Isolation}
+use Rattle.rd_style.specs.declared.kinds.Isolation.TheVariants as isolation
 use Rattle.rd_style.specs.Changes.{plain, changed, nothing_named}
 use Rattle.rd_scene.specs.declared.fault.Why.{Why}
 use Rattle.rd_scene.specs.declared.fault.Why.TheVariants as why
+use Rattle.rd_scene.specs.declared.version.Version.{Version}
+use Rattle.rd_scene.specs.declared.version.Version.TheVariants.{One, Two}
 use Rattle.rd_scene.specs.Checked.{Checked, good, ◌⊛◌, ◌>>=◌}
 use Rattle.rd_scene.specs.Members.{there, members, known, if_given, string, number}
 use Rattle.rd_scene.specs.Colors.{color_of, content_of}
@@ -77,6 +83,15 @@ visibility_of = word_of ((codes "visible", visibility.Visible) ∷ (codes "hidde
 abbrev pub pointer_of : Data → Checked Why Pointer
 pointer_of = word_of ((codes "auto", pointer.Auto) ∷ (codes "none", pointer.Off) ∷ [])
 
+-- CSS Compositing 1 section 3.4.1: `mix-blend-mode`, as far as a box here has it
+abbrev pub blend_of : Data → Checked Why Blend
+blend_of = word_of ((codes "normal", blend.Normal) ∷ (codes "multiply", blend.Multiply) ∷ (codes "screen", blend.Screen)
+    ∷ (codes "darken", blend.Darken) ∷ (codes "lighten", blend.Lighten) ∷ [])
+
+-- CSS Compositing 1 section 3.4.2: `isolation`
+abbrev pub isolation_of : Data → Checked Why Isolation
+isolation_of = word_of ((codes "auto", isolation.Auto) ∷ (codes "isolate", isolation.Isolate) ∷ [])
+
 -- a change that names members that place a box
 unfoldable pub placing : Option Position → Option (Option ℤ) → Option ℕ → Option Overflow → Option Display → Option Floating → StyleChange
 placing p z o v d f = record nothing_named { position = p; z = z; opacity = o; overflow = v; display = d; float = f }
@@ -86,9 +101,13 @@ unfoldable pub painting : Option Color → Option Sides → Option Color → Opt
 painting b w c t n o =
     record nothing_named { background = b; border_width = w; border_color = c; content = t; outline_width = n; outline_color = o }
 
--- what the first change names of placing, the second of painting, and then these two
-unfoldable pub joined : StyleChange → StyleChange → Option Visibility → Option Pointer → StyleChange
-joined c p v h = record c {
+-- a change that names members that blend a box
+unfoldable pub blending : Option Blend → Option Isolation → StyleChange
+blending m i = record nothing_named { blend = m; isolation = i }
+
+-- what the first change names of placing, the second of painting, then these two, and the last of blending
+unfoldable pub joined : StyleChange → StyleChange → Option Visibility → Option Pointer → StyleChange → StyleChange
+joined c p v h b = record c {
   background = p.background;
   border_width = p.border_width;
   border_color = p.border_color;
@@ -97,6 +116,8 @@ joined c p v h = record c {
   outline_color = p.outline_color;
   visibility = v;
   pointer = h;
+  blend = b.blend;
+  isolation = b.isolation;
 }
 
 -- the members that place a box
@@ -121,32 +142,46 @@ painting_of d =
     ⊛ if_given outline_width_of (codes "outline-width") d
     ⊛ if_given color_of (codes "outline-color") d
 
--- the names of all members
-abbrev pub style_names : List (List ℕ)
-style_names =
+-- the members that blend a box, which came with version 2
+unfoldable pub blending_of : Version → Data → Checked Why StyleChange
+blending_of One d = good nothing_named
+blending_of Two d =
+    good blending
+    ⊛ if_given blend_of (codes "mix-blend-mode") d
+    ⊛ if_given isolation_of (codes "isolation") d
+
+-- the names of the members that both versions have
+abbrev pub first_names : List (List ℕ)
+first_names =
     codes "position" ∷ codes "z-index" ∷ codes "opacity" ∷ codes "overflow" ∷ codes "display" ∷ codes "float"
     ∷ codes "background" ∷ codes "border-width" ∷ codes "border-color" ∷ codes "content" ∷ codes "outline-width"
     ∷ codes "outline-color" ∷ codes "visibility" ∷ codes "pointer-events" ∷ []
 
+-- the names of all members
+abbrev pub style_names : Version → List (List ℕ)
+style_names One = first_names
+style_names Two = first_names ++ codes "mix-blend-mode" ∷ codes "isolation" ∷ []
+
 -- a style object names members, of which each may be absent
-unfoldable pub change_of : Data → Checked Why StyleChange
-change_of d = members d >>= λ ms.
-    good (λ _ c p v h. joined c p v h)
-    ⊛ known style_names ms
+unfoldable pub change_of : Version → Data → Checked Why StyleChange
+change_of version d = members d >>= λ ms.
+    good (λ _ c p v h b. joined c p v h b)
+    ⊛ known (style_names version) ms
     ⊛ placing_of d
     ⊛ painting_of d
     ⊛ if_given visibility_of (codes "visibility") d
     ⊛ if_given pointer_of (codes "pointer-events") d
+    ⊛ blending_of version d
 
 -- the style of a box has the default where a member is absent
-abbrev pub style_of : Data → Checked Why Style
-style_of d = change_of d >>= λ c. good (changed plain c)
+abbrev pub style_of : Version → Data → Checked Why Style
+style_of version d = change_of version d >>= λ c. good (changed plain c)
 
 -- a style that may be absent, as if it were empty
-abbrev pub style_or_plain : Option Data → Checked Why Style
-style_or_plain None = good plain
-style_or_plain (Some d) = style_of d
+abbrev pub style_or_plain : Version → Option Data → Checked Why Style
+style_or_plain version None = good plain
+style_or_plain version (Some d) = style_of version d
 
 -- the style of a box or an insertion
-abbrev pub style_at : Data → Checked Why Style
-style_at d = style_or_plain (get (codes "style") d)
+abbrev pub style_at : Version → Data → Checked Why Style
+style_at version d = style_or_plain version (get (codes "style") d)

@@ -9,6 +9,8 @@ use Rattle.rd_geom.specs.Plane.{Rectangle}
 use Rattle.rd_geom.specs.declared.color.Color.{Color}
 use Rattle.rd_geom.specs.declared.rect.Size.{Size}
 use Rattle.rd_geom.specs.declared.rect.Sides.{Sides}
+use Rattle.rd_geom.specs.declared.blend.Blend.{Blend}
+use Rattle.rd_geom.specs.declared.blend.Blend.TheVariants as blend
 use Rattle.rd_style.specs.declared.styles.Style.{Style}
 use Rattle.rd_style.specs.declared.styles.StyleChange.{StyleChange}
 use Rattle.rd_style.specs.declared.kinds.Position.{Position}
@@ -23,6 +25,8 @@ use Rattle.rd_style.specs.declared.kinds.Visibility.{Visibility}
 use Rattle.rd_style.specs.declared.kinds.Visibility.TheVariants as visibility
 use Rattle.rd_style.specs.declared.kinds.Pointer.{Pointer}
 use Rattle.rd_style.specs.declared.kinds.Pointer.TheVariants as pointer
+use Rattle.rd_style.specs.declared.kinds.Isolation.{Isolation}
+use Rattle.rd_style.specs.declared.kinds.Isolation.TheVariants as isolation
 use Rattle.rd_edits.specs.declared.edit.Edit.{Edit}
 use Rattle.rd_edits.specs.declared.edit.Edit.TheVariants.{Insert, Remove, Move, SetStyle, SetRect, Shift}
 use Rattle.rd_scene.specs.declared.script.SceneBox.{SceneBox}
@@ -112,6 +116,19 @@ abbrev pub pointer_word : Pointer → List ℕ
 pointer_word pointer.Auto = codes "auto"
 pointer_word pointer.Off = codes "none"
 
+-- the word of a blend mode
+abbrev pub blend_word : Blend → List ℕ
+blend_word blend.Normal = codes "normal"
+blend_word blend.Multiply = codes "multiply"
+blend_word blend.Screen = codes "screen"
+blend_word blend.Darken = codes "darken"
+blend_word blend.Lighten = codes "lighten"
+
+-- the word of an isolation
+abbrev pub isolation_word : Isolation → List ℕ
+isolation_word isolation.Auto = codes "auto"
+isolation_word isolation.Isolate = codes "isolate"
+
 -- with the members that place a box
 unfoldable pub with_placing : StyleChange → Members → Members
 with_placing c ms =
@@ -132,12 +149,18 @@ with_painting c ms =
     (with_given (codes "border-color") (option_map color_value c.border_color)
     (with_given (codes "background") (option_map color_value c.background) ms)))))
 
+-- with the members that blend a box
+unfoldable pub with_blending : StyleChange → Members → Members
+with_blending c ms =
+    with_given (codes "mix-blend-mode") (option_map (λ b. string (blend_word b)) c.blend)
+    (with_given (codes "isolation") (option_map (λ i. string (isolation_word i)) c.isolation) ms)
+
 -- a style object of the members that a change names
 unfoldable pub change_value : StyleChange → Data
-change_value c = object
+change_value c = object (with_blending c
     (with_given (codes "visibility") (option_map (λ v. string (visibility_word v)) c.visibility)
     (with_given (codes "pointer-events") (option_map (λ p. string (pointer_word p)) c.pointer)
-    (with_painting c (with_placing c no_members))))
+    (with_painting c (with_placing c no_members)))))
 
 -- a style object of the members that differ from the defaults
 abbrev pub style_value : Style → Data
@@ -189,4 +212,4 @@ canvas_value s = object (put (codes "h") (number_value s.h) (put (codes "w") (nu
 unfoldable pub scene_value : Script → Data
 scene_value s = object (put (codes "script") (array (items_of (map command_value s.commands)))
     (put (codes "boxes") (array (items_of (map box_value s.boxes))) (put (codes "canvas") (canvas_value s.canvas)
-    (put (codes "version") (number (unsigned 1)) no_members))))
+    (put (codes "version") (number (unsigned s.version)) no_members))))

@@ -12,12 +12,14 @@ ghost use Rattle.rd_scene.specs.Order.{are_in_order};
 ghost use Rattle.rd_scene.specs.Internal.Gives.{Gives, GivesAt};
 ghost use Rattle.rd_scene.specs.Internal.Steps.{told, IsNoted, box_named, names_after};
 ghost use Rattle.rd_scene.specs.Scripts.{FitsBox};
+ghost use Rattle.rd_scene.specs.Versions.{number_of, HasBox};
 
 use crate::fault::{Place, Refusal, SceneFault, Why};
 use crate::members::{known, members, needed, string};
 use crate::rects::rect_at;
 use crate::script::SceneBox;
 use crate::styles::style_at;
+use crate::version::Version;
 use indexmap::IndexMap;
 use rd_tree::{Id, IdFault, MAX_BOXES, MAX_DEPTH};
 use serde_json::Value;
@@ -166,20 +168,22 @@ fn names_of(
 #[tactic(auto, unfolding(crate::specs::Boxes::box_of))]
 fn box_of<'a>(
     alloc: Global,
+    version: Version,
     is_first: bool,
     depths: &mut IndexMap<&'a str, u32>,
     v: &'a Value,
 ) -> Result<SceneBox, Refusal>
-    ensures value { Gives (λ b. b) result (spec.box_of is_first (told depths.old) (view v.now)).first }
+    ensures value { Gives (λ b. b) result (spec.box_of version is_first (told depths.old) (view v.now)).first }
     ensures noted { IfOk result (λ b. IsNoted is_first b (told depths.old) (told depths.new)) }
     ensures fits { IfOk result (λ b. FitsBox b) }
+    ensures had { IfOk result (λ b. HasBox (number_of version) b) }
 {
     let members = members(v)?;
     known(members, &["id", "parent", "rect", "style"])?;
     let text = id_text(v)?;
     let names = names_of(alloc, is_first, depths, text, v)?;
     let rect = rect_at(v)?;
-    let style = style_at(v)?;
+    let style = style_at(version, v)?;
     note(depths, text, names.depth)?;
     Ok(SceneBox {
         id: names.id,
@@ -192,33 +196,40 @@ fn box_of<'a>(
 /// The box of this number, after boxes of which `depths` has the depths; it has the depth of this one too then.
 fn box_from<'a>(
     alloc: Global,
+    version: Version,
     i: u32,
     depths: &mut IndexMap<&'a str, u32>,
     v: &'a Value,
 ) -> Result<SceneBox, SceneFault>
     ensures value { GivesAt (λ b. b) result
-        (at (place.Box i) (spec.box_of (i == 0) (told depths.old) (view v.now))).first }
+        (at (place.Box i) (spec.box_of version (i == 0) (told depths.old) (view v.now))).first }
     ensures noted { IfOk result (λ b. IsNoted (i == 0) b (told depths.old) (told depths.new)) }
     ensures fits { IfOk result (λ b. FitsBox b) }
+    ensures had { IfOk result (λ b. HasBox (number_of version) b) }
 {
-    match box_of(alloc, i == 0, depths, v) {
+    match box_of(alloc, version, i == 0, depths, v) {
         Ok(b) => Ok(b),
         Err(refusal) => Err(refusal.at(Place::Box(i))),
     }
 }
 
 /// The boxes of an array.
-pub(crate) fn boxes_of(alloc: Global, list: &[Value]) -> Result<Vec<SceneBox>, SceneFault>
+pub(crate) fn boxes_of(
+    alloc: Global,
+    version: Version,
+    list: &[Value],
+) -> Result<Vec<SceneBox>, SceneFault>
     requires { length list.now ≤ MAX_BOXES }
-    ensures value { GivesAt (λ v. v.items) result (spec.boxes_from 0 [] (items_view list.now)).first }
+    ensures value { GivesAt (λ v. v.items) result (spec.boxes_from version 0 [] (items_view list.now)).first }
     ensures len { IfOk result (λ v. length v.items ≡ length list.now) }
     ensures order { IfOk result (λ v. are_in_order [] v.items ≡ true) }
     ensures fits { IfOk result (λ v. All FitsBox v.items) }
+    ensures had { IfOk result (λ v. All (HasBox (number_of version)) v.items) }
 {
     let mut boxes = Vec::new(alloc);
     let mut depths = IndexMap::new(alloc);
     for (i, v) in list.iter().enumerate() {
-        let b = box_from(alloc, i as u32, &mut depths, v)?;
+        let b = box_from(alloc, version, i as u32, &mut depths, v)?;
         boxes.push(b)?;
     }
     Ok(boxes)

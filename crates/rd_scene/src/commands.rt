@@ -1,6 +1,6 @@
 //! Commands as a script writes them.
 
-ghost use Rattle.std.specs.Prelude.{◌≡◌, pos, ◌-ℤ◌, ◌≤◌, length, All, IfOk, IsTrue, vec_len};
+ghost use Rattle.std.specs.Prelude.{◌≡◌, ℕ, pos, ◌-ℤ◌, ◌≤◌, length, All, IfOk, IsTrue, vec_len};
 ghost use Rattle.std.specs.Result.{result_map_both};
 ghost use Rattle.serde_json.specs.View.{view, items_view, members_view};
 ghost use Rattle.rd_style.specs.Limits.{is_between};
@@ -8,6 +8,7 @@ ghost use Rattle.rd_scene.specs.declared.script.TheConstants.{MAX_COMMANDS};
 ghost use Rattle.rd_scene.specs.declared.script.Command.TheVariants as command;
 ghost use Rattle.rd_scene.specs.Commands as spec;
 ghost use Rattle.rd_scene.specs.Commands.{FitsCommand};
+ghost use Rattle.rd_scene.specs.Versions.{number_of, HasCommand};
 ghost use Rattle.rd_scene.specs.declared.fault.Place.TheVariants as place;
 ghost use Rattle.rd_scene.specs.Places.{at};
 ghost use Rattle.rd_scene.specs.Internal.Changes as changing;
@@ -17,6 +18,7 @@ use crate::edits::edit_named;
 use crate::fault::{Place, Refusal, SceneFault, Why};
 use crate::members::{known, members, needed, number, string};
 use crate::script::Command;
+use crate::version::Version;
 use rd_style::MAX_COORDINATE;
 use serde_json::{Map, Value};
 use std::alloc::Global;
@@ -25,6 +27,7 @@ use std::alloc::Global;
 fn paint_of(members: &Map<String, Value>) -> Result<Command, Refusal>
     ensures value { Gives (λ c. c) result (spec.alone command.Paint (members_view members.now.entries)).first }
     ensures fits { IfOk result (λ c. FitsCommand c) }
+    ensures had { (version : ℕ) → IfOk result (λ c. HasCommand version c) }
 {
     known(members, &["do"])?;
     Ok(Command::Paint)
@@ -34,6 +37,7 @@ fn paint_of(members: &Map<String, Value>) -> Result<Command, Refusal>
 fn dump_of(members: &Map<String, Value>) -> Result<Command, Refusal>
     ensures value { Gives (λ c. c) result (spec.alone command.Dump (members_view members.now.entries)).first }
     ensures fits { IfOk result (λ c. FitsCommand c) }
+    ensures had { (version : ℕ) → IfOk result (λ c. HasCommand version c) }
 {
     known(members, &["do"])?;
     Ok(Command::Dump)
@@ -43,6 +47,7 @@ fn dump_of(members: &Map<String, Value>) -> Result<Command, Refusal>
 fn shot_of(members: &Map<String, Value>) -> Result<Command, Refusal>
     ensures value { Gives (λ c. c) result (spec.alone command.Shot (members_view members.now.entries)).first }
     ensures fits { IfOk result (λ c. FitsCommand c) }
+    ensures had { (version : ℕ) → IfOk result (λ c. HasCommand version c) }
 {
     known(members, &["do"])?;
     Ok(Command::Shot)
@@ -63,6 +68,7 @@ fn hit_of(members: &Map<String, Value>, v: &Value) -> Result<Command, Refusal>
     ensures value { Gives (λ c. c) result
         (spec.at_pixel command.Hit (members_view members.now.entries) (view v.now)).first }
     ensures fits { IfOk result (λ c. FitsCommand c) }
+    ensures had { (version : ℕ) → IfOk result (λ c. HasCommand version c) }
 {
     known(members, &["do", "x", "y"])?;
     let x = pixel_at(v, "x")?;
@@ -76,6 +82,7 @@ fn pixel_of(members: &Map<String, Value>, v: &Value) -> Result<Command, Refusal>
     ensures value { Gives (λ c. c) result
         (spec.at_pixel command.Pixel (members_view members.now.entries) (view v.now)).first }
     ensures fits { IfOk result (λ c. FitsCommand c) }
+    ensures had { (version : ℕ) → IfOk result (λ c. HasCommand version c) }
 {
     known(members, &["do", "x", "y"])?;
     let x = pixel_at(v, "x")?;
@@ -86,15 +93,17 @@ fn pixel_of(members: &Map<String, Value>, v: &Value) -> Result<Command, Refusal>
 /// The change of the tree that a word names, with its members.
 fn change_named(
     alloc: Global,
+    version: Version,
     word: &str,
     members: &Map<String, Value>,
     v: &Value,
 ) -> Result<Command, Refusal>
     ensures value { Gives (λ c. c) result
-        (changing.change_named word.now (members_view members.now.entries) (view v.now)).first }
+        (changing.change_named version word.now (members_view members.now.entries) (view v.now)).first }
     ensures fits { IfOk result (λ c. FitsCommand c) }
+    ensures had { IfOk result (λ c. HasCommand (number_of version) c) }
 {
-    let edit = edit_named(alloc, word, members, v)?;
+    let edit = edit_named(alloc, version, word, members, v)?;
     Ok(Command::Change(edit))
 }
 
@@ -102,13 +111,15 @@ fn change_named(
 #[tactic(auto, unfolding(crate::specs::Commands::command_named))]
 fn command_named(
     alloc: Global,
+    version: Version,
     word: &str,
     members: &Map<String, Value>,
     v: &Value,
 ) -> Result<Command, Refusal>
     ensures value { Gives (λ c. c) result
-        (spec.command_named word.now (members_view members.now.entries) (view v.now)).first }
+        (spec.command_named version word.now (members_view members.now.entries) (view v.now)).first }
     ensures fits { IfOk result (λ c. FitsCommand c) }
+    ensures had { IfOk result (λ c. HasCommand (number_of version) c) }
 {
     match word {
         "paint" => paint_of(members),
@@ -116,7 +127,7 @@ fn command_named(
         "pixel" => pixel_of(members, v),
         "dump" => dump_of(members),
         "shot" => shot_of(members),
-        _ => change_named(alloc, word, members, v),
+        _ => change_named(alloc, version, word, members, v),
     }
 }
 
@@ -129,36 +140,43 @@ fn word_at(v: &Value) -> Result<&str, Why>
 }
 
 #[tactic(auto, unfolding(crate::specs::Commands::command_of))]
-fn command_of(alloc: Global, v: &Value) -> Result<Command, Refusal>
-    ensures value { Gives (λ c. c) result (spec.command_of (view v.now)).first }
+fn command_of(alloc: Global, version: Version, v: &Value) -> Result<Command, Refusal>
+    ensures value { Gives (λ c. c) result (spec.command_of version (view v.now)).first }
     ensures fits { IfOk result (λ c. FitsCommand c) }
+    ensures had { IfOk result (λ c. HasCommand (number_of version) c) }
 {
     let members = members(v)?;
     let word = word_at(v)?;
-    command_named(alloc, word, members, v)
+    command_named(alloc, version, word, members, v)
 }
 
 /// The command of this number that a value is, which is gone then.
-fn command_from(alloc: Global, i: u32, v: Value) -> Result<Command, SceneFault>
-    ensures value { GivesAt (λ c. c) result (at (place.Command i) (spec.command_of (view v))).first }
+fn command_from(alloc: Global, version: Version, i: u32, v: Value) -> Result<Command, SceneFault>
+    ensures value { GivesAt (λ c. c) result (at (place.Command i) (spec.command_of version (view v))).first }
     ensures fits { IfOk result (λ c. FitsCommand c) }
+    ensures had { IfOk result (λ c. HasCommand (number_of version) c) }
 {
-    match command_of(alloc, &v) {
+    match command_of(alloc, version, &v) {
         Ok(command) => Ok(command),
         Err(refusal) => Err(refusal.at(Place::Command(i))),
     }
 }
 
 /// The commands of an array. Each value goes as it is read.
-pub(crate) fn commands_of(alloc: Global, list: Vec<Value>) -> Result<Vec<Command>, SceneFault>
+pub(crate) fn commands_of(
+    alloc: Global,
+    version: Version,
+    list: Vec<Value>,
+) -> Result<Vec<Command>, SceneFault>
     requires { vec_len list ≤ MAX_COMMANDS }
-    ensures value { GivesAt (λ v. v.items) result (spec.commands_from 0 (items_view list.items)).first }
+    ensures value { GivesAt (λ v. v.items) result (spec.commands_from version 0 (items_view list.items)).first }
     ensures len { IfOk result (λ v. vec_len v ≡ length list.items) }
     ensures fits { IfOk result (λ v. All FitsCommand v.items) }
+    ensures had { IfOk result (λ v. All (HasCommand (number_of version)) v.items) }
 {
     let mut commands = Vec::with_capacity(alloc, list.len())?;
     for v in list {
-        let command = command_from(alloc, commands.len() as u32, v)?;
+        let command = command_from(alloc, version, commands.len() as u32, v)?;
         commands.push(command)?;
     }
     Ok(commands)

@@ -4,8 +4,10 @@ ghost use Rattle.std.specs.Prelude.{◌≡◌, Some, option_map};
 ghost use Rattle.rd_scene.specs.Differing as spec;
 ghost use Rattle.rd_scene.specs.Writing as words;
 
-use rd_geom::{Color, Sides};
-use rd_style::{Display, Floating, Overflow, Pointer, Position, Style, StyleChange, Visibility};
+use rd_geom::{Blend, Color, Sides};
+use rd_style::{
+    Display, Floating, Isolation, Overflow, Pointer, Position, Style, StyleChange, Visibility,
+};
 
 fn position_unless(value: Position) -> Option<Position>
     ensures { result ≡ spec.position_unless value }
@@ -122,6 +124,45 @@ pub(crate) fn pointer_word(value: Pointer) -> &'static str
     }
 }
 
+fn blend_unless(value: Blend) -> Option<Blend>
+    ensures { result ≡ spec.blend_unless value }
+{
+    match value {
+        Blend::Normal => None,
+        other => Some(other),
+    }
+}
+
+pub(crate) fn blend_word(value: Blend) -> &'static str
+    ensures { result.now ≡ words.blend_word value }
+{
+    match value {
+        Blend::Normal => "normal",
+        Blend::Multiply => "multiply",
+        Blend::Screen => "screen",
+        Blend::Darken => "darken",
+        Blend::Lighten => "lighten",
+    }
+}
+
+fn isolation_unless(value: Isolation) -> Option<Isolation>
+    ensures { result ≡ spec.isolation_unless value }
+{
+    match value {
+        Isolation::Auto => None,
+        other => Some(other),
+    }
+}
+
+pub(crate) fn isolation_word(value: Isolation) -> &'static str
+    ensures { result.now ≡ words.isolation_word value }
+{
+    match value {
+        Isolation::Auto => "auto",
+        Isolation::Isolate => "isolate",
+    }
+}
+
 fn color_unless(default: Color, c: Color) -> Option<Color>
     ensures { result ≡ spec.color_unless default c }
 {
@@ -192,5 +233,7 @@ pub(crate) fn differing(s: &Style) -> StyleChange
         outline_color: color_unless(Color::BLACK, s.outline_color),
         visibility: visibility_unless(s.visibility),
         pointer: pointer_unless(s.pointer),
+        blend: blend_unless(s.blend),
+        isolation: isolation_unless(s.isolation),
     }
 }

@@ -1,6 +1,6 @@
 //! Edits as a script writes them.
 
-ghost use Rattle.std.specs.Prelude.{◌≡◌, pos, ◌-ℤ◌, codes, option_map, IfOk, IsTrue};
+ghost use Rattle.std.specs.Prelude.{◌≡◌, ℕ, pos, ◌-ℤ◌, codes, option_map, IfOk, IsTrue};
 ghost use Rattle.serde_json.specs.View.{view, members_view};
 ghost use Rattle.rd_style.specs.Changes.{plain, changed};
 ghost use Rattle.rd_style.specs.Limits.{is_between, Fits};
@@ -9,6 +9,7 @@ ghost use Rattle.rd_scene.specs.Boxes as boxes;
 ghost use Rattle.rd_scene.specs.Checked.{good, ◌⊛◌};
 ghost use Rattle.rd_scene.specs.Edits as spec;
 ghost use Rattle.rd_scene.specs.Edits.{FitsEdit};
+ghost use Rattle.rd_scene.specs.Versions.{number_of, HasEdit, HasChange};
 ghost use Rattle.rd_scene.specs.Internal.Gives.{Gives};
 
 use crate::boxes::{id_at, id_of};
@@ -17,6 +18,7 @@ use crate::members::{known, member, needed, number};
 use crate::rects::rect_at;
 use crate::script::MAX_DISTANCE;
 use crate::styles::{change_of, style_at};
+use crate::version::Version;
 use rd_edits::Edit;
 use rd_style::StyleChange;
 use rd_tree::Id;
@@ -76,14 +78,21 @@ fn standing_of(alloc: Global, v: &Value) -> Result<Standing, Refusal>
 
 /// A new box: an id, a parent, perhaps a box to stand before, a rectangle and perhaps a style.
 #[tactic(auto, unfolding(crate::specs::Edits::insert_of))]
-fn insert_of(alloc: Global, members: &Map<String, Value>, v: &Value) -> Result<Edit, Refusal>
-    ensures value { Gives (λ e. e) result (spec.insert_of (members_view members.now.entries) (view v.now)).first }
+fn insert_of(
+    alloc: Global,
+    version: Version,
+    members: &Map<String, Value>,
+    v: &Value,
+) -> Result<Edit, Refusal>
+    ensures value { Gives (λ e. e) result
+        (spec.insert_of version (members_view members.now.entries) (view v.now)).first }
     ensures fits { IfOk result (λ e. FitsEdit e) }
+    ensures had { IfOk result (λ e. HasEdit (number_of version) e) }
 {
     known(members, &["do", "id", "parent", "before", "rect", "style"])?;
     let standing = standing_of(alloc, v)?;
     let rect = rect_at(v)?;
-    let style = style_at(v)?;
+    let style = style_at(version, v)?;
     Ok(Edit::Insert {
         id: standing.id,
         parent: standing.parent,
@@ -98,6 +107,7 @@ fn insert_of(alloc: Global, members: &Map<String, Value>, v: &Value) -> Result<E
 fn remove_of(alloc: Global, members: &Map<String, Value>, v: &Value) -> Result<Edit, Refusal>
     ensures value { Gives (λ e. e) result (spec.remove_of (members_view members.now.entries) (view v.now)).first }
     ensures fits { IfOk result (λ e. FitsEdit e) }
+    ensures had { (version : ℕ) → IfOk result (λ e. HasEdit version e) }
 {
     known(members, &["do", "id"])?;
     let id = id_at(alloc, v, "id")?;
@@ -109,6 +119,7 @@ fn remove_of(alloc: Global, members: &Map<String, Value>, v: &Value) -> Result<E
 fn move_of(alloc: Global, members: &Map<String, Value>, v: &Value) -> Result<Edit, Refusal>
     ensures value { Gives (λ e. e) result (spec.move_of (members_view members.now.entries) (view v.now)).first }
     ensures fits { IfOk result (λ e. FitsEdit e) }
+    ensures had { (version : ℕ) → IfOk result (λ e. HasEdit version e) }
 {
     known(members, &["do", "id", "parent", "before"])?;
     let standing = standing_of(alloc, v)?;
@@ -119,23 +130,31 @@ fn move_of(alloc: Global, members: &Map<String, Value>, v: &Value) -> Result<Edi
     })
 }
 
-fn change_at(v: &Value) -> Result<StyleChange, Why>
-    ensures value { result ≡ (spec.change_at (view v.now)).first }
+fn change_at(version: Version, v: &Value) -> Result<StyleChange, Why>
+    ensures value { result ≡ (spec.change_at version (view v.now)).first }
     ensures fits { IfOk result (λ c. Fits (changed plain c)) }
+    ensures had { IfOk result (λ c. HasChange (number_of version) c) }
 {
     let style = needed(v, "style")?;
-    change_of(style)
+    change_of(version, style)
 }
 
 /// A change of style: an id and the members of the style that are named.
 #[tactic(auto, unfolding(crate::specs::Edits::set_style_of))]
-fn set_style_of(alloc: Global, members: &Map<String, Value>, v: &Value) -> Result<Edit, Refusal>
-    ensures value { Gives (λ e. e) result (spec.set_style_of (members_view members.now.entries) (view v.now)).first }
+fn set_style_of(
+    alloc: Global,
+    version: Version,
+    members: &Map<String, Value>,
+    v: &Value,
+) -> Result<Edit, Refusal>
+    ensures value { Gives (λ e. e) result
+        (spec.set_style_of version (members_view members.now.entries) (view v.now)).first }
     ensures fits { IfOk result (λ e. FitsEdit e) }
+    ensures had { IfOk result (λ e. HasEdit (number_of version) e) }
 {
     known(members, &["do", "id", "style"])?;
     let id = id_at(alloc, v, "id")?;
-    let change = change_at(v)?;
+    let change = change_at(version, v)?;
     Ok(Edit::SetStyle { id, change })
 }
 
@@ -144,6 +163,7 @@ fn set_style_of(alloc: Global, members: &Map<String, Value>, v: &Value) -> Resul
 fn set_rect_of(alloc: Global, members: &Map<String, Value>, v: &Value) -> Result<Edit, Refusal>
     ensures value { Gives (λ e. e) result (spec.set_rect_of (members_view members.now.entries) (view v.now)).first }
     ensures fits { IfOk result (λ e. FitsEdit e) }
+    ensures had { (version : ℕ) → IfOk result (λ e. HasEdit version e) }
 {
     known(members, &["do", "id", "rect"])?;
     let id = id_at(alloc, v, "id")?;
@@ -165,6 +185,7 @@ fn distance_at(v: &Value, name: &str) -> Result<i32, Why>
 fn shift_of(alloc: Global, members: &Map<String, Value>, v: &Value) -> Result<Edit, Refusal>
     ensures value { Gives (λ e. e) result (spec.shift_of (members_view members.now.entries) (view v.now)).first }
     ensures fits { IfOk result (λ e. FitsEdit e) }
+    ensures had { (version : ℕ) → IfOk result (λ e. HasEdit version e) }
 {
     known(members, &["do", "id", "dx", "dy"])?;
     let id = id_at(alloc, v, "id")?;
@@ -177,19 +198,21 @@ fn shift_of(alloc: Global, members: &Map<String, Value>, v: &Value) -> Result<Ed
 #[tactic(auto, unfolding(crate::specs::Edits::edit_named))]
 pub(crate) fn edit_named(
     alloc: Global,
+    version: Version,
     word: &str,
     members: &Map<String, Value>,
     v: &Value,
 ) -> Result<Edit, Refusal>
     ensures value { Gives (λ e. e) result
-        (spec.edit_named word.now (members_view members.now.entries) (view v.now)).first }
+        (spec.edit_named version word.now (members_view members.now.entries) (view v.now)).first }
     ensures fits { IfOk result (λ e. FitsEdit e) }
+    ensures had { IfOk result (λ e. HasEdit (number_of version) e) }
 {
     match word {
-        "insert" => insert_of(alloc, members, v),
+        "insert" => insert_of(alloc, version, members, v),
         "remove" => remove_of(alloc, members, v),
         "move" => move_of(alloc, members, v),
-        "style" => set_style_of(alloc, members, v),
+        "style" => set_style_of(alloc, version, members, v),
         "rect" => set_rect_of(alloc, members, v),
         "shift" => shift_of(alloc, members, v),
         _ => Err(Refusal::Rule(Why::Command)),

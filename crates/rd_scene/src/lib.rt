@@ -18,6 +18,7 @@ mod rects;
 mod script;
 mod styles;
 mod types;
+mod version;
 mod writing;
 
 pub use fault::{Place, SceneFault, Why};

@@ -1,7 +1,7 @@
 //! Reads a script.
 
 ghost use Rattle.std.specs.Prelude.{◌≡◌, ◌≤◌, true, [], length, All, IfOk, IsErrOf};
-ghost use Rattle.serde_json.specs.View.{view};
+ghost use Rattle.serde_json.specs.View.{view, members_view};
 ghost use Rattle.rd_geom.specs.Canvas.{IsCanvas};
 ghost use Rattle.rd_tree.specs.declared.limits.TheConstants.{MAX_BOXES};
 ghost use Rattle.rd_scene.specs.declared.script.TheConstants.{MAX_COMMANDS};
@@ -12,9 +12,10 @@ ghost use Rattle.rd_scene.specs.Order.{are_in_order};
 ghost use Rattle.rd_scene.specs.Reading.{Reads, HasNoReading, IsOffForm, IsScriptText};
 ghost use Rattle.rd_scene.specs.Scripts as spec;
 ghost use Rattle.rd_scene.specs.Scripts.{IsScript, FitsBox};
+ghost use Rattle.rd_scene.specs.Versions.{number_of, HasBox, HasCommand};
+ghost use Rattle.rd_scene.specs.Members.{members as object_members};
+ghost use Rattle.rd_scene.specs.Places.{at};
 ghost use Rattle.rd_scene.specs.Internal.Gives.{GivesAt};
-ghost use Rattle.rd_scene.specs.Internal.Heads as heads;
-ghost use Rattle.rd_scene.specs.Internal.Heads.{script_on};
 
 use crate::boxes::boxes_of;
 use crate::commands::commands_of;
@@ -22,9 +23,10 @@ use crate::fault::{Place, SceneFault, Why};
 use crate::members::{counted, elements_at, known, members, needed, number, take_elements};
 use crate::rects::canvas_of;
 use crate::script::{Command, MAX_COMMANDS, SceneBox, Script};
+use crate::version::Version;
 use rd_geom::Size;
 use rd_tree::MAX_BOXES;
-use serde_json::Value;
+use serde_json::{Map, Value};
 use std::alloc::Global;
 
 /// The fault where a rule of the top object is broken.
@@ -47,24 +49,31 @@ fn in_canvas(why: Why) -> SceneFault
     }
 }
 
-/// The value is an object of a script's members.
-fn known_at(v: &Value) -> Result<(), SceneFault>
-    ensures { GivesAt (λ u. u) result (spec.known_at (view v.now)).first }
+/// The members of the value, which is an object.
+fn members_at(v: &Value) -> Result<&Map<String, Value>, SceneFault>
+    ensures { GivesAt (λ m. members_view m.now.entries) result (at place.Top (object_members (view v.now))).first }
 {
-    let members = members(v).map_err(in_top)?;
+    members(v).map_err(in_top)
+}
+
+/// There are no other members than a script's.
+fn known_at(members: &Map<String, Value>) -> Result<(), SceneFault>
+    ensures { GivesAt (λ u. u) result (spec.known_at (members_view members.now.entries)).first }
+{
     known(members, &["version", "canvas", "boxes", "script"]).map_err(in_top)
 }
 
-/// It is of version 1.
-fn version_of(v: &Value) -> Result<i32, Why>
+/// Version 1 or 2.
+fn version_of(v: &Value) -> Result<Version, Why>
     ensures { result ≡ (spec.version_of (view v.now)).first }
 {
     let version = needed(v, "version")?;
-    number(1, 1, version)
+    let z = number(1, 2, version)?;
+    Ok(if z <= 1 { Version::One } else { Version::Two })
 }
 
-fn version_at(v: &Value) -> Result<i32, SceneFault>
-    ensures { GivesAt (λ z. z) result (spec.version_at (view v.now)).first }
+fn version_at(v: &Value) -> Result<Version, SceneFault>
+    ensures { GivesAt (λ v. v) result (spec.version_at (view v.now)).first }
 {
     version_of(v).map_err(in_top)
 }
@@ -78,38 +87,46 @@ fn canvas_at(v: &Value) -> Result<Size, SceneFault>
 }
 
 #[tactic(auto, using(crate::proofs::Items::items))]
-fn boxes_at(alloc: Global, v: &Value) -> Result<Vec<SceneBox>, SceneFault>
-    ensures value { GivesAt (λ v. v.items) result (spec.boxes_at (view v.now)).first }
+fn boxes_at(alloc: Global, version: Version, v: &Value) -> Result<Vec<SceneBox>, SceneFault>
+    ensures value { GivesAt (λ v. v.items) result (spec.boxes_at version (view v.now)).first }
     ensures some { IfOk result (λ v. 1 ≤ length v.items) }
     ensures most { IfOk result (λ v. length v.items ≤ MAX_BOXES) }
     ensures order { IfOk result (λ v. are_in_order [] v.items ≡ true) }
     ensures fits { IfOk result (λ v. All FitsBox v.items) }
+    ensures had { IfOk result (λ v. All (HasBox (number_of version)) v.items) }
 {
     let list = elements_at(v, "boxes").map_err(in_top)?;
     counted(1, MAX_BOXES as usize, list.len()).map_err(in_top)?;
-    boxes_of(alloc, list)
+    boxes_of(alloc, version, list)
 }
 
 /// The commands; the value goes as they are read.
 #[tactic(auto, using(crate::proofs::Items::items))]
-fn commands_at(alloc: Global, v: Value) -> Result<Vec<Command>, SceneFault>
-    ensures value { GivesAt (λ v. v.items) result (spec.commands_at (view v)).first }
+fn commands_at(alloc: Global, version: Version, v: Value) -> Result<Vec<Command>, SceneFault>
+    ensures value { GivesAt (λ v. v.items) result (spec.commands_at version (view v)).first }
     ensures few { IfOk result (λ v. length v.items ≤ MAX_COMMANDS) }
     ensures fits { IfOk result (λ v. All FitsCommand v.items) }
+    ensures had { IfOk result (λ v. All (HasCommand (number_of version)) v.items) }
 {
     let list = take_elements(v, "script").map_err(in_top)?;
     counted(0, MAX_COMMANDS, list.len()).map_err(in_top)?;
-    commands_of(alloc, list)
+    commands_of(alloc, version, list)
 }
 
-/// The canvas of an object of a script's members, of version 1.
-fn head_of(v: &Value) -> Result<Size, SceneFault>
-    ensures value { GivesAt script_on result (heads.head_of (view v.now)).first }
-    ensures canvas { IfOk result (λ s. IsCanvas s) }
+/// What stands in a script object of this version. The value goes as it is read.
+#[tactic(auto, unfolding(crate::specs::Scripts::script_at, crate::specs::Scripts::IsOfVersion))]
+fn script_at(alloc: Global, version: Version, v: Value) -> Result<Script, SceneFault>
+    ensures { GivesAt (λ s. s) result (spec.script_at version (view v)).first }
 {
-    known_at(v)?;
-    version_at(v)?;
-    canvas_at(v)
+    let canvas = canvas_at(&v)?;
+    let boxes = boxes_at(alloc, version, &v)?;
+    let commands = commands_at(alloc, version, v)?;
+    Ok(Script {
+        version: version.number(),
+        canvas,
+        boxes,
+        commands,
+    })
 }
 
 /// The script that a value is. The value goes as it is read.
@@ -117,14 +134,10 @@ fn head_of(v: &Value) -> Result<Size, SceneFault>
 fn script_of(alloc: Global, v: Value) -> Result<Script, SceneFault>
     ensures { GivesAt (λ s. s) result (spec.reading_of (view v)).first }
 {
-    let canvas = head_of(&v)?;
-    let boxes = boxes_at(alloc, &v)?;
-    let commands = commands_at(alloc, v)?;
-    Ok(Script {
-        canvas,
-        boxes,
-        commands,
-    })
+    let members = members_at(&v)?;
+    known_at(members)?;
+    let version = version_at(&v)?;
+    script_at(alloc, version, v)
 }
 
 /// The JSON value of the bytes.

@@ -38,12 +38,15 @@ pub enum Command {
     Shot,
 }
 
-/// A scene and what is done to it. Contracts see a script that keeps the rules of the format: a canvas of 1 to 4,096
-/// pixels each way; 1 to 20,000 boxes with ids of their own, each after its parent and at most 256 deep, within the limits
-/// of rectangles and widths; at most [`MAX_COMMANDS`] commands,
-/// whose rectangles, widths, distances and pixels are within the limits.
+/// A scene and what is done to it. Contracts see a script that keeps the rules of the format: version 1 or 2; a canvas of
+/// 1 to 4,096 pixels each way; 1 to 20,000 boxes with ids of their own, each after its parent and at most 256 deep, within
+/// the limits of rectangles and widths; at most [`MAX_COMMANDS`] commands, whose rectangles, widths, distances and pixels
+/// are within the limits. In version 1 every box and every box that is put in has normal blend mode and isolation auto,
+/// and no change of style names these two.
 #[derive(Drop)]
 pub struct Script {
+    /// The version of the format that it is written in.
+    pub version: u8,
     pub canvas: Size,
     pub boxes: Vec<SceneBox>,
     pub commands: Vec<Command>,
@@ -54,7 +57,7 @@ impl Model for Script {
 
     ghost Value = { spec.Script };
 
-    ghost view = { λ s. record { canvas = s.canvas; boxes = s.boxes.items; commands = s.commands.items } };
+    ghost view = { λ s. record { version = s.version; canvas = s.canvas; boxes = s.boxes.items; commands = s.commands.items } };
 
-    ghost invariant = { λ s. spec.IsScript (record { canvas = s.canvas; boxes = s.boxes.items; commands = s.commands.items }) };
+    ghost invariant = { λ s. spec.IsScript (record { version = s.version; canvas = s.canvas; boxes = s.boxes.items; commands = s.commands.items }) };
 }

@@ -1,13 +1,15 @@
 //! Styles as a script writes them.
 
 ghost use Rattle.std.specs.Prelude.{◌≡◌, ◌≤◌, codes, option_map, IfOk, IfSome};
-ghost use Rattle.serde_json.specs.View.{view};
+ghost use Rattle.serde_json.specs.View.{view, members_view};
 ghost use Rattle.serde_json.specs.Find.{as_str};
 ghost use Rattle.rd_style.specs.Changes.{plain, changed};
 ghost use Rattle.rd_style.specs.Limits.{Fits};
 ghost use Rattle.rd_style.specs.declared.limits.TheConstants.{MAX_LINE_WIDTH};
 ghost use Rattle.rd_scene.specs.Members.{optional, if_given};
+ghost use Rattle.rd_scene.specs.Members.{known as known_names};
 ghost use Rattle.rd_scene.specs.Styles as spec;
+ghost use Rattle.rd_scene.specs.Versions.{number_of, HasStyle, HasChange};
 ghost use Rattle.rd_scene.specs.Colors as colors;
 ghost use Rattle.rd_scene.specs.Rects as rects;
 ghost use Rattle.rd_scene.specs.Internal.Widths.{AreWidths};
@@ -16,11 +18,13 @@ use crate::colors::{color_of, content_of};
 use crate::fault::Why;
 use crate::members::{known, member, members, number, string};
 use crate::rects::{outline_width_of, sides_of};
-use rd_geom::{Color, Sides};
+use crate::version::Version;
+use rd_geom::{Blend, Color, Sides};
 use rd_style::{
-    Display, Floating, Overflow, Pointer, Position, Style, StyleChange, Visibility, changed,
+    Display, Floating, Isolation, Overflow, Pointer, Position, Style, StyleChange, Visibility,
+    changed,
 };
-use serde_json::Value;
+use serde_json::{Map, Value};
 
 fn position_of(v: &Value) -> Result<Position, Why>
     ensures { result ≡ (spec.position_of (view v.now)).first }
@@ -115,6 +119,29 @@ fn pointer_of(v: &Value) -> Result<Pointer, Why>
     }
 }
 
+fn blend_of(v: &Value) -> Result<Blend, Why>
+    ensures { result ≡ (spec.blend_of (view v.now)).first }
+{
+    match string(v)? {
+        "normal" => Ok(Blend::Normal),
+        "multiply" => Ok(Blend::Multiply),
+        "screen" => Ok(Blend::Screen),
+        "darken" => Ok(Blend::Darken),
+        "lighten" => Ok(Blend::Lighten),
+        _ => Err(Why::Kind),
+    }
+}
+
+fn isolation_of(v: &Value) -> Result<Isolation, Why>
+    ensures { result ≡ (spec.isolation_of (view v.now)).first }
+{
+    match string(v)? {
+        "auto" => Ok(Isolation::Auto),
+        "isolate" => Ok(Isolation::Isolate),
+        _ => Err(Why::Kind),
+    }
+}
+
 fn position_at(v: &Value) -> Result<Option<Position>, Why>
     ensures { result ≡ (if_given spec.position_of (codes "position") (view v.now)).first }
 {
@@ -189,6 +216,18 @@ fn pointer_at(v: &Value) -> Result<Option<Pointer>, Why>
     member(v, "pointer-events").map(pointer_of).transpose()
 }
 
+fn blend_at(v: &Value) -> Result<Option<Blend>, Why>
+    ensures { result ≡ (if_given spec.blend_of (codes "mix-blend-mode") (view v.now)).first }
+{
+    member(v, "mix-blend-mode").map(blend_of).transpose()
+}
+
+fn isolation_at(v: &Value) -> Result<Option<Isolation>, Why>
+    ensures { result ≡ (if_given spec.isolation_of (codes "isolation") (view v.now)).first }
+{
+    member(v, "isolation").map(isolation_of).transpose()
+}
+
 /// A change that names these members, which place a box.
 #[tactic(auto, unfolding(crate::specs::Styles::placing))]
 fn placing(
@@ -235,15 +274,28 @@ fn painting(
     }
 }
 
-/// What the first change names of placing, the second of painting, and these two members.
+/// A change that names these members, which blend a box.
+#[tactic(auto, unfolding(crate::specs::Styles::blending))]
+fn blending(blend: Option<Blend>, isolation: Option<Isolation>) -> StyleChange
+    ensures { result ≡ spec.blending blend isolation }
+{
+    StyleChange {
+        blend,
+        isolation,
+        ..StyleChange::none()
+    }
+}
+
+/// What the first change names of placing, the second of painting, these two members, and what the last names of blending.
 #[tactic(auto, unfolding(crate::specs::Styles::joined))]
 fn joined(
     c: StyleChange,
     p: StyleChange,
     visibility: Option<Visibility>,
     pointer: Option<Pointer>,
+    b: StyleChange,
 ) -> StyleChange
-    ensures { result ≡ spec.joined c p visibility pointer }
+    ensures { result ≡ spec.joined c p visibility pointer b }
 {
     StyleChange {
         background: p.background,
@@ -254,6 +306,8 @@ fn joined(
         outline_color: p.outline_color,
         visibility,
         pointer,
+        blend: b.blend,
+        isolation: b.isolation,
         ..c
     }
 }
@@ -294,7 +348,23 @@ fn painting_of(v: &Value) -> Result<StyleChange, Why>
     ))
 }
 
-const NAMES: [&str; 14] = [
+/// The members that blend a box, which the first version has not.
+#[tactic(auto, unfolding(crate::specs::Styles::blending_of))]
+fn blending_of(version: Version, v: &Value) -> Result<StyleChange, Why>
+    ensures value { result ≡ (spec.blending_of version (view v.now)).first }
+    ensures had { IfOk result (λ c. HasChange (number_of version) c) }
+{
+    match version {
+        Version::One => Ok(StyleChange::none()),
+        Version::Two => {
+            let blend = blend_at(v)?;
+            let isolation = isolation_at(v)?;
+            Ok(blending(blend, isolation))
+        }
+    }
+}
+
+const NAMES: [&str; 16] = [
     "position",
     "z-index",
     "opacity",
@@ -309,47 +379,65 @@ const NAMES: [&str; 14] = [
     "outline-color",
     "visibility",
     "pointer-events",
+    "mix-blend-mode",
+    "isolation",
 ];
 
+/// No member has another name than those of a style.
+fn style_known(version: Version, members: &Map<String, Value>) -> Result<(), Why>
+    ensures { result ≡ (known_names (spec.style_names version) (members_view members.now.entries)).first }
+{
+    match version {
+        Version::One => known(members, &NAMES[..14]),
+        Version::Two => known(members, &NAMES),
+    }
+}
+
 /// The members of a style object, of which each may be absent.
-#[tactic(auto, unfolding(crate::specs::Styles::change_of), using(crate::proofs::Limits::joined_fits))]
-pub(crate) fn change_of(v: &Value) -> Result<StyleChange, Why>
-    ensures value { result ≡ (spec.change_of (view v.now)).first }
+#[tactic(auto, unfolding(crate::specs::Styles::change_of), using(crate::proofs::Limits::joined_fits, crate::proofs::Limits::joined_had))]
+pub(crate) fn change_of(version: Version, v: &Value) -> Result<StyleChange, Why>
+    ensures value { result ≡ (spec.change_of version (view v.now)).first }
     ensures fits { IfOk result (λ c. Fits (changed plain c)) }
+    ensures had { IfOk result (λ c. HasChange (number_of version) c) }
 {
     let members = members(v)?;
-    known(members, &NAMES)?;
+    style_known(version, members)?;
     let places = placing_of(v)?;
     let paints = painting_of(v)?;
     let visibility = visibility_at(v)?;
     let pointer = pointer_at(v)?;
-    Ok(joined(places, paints, visibility, pointer))
+    let blends = blending_of(version, v)?;
+    Ok(joined(places, paints, visibility, pointer, blends))
 }
 
-fn style_of(v: &Value) -> Result<Style, Why>
-    ensures value { result ≡ (spec.style_of (view v.now)).first }
+#[tactic(auto, using(crate::proofs::Limits::changed_had))]
+fn style_of(version: Version, v: &Value) -> Result<Style, Why>
+    ensures value { result ≡ (spec.style_of version (view v.now)).first }
     ensures fits { IfOk result (λ s. Fits s) }
+    ensures had { IfOk result (λ s. HasStyle (number_of version) s) }
 {
-    let change = change_of(v)?;
+    let change = change_of(version, v)?;
     Ok(changed(&Style::plain(), &change))
 }
 
 /// The style that a member gives; without it, the default style.
-#[tactic(auto, using(crate::proofs::Limits::plain_fits))]
-fn style_or_plain(v: Option<&Value>) -> Result<Style, Why>
-    ensures value { result ≡ (spec.style_or_plain (option_map (λ v. view v.now) v.entry)).first }
+#[tactic(auto, using(crate::proofs::Limits::plain_fits, crate::proofs::Limits::plain_had))]
+fn style_or_plain(version: Version, v: Option<&Value>) -> Result<Style, Why>
+    ensures value { result ≡ (spec.style_or_plain version (option_map (λ v. view v.now) v.entry)).first }
     ensures fits { IfOk result (λ s. Fits s) }
+    ensures had { IfOk result (λ s. HasStyle (number_of version) s) }
 {
     match v {
-        Some(v) => style_of(v),
+        Some(v) => style_of(version, v),
         None => Ok(Style::plain()),
     }
 }
 
 /// The style of a box or an insertion.
-pub(crate) fn style_at(v: &Value) -> Result<Style, Why>
-    ensures value { result ≡ (spec.style_at (view v.now)).first }
+pub(crate) fn style_at(version: Version, v: &Value) -> Result<Style, Why>
+    ensures value { result ≡ (spec.style_at version (view v.now)).first }
     ensures fits { IfOk result (λ s. Fits s) }
+    ensures had { IfOk result (λ s. HasStyle (number_of version) s) }
 {
-    style_or_plain(member(v, "style"))
+    style_or_plain(version, member(v, "style"))
 }

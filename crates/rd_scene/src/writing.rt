@@ -11,14 +11,16 @@ ghost use Rattle.rd_scene.specs.Reading.{Reads, IsScriptText};
 ghost use Rattle.rd_scene.specs.Writing as spec;
 
 use crate::differing::{
-    differing, display_word, float_word, overflow_word, pointer_word, position_word,
-    visibility_word,
+    blend_word, differing, display_word, float_word, isolation_word, overflow_word, pointer_word,
+    position_word, visibility_word,
 };
 use crate::script::{Command, SceneBox, Script};
 use crate::types;
 use rd_edits::Edit;
-use rd_geom::{Color, NoMemory, Rect, Sides, Size};
-use rd_style::{Display, Floating, Overflow, Pointer, Position, Style, StyleChange, Visibility};
+use rd_geom::{Blend, Color, NoMemory, Rect, Sides, Size};
+use rd_style::{
+    Display, Floating, Isolation, Overflow, Pointer, Position, Style, StyleChange, Visibility,
+};
 use rd_tree::Id;
 use serde_json::{Map, Value, json, put};
 use std::alloc::{AllocError, Global};
@@ -218,6 +220,46 @@ fn add_pointer(
     }
 }
 
+fn add_blend(
+    alloc: Global,
+    map: &mut Map<String, Value>,
+    value: Option<Blend>,
+) -> Result<(), AllocError>
+    ensures { OnOk result (members_view map.new.entries
+        ≡ spec.with_given (codes "mix-blend-mode") (option_map (λ w. string (spec.blend_word w)) value)
+        (members_view map.old.entries)) }
+{
+    match value {
+        Some(value) => put(
+            map,
+            alloc,
+            "mix-blend-mode",
+            Value::try_from_str(alloc, blend_word(value))?,
+        ),
+        None => Ok(()),
+    }
+}
+
+fn add_isolation(
+    alloc: Global,
+    map: &mut Map<String, Value>,
+    value: Option<Isolation>,
+) -> Result<(), AllocError>
+    ensures { OnOk result (members_view map.new.entries
+        ≡ spec.with_given (codes "isolation") (option_map (λ w. string (spec.isolation_word w)) value)
+        (members_view map.old.entries)) }
+{
+    match value {
+        Some(value) => put(
+            map,
+            alloc,
+            "isolation",
+            Value::try_from_str(alloc, isolation_word(value))?,
+        ),
+        None => Ok(()),
+    }
+}
+
 /// A member with this number, where there is one.
 fn add_number(
     alloc: Global,
@@ -336,6 +378,19 @@ fn add_painting(
     add_number(alloc, map, "outline-width", c.outline_width)
 }
 
+/// The members that blend a box.
+#[tactic(auto, unfolding(crate::specs::Writing::with_blending))]
+fn add_blending(
+    alloc: Global,
+    map: &mut Map<String, Value>,
+    c: &StyleChange,
+) -> Result<(), AllocError>
+    ensures { OnOk result (members_view map.new.entries ≡ spec.with_blending c.now (members_view map.old.entries)) }
+{
+    add_isolation(alloc, map, c.isolation)?;
+    add_blend(alloc, map, c.blend)
+}
+
 /// A style object of the members that a change names.
 #[tactic(auto, unfolding(crate::specs::Writing::change_value))]
 fn change_value(alloc: Global, c: &StyleChange) -> Result<Value, AllocError>
@@ -346,6 +401,7 @@ fn change_value(alloc: Global, c: &StyleChange) -> Result<Value, AllocError>
     add_painting(alloc, &mut map, c)?;
     add_pointer(alloc, &mut map, c.pointer)?;
     add_visibility(alloc, &mut map, c.visibility)?;
+    add_blending(alloc, &mut map, c)?;
     Ok(Value::Object(map))
 }
 
@@ -617,12 +673,12 @@ fn canvas_value(alloc: Global, size: Size) -> Result<Value, AllocError>
     json!(in alloc; {"w": size.w, "h": size.h})
 }
 
-/// The member `version`, which is 1.
-fn add_version(alloc: Global, map: &mut Map<String, Value>) -> Result<(), AllocError>
+/// The member `version`.
+fn add_version(alloc: Global, map: &mut Map<String, Value>, version: u8) -> Result<(), AllocError>
     ensures { OnOk result (members_view map.new.entries
-        ≡ json_data.put (codes "version") (number (unsigned 1)) (members_view map.old.entries)) }
+        ≡ json_data.put (codes "version") (number (unsigned version)) (members_view map.old.entries)) }
 {
-    put(map, alloc, "version", Value::from(1u32))
+    put(map, alloc, "version", Value::from(version))
 }
 
 /// The member `canvas`.
@@ -672,7 +728,7 @@ fn scene_value(alloc: Global, script: &Script) -> Result<Value, AllocError>
     ensures { IfOk result (λ v. view v ≡ spec.scene_value script.now) }
 {
     let mut map = Map::new(alloc);
-    add_version(alloc, &mut map)?;
+    add_version(alloc, &mut map, script.version)?;
     add_canvas(alloc, &mut map, script.canvas)?;
     add_boxes(alloc, &mut map, &script.boxes)?;
     add_commands(alloc, &mut map, &script.commands)?;

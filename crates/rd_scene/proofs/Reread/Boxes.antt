@@ -8,6 +8,7 @@ use Rattle.rd_scene.specs.declared.fault.Why.{Why}
 use Rattle.rd_scene.specs.declared.fault.Why.TheVariants as why
 use Rattle.rd_scene.specs.declared.fault.Place.TheVariants as place
 use Rattle.rd_scene.specs.declared.script.SceneBox.{SceneBox}
+use Rattle.rd_scene.specs.declared.version.Version.{Version}
 use Rattle.rd_scene.specs.Boxes.{an_id, new_id, name_of, depth_under, box_of, with_box, next_box, boxes_from}
 use Rattle.rd_scene.specs.Canonical.{IsId, IsIdOrNone, IsBox}
 use Rattle.rd_scene.specs.Checked.{Checked, rule, good, value, ◌>>=◌}
@@ -15,6 +16,7 @@ use Rattle.rd_scene.specs.Members.{there, holds}
 use Rattle.rd_scene.specs.Order.{depth_of, is_first, has_level_below, has_place, are_in_order}
 use Rattle.rd_scene.specs.Places.{at}
 use Rattle.rd_scene.specs.Scripts.{FitsBox}
+use Rattle.rd_scene.specs.Versions.{number_of, HasBox}
 use Rattle.rd_scene.specs.Writing.{id_value, box_value}
 use Rattle.rd_scene.proofs.Reread.Members.{left_true, right_true}
 use Rattle.rd_scene.proofs.Reread.Values.{start, ◌⊗◌, names_read, next_read, rect_read}
@@ -54,30 +56,32 @@ parent_read (b ∷ before) (Some p) t h =
     (next_read (an_id why.Parent p) (λ id. good (Some id)) p (Some p) (id_read why.Parent p t) refl)
     (under_read (depth_of p (b ∷ before)) (Some p) h)
 
-box_read : (before : List SceneBox) (b : SceneBox) → IsBox b → FitsBox b → is_none (depth_of b.id before) ≡ true
-    → has_place before b.parent ≡ true
-    → next_box before (box_value b) ≡ good b
+box_read : (version : Version) (before : List SceneBox) (b : SceneBox) → IsBox b → FitsBox b → HasBox (number_of version) b
+    → is_none (depth_of b.id before) ≡ true → has_place before b.parent ≡ true
+    → next_box version before (box_value b) ≡ good b
 unfolding box_of box_value
-box_read before b t f fresh stands =
+box_read version before b t f v fresh stands =
     names_read (λ _ id parent rect style. record { id = id; parent = parent; rect = rect; style = style })
     ⊗ new_id_read (λ id. depth_of id before) b.id t.id fresh
     ⊗ parent_read before b.parent t.parent stands
     ⊗ rect_read b.rect f.rect
-    ⊗ style_read b.style t.style f.style
+    ⊗ style_read version b.style t.style f.style v
 
-pub boxes_read : (i : ℕ) (before bs : List SceneBox) → All IsBox bs → All FitsBox bs → are_in_order before bs ≡ true
-    → boxes_from i before (items_of (map box_value bs)) ≡ good bs
+pub boxes_read : (version : Version) (i : ℕ) (before bs : List SceneBox) → All IsBox bs → All FitsBox bs
+    → All (HasBox (number_of version)) bs → are_in_order before bs ≡ true
+    → boxes_from version i before (items_of (map box_value bs)) ≡ good bs
 unfolding boxes_from
-boxes_read i before [] t f h = refl
-boxes_read i before (b ∷ bs) t f h =
+boxes_read version i before [] t f v h = refl
+boxes_read version i before (b ∷ bs) t f v h =
     let first = is_none (depth_of b.id before) && has_place before b.parent in
     let placed : first ≡ true = left_true _ (are_in_order (b ∷ before) bs) h in
     let fresh : is_none (depth_of b.id before) ≡ true = left_true _ (has_place before b.parent) placed in
     let stands : has_place before b.parent ≡ true = right_true (is_none (depth_of b.id before)) _ placed in
-    let here : next_box before (box_value b) ≡ good b =
-    box_read before b (All-head IsBox b bs t) (All-head FitsBox b bs f) fresh stands in
-    let step = λ (r : Checked Why SceneBox). boxes_from (i + 1) (with_box (value r) before)
+    let here : next_box version before (box_value b) ≡ good b =
+    box_read version before b (All-head IsBox b bs t) (All-head FitsBox b bs f) (All-head (HasBox (number_of version)) b bs v)
+    fresh stands in
+    let step = λ (r : Checked Why SceneBox). boxes_from version (i + 1) (with_box (value r) before)
     (items_of (map box_value bs)) in
     start ◌∷◌ ⊗ ap (at (place.Box i)) here
-    ⊗ (ap step here ∙ boxes_read (i + 1) (b ∷ before) bs (All-tail IsBox b bs t) (All-tail FitsBox b bs f)
-    (right_true first _ h))
+    ⊗ (ap step here ∙ boxes_read version (i + 1) (b ∷ before) bs (All-tail IsBox b bs t) (All-tail FitsBox b bs f)
+    (All-tail (HasBox (number_of version)) b bs v) (right_true first _ h))

@@ -6,6 +6,8 @@ use Rattle.serde_json.specs.Data.{Data, object, string, number, unsigned}
 use Rattle.serde_json.specs.Find.{get}
 use Rattle.rd_geom.specs.declared.color.Color.{Color}
 use Rattle.rd_geom.specs.declared.rect.Sides.{Sides}
+use Rattle.rd_geom.specs.declared.blend.Blend.{Blend}
+use Rattle.rd_geom.specs.declared.blend.Blend.TheVariants as blend
 use Rattle.rd_style.specs.Changes.{plain, changed, black, transparent}
 use Rattle.rd_style.specs.Limits.{Fits, fits}
 use Rattle.rd_style.specs.declared.limits.TheConstants.{MAX_LINE_WIDTH}
@@ -23,19 +25,24 @@ use Rattle.rd_style.specs.declared.kinds.Visibility.{Visibility}
 use Rattle.rd_style.specs.declared.kinds.Visibility.TheVariants as visibility
 use Rattle.rd_style.specs.declared.kinds.Pointer.{Pointer}
 use Rattle.rd_style.specs.declared.kinds.Pointer.TheVariants as pointer
+use Rattle.rd_style.specs.declared.kinds.Isolation.{Isolation}
+use Rattle.rd_style.specs.declared.kinds.Isolation.TheVariants as isolation
 use Rattle.rd_scene.specs.declared.fault.Why.{Why}
 use Rattle.rd_scene.specs.declared.fault.Why.TheVariants as why
+use Rattle.rd_scene.specs.declared.version.Version.{Version}
+use Rattle.rd_scene.specs.declared.version.Version.TheVariants.{One, Two}
 use Rattle.rd_scene.specs.Canonical.{IsChannel, IsColor, IsLevel, IsContent, IsStyle, IsChange}
 use Rattle.rd_scene.specs.Checked.{Checked, good}
 use Rattle.rd_scene.specs.Colors.{color_of, content_of}
-use Rattle.rd_scene.specs.Differing.{position_unless, overflow_unless, display_unless, float_unless, visibility_unless, pointer_unless, number_unless, color_unless, sides_unless, differing}
+use Rattle.rd_scene.specs.Differing.{position_unless, overflow_unless, display_unless, float_unless, visibility_unless, pointer_unless, blend_unless, isolation_unless, number_unless, color_unless, sides_unless, differing}
 use Rattle.rd_scene.specs.Members.{holds, known, optional, if_given}
 use Rattle.rd_scene.specs.Rects.{sides_of, outline_width_of}
-use Rattle.rd_scene.specs.Styles.{position_of, z_of, opacity_of, overflow_of, display_of, float_of, visibility_of, pointer_of, placing, painting, joined, placing_of, painting_of, style_names, change_of, style_of}
-use Rattle.rd_scene.specs.Writing.{z_value, color_value, content_value, sides_value, position_word, overflow_word, display_word, float_word, visibility_word, pointer_word, with_placing, with_painting, change_value, style_value}
+use Rattle.rd_scene.specs.Styles.{position_of, z_of, opacity_of, overflow_of, display_of, float_of, visibility_of, pointer_of, blend_of, isolation_of, placing, painting, blending, joined, placing_of, painting_of, blending_of, style_names, change_of, style_of}
+use Rattle.rd_scene.specs.Versions.{number_of, HasStyle, HasChange}
+use Rattle.rd_scene.specs.Writing.{z_value, color_value, content_value, sides_value, position_word, overflow_word, display_word, float_word, visibility_word, pointer_word, blend_word, isolation_word, with_placing, with_painting, with_blending, change_value, style_value}
 use Rattle.rd_scene.specs.Internal.Widths.{AreWidths}
 use Rattle.rd_scene.proofs.Reread.Members.{Field, built, known-built, get-built, left_true, right_true}
-use Rattle.rd_scene.proofs.Reread.Values.{start, ◌⊗◌, next_read, opacity_read, z_read, position_read, overflow_read, display_read, float_read, visibility_read, pointer_read, color_read, content_read, sides_read, outline_width_read}
+use Rattle.rd_scene.proofs.Reread.Values.{start, ◌⊗◌, next_read, opacity_read, z_read, position_read, overflow_read, display_read, float_read, visibility_read, pointer_read, blend_read, isolation_read, color_read, content_read, sides_read, outline_width_read}
 
 -- ---- members that may be absent
 
@@ -64,9 +71,9 @@ pub record Named (c : StyleChange) : Type 0 where
   pub sides : IfSome c.border_width AreWidths
   pub outline : IfSome c.outline_width (λ n. n ≤ MAX_LINE_WIDTH)
 
--- the members of a style object
-abbrev fields : StyleChange → List Field
-fields c =
+-- the members of a style object that both versions have
+abbrev first_fields : StyleChange → List Field
+first_fields c =
     (codes "visibility", option_map (λ v. string (visibility_word v)) c.visibility)
     ∷ (codes "pointer-events", option_map (λ p. string (pointer_word p)) c.pointer)
     ∷ (codes "outline-width", option_map (λ n. number (unsigned n)) c.outline_width)
@@ -82,12 +89,18 @@ fields c =
     ∷ (codes "float", option_map (λ f. string (float_word f)) c.float)
     ∷ (codes "display", option_map (λ d. string (display_word d)) c.display) ∷ []
 
+-- the members of a style object
+abbrev fields : StyleChange → List Field
+fields c =
+    (codes "mix-blend-mode", option_map (λ b. string (blend_word b)) c.blend)
+    ∷ (codes "isolation", option_map (λ i. string (isolation_word i)) c.isolation) ∷ first_fields c
+
 -- the same as a value
 style_object : StyleChange → Data
 style_object c = object (built (fields c))
 
 is_object : (c : StyleChange) → change_value c ≡ style_object c
-unfolding change_value with_placing with_painting style_object
+unfolding change_value with_placing with_painting with_blending style_object
 is_object c = refl
 
 position-get : (c : StyleChange)
@@ -156,6 +169,16 @@ pointer-get : (c : StyleChange)
 unfolding style_object
 pointer-get c = get-built (codes "pointer-events") (fields c) refl
 
+blend-get : (c : StyleChange)
+    → get (codes "mix-blend-mode") (style_object c) ≡ option_map (λ b. string (blend_word b)) c.blend
+unfolding style_object
+blend-get c = get-built (codes "mix-blend-mode") (fields c) refl
+
+isolation-get : (c : StyleChange)
+    → get (codes "isolation") (style_object c) ≡ option_map (λ i. string (isolation_word i)) c.isolation
+unfolding style_object
+isolation-get c = get-built (codes "isolation") (fields c) refl
+
 placing_read : (c : StyleChange) → Named c
     → placing_of (style_object c) ≡ good (placing c.position c.z c.opacity c.overflow c.display c.float)
 unfolding placing_of
@@ -188,26 +211,42 @@ painting_read c n =
     ⊗ given_read color_of color_value IsColor (codes "outline-color") (style_object c) c.outline_color
     (outline_color-get c) n.types.outline_color color_read
 
-names_read : (c : StyleChange) → known style_names (built (fields c)) ≡ good tt
-names_read c = ap (holds why.Unknown) (known-built style_names (fields c) refl)
+blending_read : (version : Version) (c : StyleChange) → HasChange (number_of version) c
+    → blending_of version (style_object c) ≡ good (blending c.blend c.isolation)
+unfolding blending_of blending
+blending_read One c h = rw ((h refl).blend, (h refl).isolation)
+blending_read Two c h =
+    start blending
+    ⊗ word_read blend_of blend_word (codes "mix-blend-mode") (style_object c) c.blend (blend-get c) blend_read
+    ⊗ word_read isolation_of isolation_word (codes "isolation") (style_object c) c.isolation
+    (isolation-get c) isolation_read
+
+names_read : (version : Version) (c : StyleChange) → HasChange (number_of version) c
+    → known (style_names version) (built (fields c)) ≡ good tt
+names_read One c h =
+    rw ((h refl).blend, (h refl).isolation) (ap (holds why.Unknown) (known-built (style_names One) (first_fields c) refl))
+names_read Two c h = ap (holds why.Unknown) (known-built (style_names Two) (fields c) refl)
 
 joined_read : (c : StyleChange) → joined (placing c.position c.z c.opacity c.overflow c.display c.float)
     (painting c.background c.border_width c.border_color c.content c.outline_width c.outline_color) c.visibility
-    c.pointer ≡ c
-unfolding joined placing painting
+    c.pointer (blending c.blend c.isolation) ≡ c
+unfolding joined placing painting blending
 joined_read c = refl
 
-object_read : (c : StyleChange) → Named c → change_of (style_object c) ≡ good c
+object_read : (version : Version) (c : StyleChange) → Named c → HasChange (number_of version) c
+    → change_of version (style_object c) ≡ good c
 unfolding change_of style_object
-object_read c n =
-    (start (λ _ c p v h. joined c p v h) ⊗ names_read c ⊗ placing_read c n ⊗ painting_read c n
+object_read version c n h =
+    (start (λ _ c p v h b. joined c p v h b) ⊗ names_read version c h ⊗ placing_read c n ⊗ painting_read c n
     ⊗ word_read visibility_of visibility_word (codes "visibility") (style_object c) c.visibility
     (visibility-get c) visibility_read
-    ⊗ word_read pointer_of pointer_word (codes "pointer-events") (style_object c) c.pointer (pointer-get c) pointer_read)
+    ⊗ word_read pointer_of pointer_word (codes "pointer-events") (style_object c) c.pointer (pointer-get c) pointer_read
+    ⊗ blending_read version c h)
     ∙ ap good (joined_read c)
 
-pub change_read : (c : StyleChange) → Named c → change_of (change_value c) ≡ good c
-change_read c n = ap change_of (is_object c) ∙ object_read c n
+pub change_read : (version : Version) (c : StyleChange) → Named c → HasChange (number_of version) c
+    → change_of version (change_value c) ≡ good c
+change_read version c n h = ap (change_of version) (is_object c) ∙ object_read version c n h
 
 -- ---- styles
 
@@ -241,6 +280,17 @@ visibility_back visibility.Collapse = refl
 pointer_back : (p : Pointer) → unwrap_or (pointer_unless p) pointer.Auto ≡ p
 pointer_back pointer.Auto = refl
 pointer_back pointer.Off = refl
+
+blend_back : (b : Blend) → unwrap_or (blend_unless b) blend.Normal ≡ b
+blend_back blend.Normal = refl
+blend_back blend.Multiply = refl
+blend_back blend.Screen = refl
+blend_back blend.Darken = refl
+blend_back blend.Lighten = refl
+
+isolation_back : (i : Isolation) → unwrap_or (isolation_unless i) isolation.Auto ≡ i
+isolation_back isolation.Auto = refl
+isolation_back isolation.Isolate = refl
 
 option_back : {X : Type 0} (o : Option X) → unwrap_or (option_map Some o) None ≡ o
 option_back None = refl
@@ -312,6 +362,8 @@ restored s = rw (
   color_back black s.outline_color,
   visibility_back s.visibility,
   pointer_back s.pointer,
+  blend_back s.blend,
+  isolation_back s.isolation,
 )
 
 unless_some : {X : Type 0} (P : X → Type 0) (b : Bool) (x : X) → P x → IfSome (if b then None else Some x) P
@@ -365,10 +417,17 @@ differing_named s t w = record {
   outline = unless_some (λ n. n ≤ MAX_LINE_WIDTH) _ s.outline_width w.outline;
 }
 
-pub style_read : (s : Style) → IsStyle s → Fits s → style_of (style_value s) ≡ good s
-style_read s t f =
+differing_had : (version : ℕ) (s : Style) → HasStyle version s → HasChange version (differing s)
+unfolding differing
+differing_had version s h =
+    λ e. record { blend = ap blend_unless (h e).blend; isolation = ap isolation_unless (h e).isolation }
+
+pub style_read : (version : Version) (s : Style) → IsStyle s → Fits s → HasStyle (number_of version) s
+    → style_of version (style_value s) ≡ good s
+style_read version s t f h =
     next_read _ (λ c. good (changed plain c)) (differing s) s
-    (change_read (differing s) (differing_named s t (within s f))) (ap good (restored s))
+    (change_read version (differing s) (differing_named s t (within s f)) (differing_had (number_of version) s h))
+    (ap good (restored s))
 
 named_or : {X : Type 0} (P : X → Type 0) (o : Option X) (d : X) → P (unwrap_or o d) → IfSome o P
 named_or P None d h = tt

@@ -8,6 +8,8 @@ use Rattle.serde_json.specs.Data.{number, unsigned, string}
 use Rattle.rd_geom.specs.Plane.{Rectangle}
 use Rattle.rd_geom.specs.declared.color.Color.{Color}
 use Rattle.rd_geom.specs.declared.rect.Sides.{Sides}
+use Rattle.rd_geom.specs.declared.blend.Blend.{Blend}
+use Rattle.rd_geom.specs.declared.blend.Blend.TheVariants as blend
 use Rattle.rd_style.specs.declared.limits.TheConstants.{MAX_COORDINATE, MAX_EXTENT, MAX_LINE_WIDTH}
 use Rattle.rd_style.specs.Limits.{is_between, FitsRect, fits_rect}
 use Rattle.rd_style.specs.declared.kinds.Position.{Position}
@@ -22,16 +24,18 @@ use Rattle.rd_style.specs.declared.kinds.Visibility.{Visibility}
 use Rattle.rd_style.specs.declared.kinds.Visibility.TheVariants as visibility
 use Rattle.rd_style.specs.declared.kinds.Pointer.{Pointer}
 use Rattle.rd_style.specs.declared.kinds.Pointer.TheVariants as pointer
+use Rattle.rd_style.specs.declared.kinds.Isolation.{Isolation}
+use Rattle.rd_style.specs.declared.kinds.Isolation.TheVariants as isolation
 use Rattle.rd_scene.specs.declared.fault.Why.TheVariants as why
 use Rattle.rd_scene.specs.Canonical.{IsColor, IsLevel, IsChannel, IsContent}
 use Rattle.rd_scene.specs.Checked.{Checked, good, rule, ◌⊛◌, ◌>>=◌}
 use Rattle.rd_scene.specs.Members.{there, whole_number, within, number as number_from}
 use Rattle.rd_scene.specs.Colors.{hex_digit, hex_byte, rgb, hashed, named_color, color_of, content_of}
 use Rattle.rd_scene.specs.Rects.{four_numbers, coordinate, extent, placed, rect_of, width, bordered, sides_of, outline_width_of}
-use Rattle.rd_scene.specs.Styles.{position_of, z_of, opacity_of, overflow_of, display_of, float_of, visibility_of, pointer_of}
+use Rattle.rd_scene.specs.Styles.{position_of, z_of, opacity_of, overflow_of, display_of, float_of, visibility_of, pointer_of, blend_of, isolation_of}
 use Rattle.rd_scene.specs.Internal.Widths.{AreWidths}
 use Rattle.rd_scene.proofs.Reread.Members.{left_true, right_true}
-use Rattle.rd_scene.specs.Writing.{number_value, hex, color_text, color_value, content_value, z_value, rect_value, sides_value, position_word, overflow_word, display_word, float_word, visibility_word, pointer_word}
+use Rattle.rd_scene.specs.Writing.{number_value, hex, color_text, color_value, content_value, z_value, rect_value, sides_value, position_word, overflow_word, display_word, float_word, visibility_word, pointer_word, blend_word, isolation_word}
 
 -- ---- rules that hold
 
@@ -115,6 +119,17 @@ visibility_read visibility.Collapse = refl
 pub pointer_read : (p : Pointer) → pointer_of (string (pointer_word p)) ≡ good p
 pointer_read pointer.Auto = refl
 pointer_read pointer.Off = refl
+
+pub blend_read : (b : Blend) → blend_of (string (blend_word b)) ≡ good b
+blend_read blend.Normal = refl
+blend_read blend.Multiply = refl
+blend_read blend.Screen = refl
+blend_read blend.Darken = refl
+blend_read blend.Lighten = refl
+
+pub isolation_read : (i : Isolation) → isolation_of (string (isolation_word i)) ≡ good i
+isolation_read isolation.Auto = refl
+isolation_read isolation.Isolate = refl
 
 -- ---- colours
 

@@ -1,11 +1,14 @@
 use Rattle.rd_tree.specs.Document.{Document, BoxForest}
 use Rattle.std.proofs.Common.{subst, reverse, ◌≡◌, ◌<◌, ◌+◌, ◌∙◌, ◌∷◌, ◌++◌, [], sym, ap, arith, length, take, drop}
 use Rattle.std.proofs.lemmas.List.{take_more}
+use Rattle.rd_tree.specs.Touching.{touch}
 use Rattle.rd_scene.specs.Order.{are_in_order}
+use Rattle.rd_scene.specs.Planting.{item_of}
+use Rattle.rd_scene.proofs.Growing.{grow}
 use Rattle.rd_scene.proofs.OrderLemmas.{before_more, next_box}
 use Rattle.rd_tree.proofs.Changing.NextKeys.{next-absent}
-use Rattle.rd_scene.proofs.Plants.{so_far, Stands, stands, not_first, known_parent, room_below, new_name, SameDepths, depths_grown, adds_push}
-use Rattle.rd_scene.proofs.Keyed.{added_is, added_well}
+use Rattle.rd_scene.proofs.Plants.{so_far, Stands, stands, not_first, known_parent, room_below, new_name, SameDepths, depths_grown, depths_marked, adds_push}
+use Rattle.rd_scene.proofs.Keyed.{regrouped, added_is, added_well}
 use Rattle.rd_scene.proofs.planting.add_all.Goals as goal
 
 pub add-requires-clause-parent : goal.add-requires-clause-parent
@@ -50,7 +53,8 @@ loop-b-preserved g c =
     record {
       added = rw taken (adds_push (take i bs) b _ _ _ c.loop-b.invariant.added adds);
       depths = rw more (subst (λ (f : BoxForest). SameDepths f (b ∷ before)) (sym (ap (λ (t : Document). t.boxes) (added_is b c.loop-b.tree _ c.loop-b.invariant.well adds)))
-          (depths_grown c.loop-b.tree.boxes before b adds.parent adds.key c.loop-b.invariant.depths (next-absent c.loop-b.tree adds.key c.loop-b.invariant.well.keyed adds.next) adds.parent_is s.free));
+          (depths_marked (regrouped b c.loop-b.tree _ adds) (grow adds.parent adds.key (touch (item_of b)) c.loop-b.tree.boxes) (b ∷ before)
+          (depths_grown c.loop-b.tree.boxes before b adds.parent adds.key c.loop-b.invariant.depths (next-absent c.loop-b.tree adds.key c.loop-b.invariant.well.keyed adds.next) adds.parent_is s.free)));
       order = rw more s.others;
       well = added_well b c.loop-b.tree _ c.loop-b.invariant.well adds;
       taken = c.in_ok-add.ensures.more ∙ ap (λ n. n + 1) c.loop-b.invariant.taken;
