@@ -4,7 +4,7 @@ use Rattle.rd_item.specs.Items.{Made}
 use Rattle.rd_list.specs.Wrappers.{Wrapper}
 use Rattle.rd_list.specs.Entries.{Entries, nil, leaf, group, flat}
 use Rattle.rd_tree.specs.Document.{BoxForest}
-use Rattle.rd_report.specs.Words.{line, id_text, part_text, shape_text, color_text, pointer_text}
+use Rattle.rd_report.specs.Words.{line, id_text, part_text, shape_text, color_text, mode_text, pointer_text}
 
 -- how many leaves and groups stand directly in a list
 abbrev pub width : {G L : Type 0} → Entries G L → ℕ
@@ -20,10 +20,11 @@ module _ (boxes : BoxForest) where
       ∷ shape_text i.leaf.visible i.leaf.shape ∷ color_text i.leaf.color ∷ pointer_text i.leaf.hits
       ∷ decimal i.made_at ∷ [])
 
-  -- a group below so many groups, with its opacity and the number of its own entries
+  -- a group below so many groups, with its opacity, the number of its own entries, and its blend mode where that is not normal
   abbrev pub group_line : ℕ → Wrapper → ℕ → List ℕ
   group_line depth g entries =
-      line (codes "group" ∷ decimal depth ∷ id_text g.key boxes ∷ decimal g.opacity ∷ decimal entries ∷ [])
+      line (codes "group" ∷ decimal depth ∷ id_text g.key boxes ∷ decimal g.opacity
+      ∷ (decimal entries ++ mode_text g.blend) ∷ [])
 
   -- a line for each entry in order, those of a group after the group's own
   abbrev pub lines : ℕ → Entries Wrapper Made → List ℕ

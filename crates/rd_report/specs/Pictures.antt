@@ -1,5 +1,5 @@
 -- Pictures as Netpbm P6 has them (the ppm format, "plain" P6 with 255 as its greatest value).
-use Rattle.std.specs.Prelude.{ℕ, zero, suc, ℤ, pos, ◌+◌, List, [], ◌∷◌, ◌++◌, codes, decimal}
+use Rattle.std.specs.Prelude.{ℕ, List, [], ◌∷◌, ◌++◌, codes, decimal}
 use Rattle.rd_geom.specs.Colors.{Premultiplied}
 
 -- red, green and blue of each pixel; a canvas is opaque, so that premultiplied channels are plain ones

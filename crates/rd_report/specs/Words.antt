@@ -3,6 +3,8 @@ use Rattle.std.specs.Prelude.{ℕ, ◌/◌, ◌%◌, List, [], ◌∷◌, ◌++�
 use Rattle.std.specs.Fmt.{signed_decimal, digit_glyph}
 use Rattle.std.specs.Option.{option_map_or}
 use Rattle.rd_geom.specs.Plane.{Rectangle}
+use Rattle.rd_geom.specs.declared.blend.Blend.{Blend}
+use Rattle.rd_geom.specs.declared.blend.Blend.TheVariants.{Normal, Multiply, Screen, Darken, Lighten}
 use Rattle.rd_geom.specs.declared.color.Color.{Color}
 use Rattle.rd_keys.specs.Keys.{BoxKey}
 use Rattle.rd_keys.specs.declared.entry.Part.{Part}
@@ -38,6 +40,14 @@ part_text Back = codes "back"
 part_text Border = codes "border"
 part_text Content = codes "content"
 part_text Outline = codes "outline"
+
+-- the blend mode of a group after a space, nothing where it is normal; the words are those of CSS Compositing 1 section 10.1
+abbrev pub mode_text : Blend → List ℕ
+mode_text Normal = []
+mode_text Multiply = codes " multiply"
+mode_text Screen = codes " screen"
+mode_text Darken = codes " darken"
+mode_text Lighten = codes " lighten"
 
 -- whether a box takes pointer hits
 abbrev pub pointer_text : Bool → List ℕ

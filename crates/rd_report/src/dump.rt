@@ -8,7 +8,7 @@ ghost use Rattle.rd_list.specs.GroupDepth.{group_depth};
 ghost use Rattle.rd_report.specs.Dumps as dumps;
 ghost use Rattle.rd_report.specs.Dumps.{width};
 
-use crate::words::{id_text, part_text, pointer_text, push_color, push_shape};
+use crate::words::{id_text, mode_text, part_text, pointer_text, push_color, push_shape};
 use rd_item::Item;
 use rd_list::{Entry, Group, Kept, ListView};
 use rd_tree::Tree;
@@ -54,7 +54,8 @@ fn push_item_line<A: Ledger, B: Ledger>(
     push_item_tail(out, pointer_text(item.hits()), item.made_at())
 }
 
-/// The line of a group below so many groups, with its opacity and the number of its own entries.
+/// The line of a group below so many groups, with its opacity, the number of its own entries, and its blend mode where that is
+/// not normal.
 #[tactic(auto, using(crate::proofs::Joining::joining))]
 fn push_group_line<A: Ledger, B: Ledger>(
     out: &mut String,
@@ -63,13 +64,14 @@ fn push_group_line<A: Ledger, B: Ledger>(
     group: &Group<A>,
 ) -> Result<(), AllocError>
     ensures { OnOk result (string_bytes out.new ≡ string_bytes out.old
-        ++ dumps.group_line tree.now.boxes depth (record { key = group.now.key; opacity = group.now.opacity })
+        ++ dumps.group_line tree.now.boxes depth (record { key = group.now.key; opacity = group.now.opacity; blend = group.now.blend })
         (width (unordered group.now.inner.entries))) }
 {
     let id = id_text(tree, group.key);
     let opacity = group.opacity;
     let entries = width(&group.inner);
-    write!(out, "group {depth} {id} {opacity} {entries}\n")
+    let mode = mode_text(group.blend);
+    write!(out, "group {depth} {id} {opacity} {entries}{mode}\n")
 }
 
 /// The number of entries directly in a list.

@@ -4,7 +4,7 @@ ghost use Rattle.std.specs.Prelude.{◌≡◌, ◌<◌, ◌++◌, OnOk, string_b
 ghost use Rattle.std.specs.Fmt.{digit_glyph};
 ghost use Rattle.rd_report.specs.Words as words;
 
-use rd_geom::{Color, Rect};
+use rd_geom::{Blend, Color, Rect};
 use rd_item::Shape;
 use rd_keys::{BoxKey, Part};
 use rd_tree::Tree;
@@ -20,6 +20,19 @@ pub(crate) fn part_text(part: Part) -> &'static str
         Part::Border => "border",
         Part::Content => "content",
         Part::Outline => "outline",
+    }
+}
+
+/// The blend mode of a group after a space, nothing where it is normal.
+pub(crate) fn mode_text(mode: Blend) -> &'static str
+    ensures { result.now ≡ words.mode_text mode }
+{
+    match mode {
+        Blend::Normal => "",
+        Blend::Multiply => " multiply",
+        Blend::Screen => " screen",
+        Blend::Darken => " darken",
+        Blend::Lighten => " lighten",
     }
 }
 

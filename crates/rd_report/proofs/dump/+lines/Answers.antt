@@ -1,7 +1,6 @@
 use Rattle.std.proofs.Common.{arith}
 use Rattle.rd_list.proofs.Viewing.{size_at}
-use Rattle.rd_list.specs.GroupDepth.{group_depth}
-use Rattle.rd_report.proofs.Dumping.{lines_more, depth_at, depth_inside}
+use Rattle.rd_report.proofs.Dumping.{lines_more, depth_at}
 use Rattle.rd_report.proofs.dump.+lines.Goals as goal
 
 pub push_entries-push_entry-requires : goal.push_entries-push_entry-requires
