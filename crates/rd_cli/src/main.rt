@@ -2,7 +2,7 @@
 #![tactic(auto)]
 
 ghost use Rattle.std.specs.Prelude.{◌≡◌, ◌<◌, ℕ, IfOk, drop, map, string_bytes};
-ghost use Rattle.rd_run.specs.Endings.{number, counter, stream, Ends, Tells};
+ghost use Rattle.rd_run.specs.Endings.{number, counter, stream, Runs, Tells};
 ghost use Rattle.rd_run.specs.Words.{words_form};
 
 use rd_geom::Steps;
@@ -45,13 +45,11 @@ fn run_counted<S: Source, O: Sink, E: Sink, A: Ledger, B: Ledger>(
     requires looks_parts { looks.parts ≡ B.parts }
     requires looks_some { 0 < looks.parts }
 
-    ensures ends { (s : Status) × (made looks : ℕ) × (result ≡ number s)
-        × Ends (source.new ≡ source.old) (out.new ≡ out.old)
+    ensures { (made looks : ℕ) × Runs (source.new ≡ source.old) (out.new ≡ out.old)
         (stream (S.left source.old) (S.left source.new) (S.faults source.old) (S.faults source.new))
         (stream (O.written out.old) (O.written out.new) (O.faults out.old) (O.faults out.new))
-        (counter 0 made) (counter 0 looks) (words_form (map string_bytes words.now)) s }
-    ensures line { (s : Status) × (result ≡ number s)
-        × Tells (stream (E.written err.old) (E.written err.new) (E.faults err.old) (E.faults err.new)) s }
+        (stream (E.written err.old) (E.written err.new) (E.faults err.old) (E.faults err.new))
+        (counter 0 made) (counter 0 looks) (words_form (map string_bytes words.now)) result }
 {
     let mut made = Steps::<A>::new(made);
     let mut looks = Steps::<B>::new(looks);

@@ -17,7 +17,8 @@ use Rattle.rd_edits.specs.Refusals.{refusal_of, number_of}
 use Rattle.rd_engine.specs.Painted.{untouched}
 use Rattle.rd_scene.specs.declared.script.Command.{Command}
 use Rattle.rd_scene.specs.declared.script.Command.TheVariants.{Change, Paint, Hit, Pixel, Dump, Shot}
-use Rattle.rd_scene.proofs.Changing.{each_well, edit_well, edit_canvas, edit_goes}
+use Rattle.rd_scene.proofs.Changing.{edit_well, edit_canvas, edit_goes}
+use Rattle.rd_scene.proofs.Keyed.{each_well}
 use Rattle.rd_report.specs.Answers.{ok_line, refused_line, paint_line}
 use Rattle.rd_stack.specs.Fresh.{fresh_list}
 use Rattle.rd_stack.proofs.Promises.{stands_for_itself}

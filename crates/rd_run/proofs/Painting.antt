@@ -23,7 +23,7 @@ use Rattle.rd_engine.specs.declared.note.PaintNote.{PaintNote}
 use Rattle.rd_engine.proofs.Fewer.{only_length}
 use Rattle.rd_report.specs.Answers.{paint_line}
 use Rattle.rd_report.proofs.Dumping.{flat-unordered}
-use Rattle.rd_scene.proofs.Changing.{each_well}
+use Rattle.rd_scene.proofs.Keyed.{each_well}
 use Rattle.rd_run.specs.Endings.{Counter}
 use Rattle.rd_run.specs.Machine.{State, Paints, IsNumbered, invalid_area, remade, most_looks, number_in, painted_state}
 use Rattle.rd_run.specs.Internal.Lasts.{IsWellFormed, IsLast}

@@ -17,8 +17,7 @@ use Rattle.rd_scene.specs.declared.script.Command.{Command}
 use Rattle.rd_scene.specs.declared.script.Command.TheVariants.{Change, Paint, Hit, Pixel, Dump, Shot}
 use Rattle.rd_scene.specs.Scripts.{Script}
 use Rattle.rd_scene.specs.Planting.{IsAlone, Adds, AddsAll, Grows, Plants, item_of}
-use Rattle.rd_scene.proofs.Changing.{each_well}
-use Rattle.rd_scene.proofs.Keyed.{alone_well, added_well}
+use Rattle.rd_scene.proofs.Keyed.{alone_well, added_well, each_well}
 use Rattle.rd_scene.proofs.Plants.{parent_there}
 use Rattle.rd_engine.specs.Painted.{untouched}
 use Rattle.rd_run.specs.Machine.{State, start, Paints, PaintsIf, Asks, Edits, Step, Run, hit_answer, pixel_answer, dump_answer, shot_answer}

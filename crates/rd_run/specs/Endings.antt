@@ -208,3 +208,13 @@ abbrev pub Tells : Stream → Status → Type 0
 Tells err s =
     Appends err.bytes err.bytes_now (line_of s)
     ⊎ (HasFailed err × GainsPart err.bytes err.bytes_now (line_of s))
+
+-- What a run says, all of it of one status: the number of the status is its result; how it ends with it, and why; that an
+-- input which has an answer gets it; and the line on standard error.
+pub record Runs (unread untouched : Type 0) (source out err : Stream) (made looks : Counter) (words : Option WordsForm)
+    (result : ℕ) : Type 0 where
+  pub status : Status
+  pub numbered : result ≡ number status
+  pub ends : Ends unread untouched source out made looks words status
+  pub complete : Completes words source out status
+  pub line : Tells err status

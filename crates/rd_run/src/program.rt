@@ -1,7 +1,7 @@
 //! The top call.
 
 ghost use Rattle.std.specs.Prelude.{◌≡◌, Some, map, string_bytes};
-ghost use Rattle.rd_run.specs.Endings.{number, counter, stream, Ends, EndsAs, Completes, Tells};
+ghost use Rattle.rd_run.specs.Endings.{counter, stream, Ends, EndsAs, Runs};
 ghost use Rattle.rd_run.specs.Words.{words_form};
 ghost use Rattle.rd_run.specs.Internal.Limits.{IsWithinLimits};
 
@@ -81,21 +81,13 @@ pub fn run<S: Source, O: Sink, E: Sink, A: Ledger, B: Ledger>(
     made: &mut Steps<A>,
     looks: &mut Steps<B>,
 ) -> u8
-    // With which status it ends, why, and what is written and counted: all of an answer, a front of one, or nothing.
-    ensures ends { (s : Status) × (result ≡ number s)
-        × Ends (source.new ≡ source.old) ((out.new ≡ out.old) × (made.new ≡ made.old) × (looks.new ≡ looks.old))
+    // Of one status: that it is the result; why it comes, and what is written and counted with it, all of an answer, a front
+    // of one, or nothing; that a script is answered unless memory or a stream fails; and the line on standard error.
+    ensures runs { Runs (source.new ≡ source.old) ((out.new ≡ out.old) × (made.new ≡ made.old) × (looks.new ≡ looks.old))
         (stream (S.left source.old) (S.left source.new) (S.faults source.old) (S.faults source.new))
         (stream (O.written out.old) (O.written out.new) (O.faults out.old) (O.faults out.new))
-        (counter made.old made.new) (counter looks.old looks.new) (words_form (map string_bytes words.now)) s }
-
-    // A script is answered, unless memory or a stream fails.
-    ensures complete { (s : Status) × (result ≡ number s) × Completes (words_form (map string_bytes words.now))
-        (stream (S.left source.old) (S.left source.new) (S.faults source.old) (S.faults source.new))
-        (stream (O.written out.old) (O.written out.new) (O.faults out.old) (O.faults out.new)) s }
-
-    // The line on standard error.
-    ensures line { (s : Status) × (result ≡ number s)
-        × Tells (stream (E.written err.old) (E.written err.new) (E.faults err.old) (E.faults err.new)) s }
+        (stream (E.written err.old) (E.written err.new) (E.faults err.old) (E.faults err.new))
+        (counter made.old made.new) (counter looks.old looks.new) (words_form (map string_bytes words.now)) result }
 {
     let status = serve(alloc, words, source, out, made, looks);
     tell(err, status);

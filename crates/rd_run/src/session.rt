@@ -39,11 +39,12 @@ pub(crate) struct Session<A: Ledger, B: Ledger> {
 impl<A: Ledger, B: Ledger> Model for Session<A, B> {
     ghost use Rattle.rd_run.specs.Internal.Session.{SessionState};
     ghost use Rattle.rd_run.specs.Internal.SessionCode.{session_code};
-    ghost use Rattle.rd_engine.specs.Internal.StateCode.{engine_code};
+    ghost use Rattle.rd_engine.specs.Internal.StateCode.{engine_code, region_code};
     ghost use Rattle.rd_tree.specs.Internal.Coding.{document_code};
     ghost use Rattle.rd_list.specs.Internal.KeptCode.{kept_code, made_code};
     ghost use Rattle.rd_list.specs.Wrappers.{wrapper_code};
     ghost use Rattle.rd_geom.specs.contracts.rect.Size as canvas_size;
+    ghost use Rattle.rd_geom.specs.contracts.span.Span as span;
     ghost use Rattle.rd_geom.specs.contracts.color.Px as px;
     ghost use Rattle.rd_keys.specs.contracts.key.Key as key;
     ghost use Rattle.rd_keys.specs.contracts.entry.BoxMark as mark;
@@ -56,7 +57,7 @@ impl<A: Ledger, B: Ledger> Model for Session<A, B> {
     ghost coded = { session_code (engine_code
         (document_code canvas_size.the_row.coded (key.the_row mark.the_row).coded item.the_row.coded)
         (kept_code order.the_row.coded (wrapper_code (key.the_row mark.the_row).coded) (made_code leaf.the_row.coded))
-        px.the_row.coded) };
+        px.the_row.coded (region_code canvas_size.the_row.coded span.the_row.coded)) };
 
     ghost view = { λ x. record {
       engine = x.engine;
