@@ -1,0 +1,11 @@
+pub mod Parts
+pub mod Spelled
+pub mod Seen
+pub mod Levels
+pub mod Whole
+pub mod Going
+pub mod Naming
+pub mod Bared
+pub mod Spelling
+pub mod Showing
+pub mod Keeping

@@ -1,0 +1,5 @@
+pub mod Fields
+pub mod Leaves
+pub mod Wires
+pub mod Laws
+pub mod Internal
