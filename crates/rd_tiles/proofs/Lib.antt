@@ -1,0 +1,10 @@
+pub mod Changes
+pub mod Cutting
+pub mod Lids
+pub mod Placing
+pub mod Tilings
+pub mod Copies
+pub mod Whitening
+pub mod Lines
+pub mod Spans
+pub mod Casting

@@ -1,0 +1,10 @@
+use Rattle.std.proofs.Common.{◌≡◌, take}
+use Rattle.rd_list.specs.EntryNames.{kept_leaves}
+use Rattle.rd_tiles.specs.Internal.Changing.{IsChanged, in_row, list_at}
+use Rattle.rd_tiles.proofs.painting.repaint_row.Given as goal
+
+abbrev pub invariant-loop-span : goal.invariant-loop-span
+invariant-loop-span g l = record {
+  painted : IsChanged (list_at (kept_leaves l.list.list.now.entries) l.place) (in_row l.place (take l.span-index l.spans) l.row) l.initial.canvas l.canvas;
+  same : l.buffers ≡ l.initial.buffers;
+}

@@ -1,0 +1,10 @@
+use Rattle.std.proofs.Common.{◌≡◌}
+use Rattle.rd_list.specs.EntryNames.{kept_leaves}
+use Rattle.rd_tiles.specs.Internal.Changing.{IsChanged, in_rows, list_at}
+use Rattle.rd_tiles.proofs.painting.repaint_rows.Given as goal
+
+abbrev pub invariant-loop-row : goal.invariant-loop-row
+invariant-loop-row g l = record {
+  painted : IsChanged (list_at (kept_leaves l.list.list.now.entries) l.place) (in_rows l.place l.area l.row) l.initial.canvas l.canvas;
+  same : l.buffers ≡ l.initial.buffers;
+}

@@ -1,0 +1,14 @@
+//! A canvas that is kept as tiles of 64 by 64 pixels, each with a stamp: the number of the paint that painted it last.
+//! In a tile nothing is painted that lies below an opaque leaf which covers all of it.
+//! Painting takes no memory.
+#![tactic(auto)]
+
+mod canvas;
+mod copying;
+mod covering;
+mod painting;
+mod places;
+mod tile;
+
+pub use canvas::TileCanvas;
+pub use covering::cover;
