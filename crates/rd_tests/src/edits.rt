@@ -101,6 +101,8 @@ fn outlined(width: u16) -> StyleChange {
         outline_color: None,
         visibility: None,
         pointer: None,
+        blend: None,
+        isolation: None,
     }
 }
 

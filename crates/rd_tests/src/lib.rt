@@ -1,31 +1,14 @@
-//! Tests of the public calls of all crates but those whose tests read what is private. A check of a crate with tests of its own proves
-//! the whole crate once more; here the crates below stand proved, and the tests alone are checked.
+//! Tests of the public calls of the crates from the tree up; those of the crates below stand in `rd_low_tests`, and those that read
+//! what is private in their crates. A check of a crate with tests of its own proves the whole crate once more; here the crates below
+//! stand proved, and the tests alone are checked.
 #![tactic(auto)]
 
-#[cfg(test)]
-mod area;
-#[cfg(test)]
-mod clip;
 #[cfg(test)]
 mod edits;
 #[cfg(test)]
 mod engine;
 #[cfg(test)]
 mod generated;
-#[cfg(test)]
-mod geom;
-#[cfg(test)]
-mod hit;
-#[cfg(test)]
-mod item;
-#[cfg(test)]
-mod keys;
-#[cfg(test)]
-mod list;
-#[cfg(test)]
-mod merge;
-#[cfg(test)]
-mod paint;
 #[cfg(test)]
 mod partial;
 #[cfg(test)]
@@ -38,9 +21,5 @@ mod run;
 mod scene;
 #[cfg(test)]
 mod stack;
-#[cfg(test)]
-mod streams;
-#[cfg(test)]
-mod style;
 #[cfg(test)]
 mod tree;

@@ -214,10 +214,12 @@ fn kept_entry<A: Ledger>(alloc: Global, entry: NewEntry<A>) -> Entry<A> {
         NewEntry::Group {
             key,
             opacity,
+            blend,
             inner: _inner,
         } => Entry::Group(Group {
             key,
             opacity,
+            blend,
             inner: Kept::empty(alloc),
         }),
     }

@@ -3,7 +3,7 @@
 ghost use Rattle.std.specs.Prelude.{◌≡◌, ◌<◌};
 
 use super::planting::{id_of, rect_of, root_alone};
-use rd_geom::{Color, Rect, Steps};
+use rd_geom::{Blend, Color, Rect, Steps};
 use rd_graph::OrderGraph;
 use rd_item::{Item, Shape};
 use rd_keys::Part;
@@ -126,6 +126,7 @@ fn dumped<A: Ledger, B: Ledger>(
     let group = Group {
         key: tree.root(),
         opacity: 128,
+        blend: Blend::Multiply,
         inner,
     };
     let list = Kept {
@@ -155,7 +156,7 @@ fn a_group_is_dumped_with_its_item(rt: HostRuntime) {
     let text = with_ledgers::<Brand, Brand>(&rt, rt.alloc(), Blank::new(1));
     assert_eq!(rt;
         text.as_str(),
-        "dump 1\ngroup 0 root 128 1\n\
+        "dump 1\ngroup 0 root 128 1 multiply\n\
 item 1 root back 0 0 1 1 0 0 1 1 0 0 0 0 000000ff auto 1\n"
     );
 }

@@ -22,6 +22,14 @@ const ONE: &str = r##"{"version":1,"canvas":{"w":1,"h":1},"boxes":[
 const DIM: &str = r##"{"version":1,"canvas":{"w":1,"h":1},"boxes":[
 {"id":"root","parent":null,"rect":[0,0,1,1],"style":{"background":"#000000","opacity":128}}"##;
 
+/// The canvas of 10 by 10 in version 2, whose boxes may be blended.
+const TEN_BLENDED: &str = r##"{"version":2,"canvas":{"w":10,"h":10},"boxes":[
+{"id":"root","parent":null,"rect":[0,0,10,10],"style":{"background":"#ffffff"}}"##;
+
+/// One pixel of a colour in version 2.
+const ONE_BLENDED: &str = r##"{"version":2,"canvas":{"w":1,"h":1},"boxes":[
+{"id":"root","parent":null,"rect":[0,0,1,1],"style":{"background":"#8040ff"}}"##;
+
 /// Two boxes that overlap, and one away from them.
 const THREE: &str = r##",
 {"id":"A","parent":"root","rect":[0,0,4,4],"style":{"background":"#ff0000"}},
@@ -349,6 +357,38 @@ item 0 p back 0 0 2 2 0 0 2 2 0 0 0 0 ff0000ff auto 1\n",
             r#"{"do":"pixel","x":0,"y":0},{"do":"dump"}"#,
             "paint 1 built 1 kept 0 area 1\npixel 7f7f7f\ndump 1\ngroup 0 root 128 1\n\
 item 1 root back 0 0 1 1 0 0 1 1 0 0 0 0 000000ff auto 1\n",
+        ),
+    ];
+    each_is_answered(&rt, rt.alloc(), &cases);
+}
+
+#[test]
+fn blended_boxes_are_composed_in_their_context(rt: HostRuntime) {
+    let cases: [Case; 3] = [
+        (
+            ONE_BLENDED,
+            r##",{"id":"m","parent":"root","rect":[0,0,1,1],"style":{"background":"#c08040","mix-blend-mode":"multiply"}}"##,
+            r#"{"do":"pixel","x":0,"y":0},{"do":"style","id":"m","style":{"mix-blend-mode":"screen"}},{"do":"pixel","x":0,"y":0},
+{"do":"style","id":"m","style":{"mix-blend-mode":"darken"}},{"do":"pixel","x":0,"y":0},
+{"do":"style","id":"m","style":{"mix-blend-mode":"lighten"}},{"do":"pixel","x":0,"y":0}"#,
+            "paint 1 built 2 kept 0 area 1\npixel 602040\nok\npaint 2 built 2 kept 0 area 1\npixel e0a0ff\nok\n\
+paint 3 built 2 kept 0 area 1\npixel 804040\nok\npaint 4 built 2 kept 0 area 1\npixel c080ff\n",
+        ),
+        (
+            TEN_BLENDED,
+            r##",{"id":"x","parent":"root","rect":[0,0,4,4],"style":{"position":"relative","z-index":0,"background":"#ff0000"}},
+{"id":"k","parent":"x","rect":[6,6,2,2],"style":{"background":"#00ff00"}}"##,
+            r##"{"do":"paint"},{"do":"insert","id":"y","parent":"x","rect":[1,1,1,1],
+"style":{"background":"#808080","mix-blend-mode":"multiply"}},{"do":"paint"},{"do":"pixel","x":1,"y":1}"##,
+            "paint 1 built 3 kept 0 area 100\nok\npaint 2 built 4 kept 0 area 20\npixel 800000\n",
+        ),
+        (
+            TEN_BLENDED,
+            r##",{"id":"x","parent":"root","rect":[0,0,4,4],"style":{"position":"relative","z-index":0,"background":"#ff0000"}},
+{"id":"z","parent":"x","rect":[8,8,1,1]},
+{"id":"y","parent":"z","rect":[8,8,1,1],"style":{"background":"#808080","mix-blend-mode":"multiply"}}"##,
+            r##"{"do":"paint"},{"do":"style","id":"x","style":{"background":"#00ff00"}},{"do":"paint"},{"do":"pixel","x":8,"y":8}"##,
+            "paint 1 built 4 kept 0 area 100\nok\npaint 2 built 2 kept 2 area 16\npixel 808080\n",
         ),
     ];
     each_is_answered(&rt, rt.alloc(), &cases);

@@ -42,10 +42,17 @@ fn joined(rt: &impl Abort, alloc: Global, parts: &[&str]) -> String {
     text
 }
 
-/// A script with these boxes and these commands.
+/// A script of version 1 with these boxes and these commands.
 fn script(rt: &impl Abort, alloc: Global, boxes: &str, commands: &str) -> String {
     let head = r#"{"version":1,"canvas":{"w":10,"h":10},"boxes":["#;
     joined(rt, alloc, &[head, boxes, r#"],"script":["#, commands, "]}"])
+}
+
+/// A script of version 2: the root, and a change of style.
+fn restyled(rt: &impl Abort, alloc: Global, style: &str) -> String {
+    let head = r#"{"version":2,"canvas":{"w":10,"h":10},"boxes":["#;
+    let middle = r#"],"script":[{"do":"style","id":"a","style":"#;
+    joined(rt, alloc, &[head, ROOT, middle, style, "}]}"])
 }
 
 const ROOT: &str = r#"{"id":"root","parent":null,"rect":[0,0,10,10]}"#;
@@ -103,7 +110,9 @@ fn tops(rt: HostRuntime) {
         (r#"{"x":1}"#, Outcome::Form(Place::Top, Why::Unknown)),
         (r#"{"version":1.0}"#, Outcome::Form(Place::Top, Why::Kind)),
         (r#"{"version":3}"#, Outcome::Form(Place::Top, Why::Range)),
+        (r#"{"version":0}"#, Outcome::Form(Place::Top, Why::Range)),
         (r#"{"version":1}"#, Outcome::Form(Place::Top, Why::Missing)),
+        (r#"{"version":2}"#, Outcome::Form(Place::Top, Why::Missing)),
         (
             r#"{"version":1,"canvas":7}"#,
             Outcome::Form(Place::Canvas, Why::Kind),
@@ -228,8 +237,41 @@ fn styles_off_form(rt: HostRuntime) {
         (r#"{"outline-width":-1}"#, Why::Range),
         (r#"{"visibility":"hide"}"#, Why::Kind),
         (r#"{"pointer-events":"all"}"#, Why::Kind),
+        (r#"{"mix-blend-mode":"normal"}"#, Why::Unknown),
+        (r#"{"isolation":"auto"}"#, Why::Unknown),
     ] {
         is_style(&rt, alloc, style, why);
+    }
+}
+
+/// A rule that a change of style breaks first in version 2, or none.
+fn is_restyled(rt: &impl Abort, alloc: Global, style: &str, want: Option<Why>) {
+    let text = restyled(rt, alloc, style);
+    let want = match want {
+        Some(why) => Outcome::Form(Place::Command(0), why),
+        None => Outcome::Script,
+    };
+    is_given(rt, alloc, text.as_str(), want);
+}
+
+#[test]
+fn styles_of_version_two(rt: HostRuntime) {
+    let alloc = rt.alloc();
+    for (style, want) in [
+        (
+            r#"{"mix-blend-mode":"overlay","color":7}"#,
+            Some(Why::Unknown),
+        ),
+        (r#"{"mix-blend-mode":"overlay"}"#, Some(Why::Kind)),
+        (r#"{"mix-blend-mode":null}"#, Some(Why::Kind)),
+        (r#"{"isolation":"none"}"#, Some(Why::Kind)),
+        (r#"{"isolation":7,"opacity":256}"#, Some(Why::Range)),
+        (
+            r#"{"mix-blend-mode":"lighten","isolation":"isolate"}"#,
+            None,
+        ),
+    ] {
+        is_restyled(&rt, alloc, style, want);
     }
 }
 
@@ -454,16 +496,24 @@ const LOOSE: &str = r##"{"version":1,"canvas":{"w":10,"h":9},
 const CANONICAL: &str =
     r##"{"boxes":[{"id":"root","parent":null,"rect":[0,0,10,10],"style":{}},{"id":"a","parent":"root","rect":[0,-1,2,3],"style":{"background":"#0102ff04","border-width":[1,2,3,4],"content":"#ffffff","opacity":9,"pointer-events":"none","z-index":-7}}],"canvas":{"h":9,"w":10},"script":[{"before":null,"do":"insert","id":"b","parent":"Z","rect":[0,0,1,1],"style":{}},{"before":"c","do":"move","id":"b","parent":"a"},{"do":"style","id":"b","style":{"content":null,"position":"static","z-index":"auto"}},{"do":"rect","id":"b","rect":[1,2,3,4]},{"do":"shift","dx":3,"dy":-2,"id":"b"},{"do":"remove","id":"b"},{"do":"paint"},{"do":"hit","x":1,"y":-1},{"do":"pixel","x":1,"y":-1},{"do":"dump"},{"do":"shot"}],"version":1}"##;
 
-/// The text is a script, which is written in its canonical text.
-fn is_canonical(rt: &impl Abort, alloc: Global, text: &str) {
+/// The canonical text of a script of version 2.
+const CANONICAL_TWO: &str =
+    r#"{"boxes":[{"id":"root","parent":null,"rect":[0,0,10,10],"style":{"isolation":"isolate"}},{"id":"a","parent":"root","rect":[0,-1,2,3],"style":{"float":"left","isolation":"isolate","mix-blend-mode":"multiply","opacity":9}}],"canvas":{"h":9,"w":10},"script":[{"before":null,"do":"insert","id":"b","parent":"a","rect":[0,0,1,1],"style":{"mix-blend-mode":"screen"}},{"do":"style","id":"b","style":{"isolation":"auto","mix-blend-mode":"normal"}},{"do":"style","id":"b","style":{"mix-blend-mode":"darken"}},{"do":"style","id":"b","style":{"mix-blend-mode":"lighten"}}],"version":2}"#;
+
+/// The text is a script, which is written in this canonical text.
+fn is_canonical(rt: &impl Abort, alloc: Global, text: &str, canonical: &str) {
     let script = read_of(rt, alloc, text);
     let written = write_scene(alloc, &script).expect(rt, "a text");
-    assert!(rt; written.as_slice() == CANONICAL.as_bytes());
+    assert!(rt; written.as_slice() == canonical.as_bytes());
 }
 
 #[test]
 fn canonical_texts(rt: HostRuntime) {
-    for text in [LOOSE, CANONICAL] {
-        is_canonical(&rt, rt.alloc(), text);
+    for (text, canonical) in [
+        (LOOSE, CANONICAL),
+        (CANONICAL, CANONICAL),
+        (CANONICAL_TWO, CANONICAL_TWO),
+    ] {
+        is_canonical(&rt, rt.alloc(), text, canonical);
     }
 }
