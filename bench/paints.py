@@ -69,6 +69,26 @@ def page(count, rng):
     return [WIDTH, HEIGHT], found
 
 
+def contexts(count, rng):
+    """A page of which the positioned boxes and those at depth 4 make stacking contexts."""
+    size, found = page(count, rng)
+    depth = {"b0": 1}
+    for it in found:
+        depth[it["id"]] = depth[it["parent"]] + 1
+        if "position" in it["style"] or depth[it["id"]] == 4:
+            it["style"] = {"position": "relative", **it["style"], "z-index": 0}
+    return size, found
+
+
+def blended(count, rng):
+    """The same page, of which one stacking context in twenty is blended."""
+    size, found = contexts(count, rng)
+    made = [it["style"] for it in found if "z-index" in it["style"] or "opacity" in it["style"]]
+    for number, style in enumerate(made[10::20]):
+        style["mix-blend-mode"] = ("multiply", "screen", "darken", "lighten")[number % 4]
+    return size, found
+
+
 def nested(count, rng):
     """A chain of groups, each in the one before."""
     return [WIDTH, HEIGHT], [
@@ -128,7 +148,8 @@ def scene(kind, count, edits, edit=tinted, each=1):
         commands.append(edit(found, number, rng))
         if (number + 1) % each == 0:
             commands.append({"do": "paint"})
-    return json.dumps({"version": 1, "canvas": {"w": w, "h": h}, "boxes": [root] + found, "script": commands})
+    version = 2 if any("mix-blend-mode" in it["style"] for it in found) else 1
+    return json.dumps({"version": version, "canvas": {"w": w, "h": h}, "boxes": [root] + found, "script": commands})
 
 
 SCENES = [
@@ -138,6 +159,10 @@ SCENES = [
         ("page, mixed edits", page, (1000, 5000, 20000), 200, mixed, 1),
         ("page, mixed edits, a paint after ten", page, (1000, 5000, 20000), 200, mixed, 10),
         ("page, scrolled", page, (1000, 5000, 20000), 20, scrolled, 1),
+        ("page of contexts", contexts, (5000,), 200, tinted, 1),
+        ("page of contexts, blended", blended, (5000,), 200, tinted, 1),
+        ("page of contexts, mixed edits", contexts, (5000,), 200, mixed, 1),
+        ("page of contexts, mixed edits, blended", blended, (5000,), 200, mixed, 1),
         ("flat", flat, (1000, 5000, 20000), 50, tinted, 1),
         ("spread", spread, (1000, 5000, 20000), 200, tinted, 1),
         ("nested", nested, (64, 128, 250), 10, tinted, 1),

@@ -98,9 +98,9 @@ def script(seed, boxes, edits):
 def summary(seed, boxes, edits):
     """The four lines of a storm."""
     value = script(seed, boxes, edits)
-    machine = oracle.Machine(oracle.canvas_of(value["canvas"]), oracle.boxes_of(value["boxes"]))
+    machine = oracle.Machine(oracle.canvas_of(value["canvas"]), oracle.boxes_of(value["boxes"], value["version"]))
     for command in value["script"]:
-        machine.do(oracle.command_of(command))
+        machine.do(oracle.command_of(command, value["version"]))
     totals = machine.totals
     digest = hashlib.sha256(oracle.picture(machine.painted, machine.tree.canvas)).hexdigest()
     return (

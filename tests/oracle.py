@@ -101,6 +101,25 @@ def scaled(pixel, opacity):
     return tuple(times(channel, opacity) for channel in pixel)
 
 
+# of a blend mode: a channel of a source and one of its backdrop, mixed at the opacities of both
+MIXTURES = {
+    "multiply": lambda s, b, above, below: times(s, b) + times(s, 255 - below) + times(b, 255 - above),
+    "screen": lambda s, b, above, below: s + b - times(s, b),
+    "darken": lambda s, b, above, below: s + b - max(times(s, below), times(b, above)),
+    "lighten": lambda s, b, above, below: s + b - min(times(s, below), times(b, above)),
+}
+
+
+def blended(mode, source, backdrop):
+    """A source put onto its backdrop (CSS Compositing 1 section 10.1): no channel is more than the opacity."""
+    if mode == "normal":
+        return laid_over(source, backdrop)
+    above, below = source[3], backdrop[3]
+    opacity = above + times(below, 255 - above)
+    mixed = (MIXTURES[mode](s, b, above, below) for s, b in zip(source[:3], backdrop[:3]))
+    return (*(min(channel, opacity) for channel in mixed), opacity)
+
+
 def hexadecimal(channels):
     return "".join(f"{channel:02x}" for channel in channels)
 
@@ -292,17 +311,22 @@ STYLE = {
     "outline-color": (color_of, BLACK),
     "visibility": (word_of("visible", "hidden", "collapse"), "visible"),
     "pointer-events": (word_of("auto", "none"), "auto"),
+    "mix-blend-mode": (word_of("normal", *MIXTURES), "normal"),
+    "isolation": (word_of("auto", "isolate"), "auto"),
 }
 PLAIN = {name: default for name, (_, default) in STYLE.items()}
 
+# the members that version 1 does not have
+SINCE_2 = ("mix-blend-mode", "isolation")
 
-def change_of(value):
-    only_members(object_of(value), STYLE)
+
+def change_of(value, version):
+    only_members(object_of(value), [name for name in STYLE if version == 2 or name not in SINCE_2])
     return {name: read(value[name]) for name, (read, _) in STYLE.items() if name in value}
 
 
-def style_in(value):
-    return {**PLAIN, **(change_of(value["style"]) if "style" in value else {})}
+def style_in(value, version):
+    return {**PLAIN, **(change_of(value["style"], version) if "style" in value else {})}
 
 
 def is_id(text):
@@ -315,10 +339,10 @@ def id_of(value):
 
 
 def id_at(name):
-    return lambda value: id_of(member(value, name))
+    return lambda value, version: id_of(member(value, name))
 
 
-def before_in(value):
+def before_in(value, version):
     return None if value.get("before") is None else id_of(value["before"])
 
 
@@ -339,28 +363,28 @@ def parent_in(value, depths):
     return name
 
 
-def box_of(value, depths):
+def box_of(value, depths, version):
     only_members(object_of(value), ("id", "parent", "rect", "style"))
     name = new_id_in(value, depths)
     parent = parent_in(value, depths)
-    return {"id": name, "parent": parent, "rect": rect_of(member(value, "rect")), "style": style_in(value)}
+    return {"id": name, "parent": parent, "rect": rect_at(value, version), "style": style_in(value, version)}
 
 
-def rect_at(value):
+def rect_at(value, version):
     return rect_of(member(value, "rect"))
 
 
-def change_at(value):
-    return change_of(member(value, "style"))
+def change_at(value, version):
+    return change_of(member(value, "style"), version)
 
 
 def number_at(name, most):
-    return lambda value: number_from(-most, most)(member(value, name))
+    return lambda value, version: number_from(-most, most)(member(value, name))
 
 
 PIXEL = {"x": number_at("x", FARTHEST), "y": number_at("y", FARTHEST)}
 
-# the members of each command beside `do`, in their order
+# the members of each command beside `do`, in their order, and how each is read in a script of a version
 COMMANDS = {
     "insert": {
         "id": id_at("id"),
@@ -383,11 +407,11 @@ COMMANDS = {
 EDITS = ("insert", "remove", "move", "style", "rect", "shift")
 
 
-def command_of(value):
+def command_of(value, version):
     name = string_of(member(object_of(value), "do"))
     owed(name in COMMANDS, "Command")
     only_members(value, ("do", *COMMANDS[name]))
-    return {"do": name, **{key: read(value) for key, read in COMMANDS[name].items()}}
+    return {"do": name, **{key: read(value, version) for key, read in COMMANDS[name].items()}}
 
 
 def canvas_of(value):
@@ -396,9 +420,9 @@ def canvas_of(value):
     return Rect(0, 0, side(member(value, "w")), side(member(value, "h")))
 
 
-def top_of(value):
+def version_of(value):
     only_members(object_of(value), ("version", "canvas", "boxes", "script"))
-    number_from(1, 1)(member(value, "version"))
+    return number_from(1, 2)(member(value, "version"))
 
 
 def array_at(value, name, low, high):
@@ -407,10 +431,10 @@ def array_at(value, name, low, high):
     return array
 
 
-def boxes_of(array):
+def boxes_of(array, version):
     boxes, depths = [], {}
     for number, value in enumerate(array):
-        box = at(f"box {number}", box_of, value, depths)
+        box = at(f"box {number}", box_of, value, depths, version)
         depths[box["id"]] = 1 if box["parent"] is None else depths[box["parent"]] + 1
         boxes.append(box)
     return boxes
@@ -419,11 +443,11 @@ def boxes_of(array):
 def read_script(script_bytes):
     """The canvas, the boxes and the commands."""
     value = json_value(script_bytes)
-    at("top", top_of, value)
+    version = at("top", version_of, value)
     canvas = at("canvas", canvas_of, at("top", member, value, "canvas"))
-    boxes = boxes_of(at("top", array_at, value, "boxes", 1, MOST_BOXES))
+    boxes = boxes_of(at("top", array_at, value, "boxes", 1, MOST_BOXES), version)
     commands = at("top", array_at, value, "script", 0, MOST_COMMANDS)
-    return canvas, boxes, [at(f"command {n}", command_of, c) for n, c in enumerate(commands)]
+    return canvas, boxes, [at(f"command {n}", command_of, c, version) for n, c in enumerate(commands)]
 
 
 # ---------------------------------------------------------------------------------------------------------------------
@@ -472,6 +496,22 @@ def put(box, parent, before):
 def touch(boxes):
     for box in boxes:
         box.touched = True
+
+
+def touch_context_of(box, is_asked):
+    """Where it is asked, the nearest stacking context above a box with all that is below it; but not the root's."""
+    context = next((b for b in box.above() if is_context(b)), None)
+    if is_asked and context is not None and not is_root(context):
+        touch(context.subtree())
+
+
+def has_blended(box):
+    """Is it or a box below it blended? The root is no such box, whatever its mode."""
+    return any(is_blended(b) and not is_root(b) for b in box.subtree())
+
+
+# the members from which classes, levels and clips follow, but for the border widths of a box that clips
+MAY_MOVE_LAYERS = ("position", "z-index", "opacity", "overflow", "display", "float", "mix-blend-mode", "isolation")
 
 
 class Tree:
@@ -526,26 +566,32 @@ class Tree:
         box = Box(edit["id"], None, edit["rect"], edit["style"])
         put(box, self.find(edit["parent"]), self.find(edit["before"]))
         touch([box])
+        touch_context_of(box, has_blended(box))
 
     def remove(self, edit):
         box = self.find(edit["id"])
         touch(box.subtree())
+        touch_context_of(box, has_blended(box))
         box.parent.children.remove(box)
 
     def move(self, edit):
         box, parent, before = (self.find(edit[key]) for key in ("id", "parent", "before"))
         touch(box.subtree())
+        touch_context_of(box, has_blended(box))
         box.parent.children.remove(box)
         put(box, parent, before)
+        touch_context_of(box, has_blended(box))
 
     def style(self, edit):
         box, change = self.find(edit["id"]), edit["style"]
-        names_class = any(n in change for n in ("position", "z-index", "opacity", "overflow", "display", "float"))
+        names_class = any(name in change for name in MAY_MOVE_LAYERS)
+        had_blended = has_blended(box)
         if names_class or ("border-width" in change and clips(box)):
             touch(box.subtree())
         elif change:
             touch([box])
         box.style = {**box.style, **change}
+        touch_context_of(box, names_class and (had_blended or has_blended(box)))
 
     def rect(self, edit):
         box = self.find(edit["id"])
@@ -578,6 +624,15 @@ def is_translucent(box):
     return box.style["opacity"] < 255
 
 
+def is_blended(box):
+    return box.style["mix-blend-mode"] != "normal"
+
+
+def is_put_as_a_whole(box):
+    """Does its style ask that it comes onto what is below it as one?"""
+    return is_translucent(box) or is_blended(box) or box.style["isolation"] == "isolate"
+
+
 def does_float(box):
     return box.style["float"] != "none" and not is_out_of_flow(box) and not is_root(box)
 
@@ -592,7 +647,7 @@ def clips(box):
 
 
 def class_of(box):
-    if not is_root(box) and (is_positioned(box) or is_translucent(box)):
+    if not is_root(box) and (is_positioned(box) or is_put_as_a_whole(box)):
         return "layer"
     if does_float(box):
         return "float"
@@ -609,7 +664,7 @@ def level_of(box):
         return None
     if not is_positioned(box):
         return 0
-    if box.style["z-index"] == "auto" and (is_translucent(box) or box.style["position"] == "fixed"):
+    if box.style["z-index"] == "auto" and (is_put_as_a_whole(box) or box.style["position"] == "fixed"):
         return 0
     return box.style["z-index"]
 
@@ -684,7 +739,7 @@ def covers(leaf, x, y):
 # The painting order (CSS 2.2 Appendix E.2)
 
 # a list has leaves and groups, from bottom to top; the owner of a group is a box
-Group = collections.namedtuple("Group", "owner opacity entries")
+Group = collections.namedtuple("Group", "owner opacity mode entries")
 
 
 def between(e, x):
@@ -699,6 +754,13 @@ def is_local(e, x):
 
 def is_layer_of(e, x):
     return class_of(x) == "layer" and not any(is_context(b) for b in between(e, x))
+
+
+def is_grouped(x):
+    """Is it one group? A blended layer makes one of the stacking context that it is in, so that it blends with that alone;
+    but not of the root."""
+    has_blended_layer = any(is_blended(y) and is_layer_of(x, y) for y in x.below())
+    return is_context(x) and (is_translucent(x) or is_blended(x) or (not is_root(x) and has_blended_layer))
 
 
 def is_in_line_of(c, x):
@@ -766,10 +828,10 @@ class Painter:
         return entries
 
     def entry(self, box):
-        """What a layer or the root paints, in a group of its own where it is a translucent stacking context."""
+        """What a layer or the root paints, in a group of its own where it is grouped."""
         entries = self.steps(box)
-        if is_context(box) and is_translucent(box) and flat(entries):
-            return [Group(box, box.style["opacity"], entries)]
+        if flat(entries) and is_grouped(box):
+            return [Group(box, box.style["opacity"], box.style["mix-blend-mode"], entries)]
         return entries
 
 
@@ -789,7 +851,8 @@ def flat(entries):
 def composed(entries, x, y, backdrop):
     for entry in entries:
         if isinstance(entry, Group):
-            backdrop = laid_over(scaled(composed(entry.entries, x, y, CLEAR), entry.opacity), backdrop)
+            source = scaled(composed(entry.entries, x, y, CLEAR), entry.opacity)
+            backdrop = blended(entry.mode, source, backdrop)
         elif covers(entry, x, y):
             backdrop = laid_over(premultiplied(entry.color), backdrop)
     return backdrop
@@ -825,7 +888,7 @@ class Dump:
     def named(self, entry, made):
         if isinstance(entry, Group):
             inner = [self.named(e, made) for e in entry.entries]
-            return Group(entry.owner.id, entry.opacity, inner)
+            return Group(entry.owner.id, entry.opacity, entry.mode, inner)
         return (leaf_words(entry, made[entry.owner, entry.part]), entry.visible)
 
 
@@ -953,7 +1016,8 @@ def dump_lines(dump):
     def add(entries, depth):
         for entry in entries:
             if isinstance(entry, Group):
-                lines.append(words("group", depth, entry.owner, entry.opacity, len(entry.entries)))
+                mode = () if entry.mode == "normal" else (entry.mode,)
+                lines.append(words("group", depth, entry.owner, entry.opacity, len(entry.entries), *mode))
                 add(entry.entries, depth + 1)
             else:
                 lines.append(words("item", depth, entry[0]))
@@ -985,9 +1049,9 @@ class Nested:
         return entries
 
     def group(self, rest, depth):
-        owner, opacity, count = rest.split(" ")
-        owed(int(count) > 0, self.next)
-        return Group(owner, int(opacity), self.entries(depth + 1, int(count)))
+        owner, opacity, count, *mode = rest.split(" ")
+        owed(int(count) > 0 and len(mode) <= 1 and all(word in MIXTURES for word in mode), self.next)
+        return Group(owner, int(opacity), mode[0] if mode else "normal", self.entries(depth + 1, int(count)))
 
     def leaf(self, rest):
         return (rest, Rect(*map(int, rest.split(" ")[2:6])))
@@ -997,7 +1061,7 @@ def routes(entries, path=()):
     """The words and the visible rectangle of each leaf, with the groups round it from the outside in."""
     for entry in entries:
         if isinstance(entry, Group):
-            yield from routes(entry.entries, path + ((entry.owner, entry.opacity),))
+            yield from routes(entry.entries, path + ((entry.owner, entry.opacity, entry.mode),))
         else:
             yield path, entry
 
