@@ -18,19 +18,25 @@ def read_p6(data):
 
 
 def scaled(row, scale):
+    if scale == 1:
+        return bytes(row)
     return b"".join(row[i : i + 3] * scale for i in range(0, len(row), 3))
 
 
-def write_png(path, width, height, rows, scale=1):
+def png_bytes(width, height, rows, scale=1):
+    """A PNG of rows of three bytes a pixel."""
+
     def chunk(kind, data):
         return struct.pack(">I", len(data)) + kind + data + struct.pack(">I", zlib.crc32(kind + data))
 
     lines = b"".join((b"\0" + scaled(row, scale)) * scale for row in rows)
+    head = chunk(b"IHDR", struct.pack(">IIBBBBB", width * scale, height * scale, 8, 2, 0, 0, 0))
+    return b"\x89PNG\r\n\x1a\n" + head + chunk(b"IDAT", zlib.compress(lines, 9)) + chunk(b"IEND", b"")
+
+
+def write_png(path, width, height, rows, scale=1):
     with open(path, "wb") as file:
-        file.write(b"\x89PNG\r\n\x1a\n")
-        file.write(chunk(b"IHDR", struct.pack(">IIBBBBB", width * scale, height * scale, 8, 2, 0, 0, 0)))
-        file.write(chunk(b"IDAT", zlib.compress(lines, 9)))
-        file.write(chunk(b"IEND", b""))
+        file.write(png_bytes(width, height, rows, scale))
 
 
 if __name__ == "__main__":
