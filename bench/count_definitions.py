@@ -12,7 +12,7 @@ import os
 import re
 import sys
 
-HEAD = re.compile(r'(?:abbrev pub|unfoldable pub|pub abbrev|pub unfoldable|pub record|pub data|pub|abbrev|unfoldable|record|data) (\S+)')
+HEAD = re.compile(r'(?:abbrev pub|unfoldable pub|pub abbrev|pub unfoldable|pub record|pub data|pub|abbrev|unfoldable|record|data) ([^\s{]\S*)')
 WORD = re.compile(r"[^\s(){}\[\],;λ∥«»]+")
 
 
