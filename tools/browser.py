@@ -1,7 +1,7 @@
 """Headless Chromium, spoken to over its DevTools pipe, with Python's standard library alone.
 
     with Browser() as browser:
-        page = browser.open("file:///tmp/page.html", 800, 600)
+        page = browser.open("file://" + os.path.abspath("page.html"), 800, 600)
         page.value("document.title")
 
 The browser reads commands on descriptor 3 and writes answers and events on descriptor 4: JSON texts, each with a NUL byte
