@@ -4,6 +4,7 @@ ghost use Rattle.std.specs.Prelude.{◌≡◌, ℕ, ℤ, pos, ◌+◌, ◌*◌, 
 ghost use Rattle.rd_geom.specs.Colors.{Premultiplied, clear, laid_over};
 ghost use Rattle.rd_geom.specs.Plane.{is_among, right, bottom};
 ghost use Rattle.rd_geom.specs.Areas.{in_span};
+ghost use Rattle.rd_geom.specs.declared.blend.Blend.TheVariants as mode;
 ghost use Rattle.rd_paint.specs.Internal.Runs.{IsTurned, row_laid, tinted, piece_laid, round_laid, holed_laid, laid_around};
 
 use rd_geom::{Blend, Px, Rect, Span, mix, over, px_of, scale};
@@ -100,6 +101,7 @@ fn tint(out: &mut [Px], px: Px)
 }
 
 /// Up to where the pixels from `from` on are the same, and those of a row too. Where the next ones are others no eight are looked at.
+#[inline(always)]
 fn both_same_until(out: &[Px], row: &[Px], from: usize) -> usize
     requires long { length row.now ≡ length out.now }
     requires from { from < length out.now }
@@ -123,8 +125,22 @@ fn both_same_until(out: &[Px], row: &[Px], from: usize) -> usize
     end
 }
 
+/// Lays a row over as many pixels, each channel scaled by the opacity.
+fn lay_row_over(out: &mut [Px], row: &[Px], opacity: u8)
+    requires { length row.now ≡ length out.old }
+    ensures { out.new ≡ row_laid mode.Normal opacity row.now out.old }
+{
+    let mut from = 0;
+    while from < out.len() {
+        let end = both_same_until(out, row, from);
+        let laid = over(scale(row[from], opacity), out[from]);
+        fill(&mut out[from..end], laid);
+        from = end;
+    }
+}
+
 /// Puts a row onto as many pixels by a blend mode, each channel scaled by the opacity.
-pub(crate) fn lay_row(out: &mut [Px], row: &[Px], blend: Blend, opacity: u8)
+fn mix_row(out: &mut [Px], row: &[Px], blend: Blend, opacity: u8)
     requires { length row.now ≡ length out.old }
     ensures { out.new ≡ row_laid blend opacity row.now out.old }
 {
@@ -134,6 +150,17 @@ pub(crate) fn lay_row(out: &mut [Px], row: &[Px], blend: Blend, opacity: u8)
         let laid = mix(blend, scale(row[from], opacity), out[from]);
         fill(&mut out[from..end], laid);
         from = end;
+    }
+}
+
+/// The same; the mode is asked once for all pixels, since most groups are laid over.
+pub(crate) fn lay_row(out: &mut [Px], row: &[Px], blend: Blend, opacity: u8)
+    requires { length row.now ≡ length out.old }
+    ensures { out.new ≡ row_laid blend opacity row.now out.old }
+{
+    match blend {
+        Blend::Normal => lay_row_over(out, row, opacity),
+        _ => mix_row(out, row, blend, opacity),
     }
 }
 
