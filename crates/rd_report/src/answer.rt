@@ -1,6 +1,6 @@
 //! The lines of answers.
 
-ghost use Rattle.std.specs.Prelude.{◌≡◌, ◌++◌, ◌∷◌, [], Option, OnOk, string_bytes, option_map};
+ghost use Rattle.std.specs.Prelude.{◌≡◌, ◌++◌, ◌∷◌, [], Option, OnOk, OnErr, string_bytes, option_map};
 ghost use Rattle.rd_report.specs.Answers as answers;
 
 use crate::words::push_opaque;
@@ -63,8 +63,7 @@ fn push_shot(alloc: Global, out: &mut String, digest: &[u8; 32]) -> Result<(), A
     write!(out, "shot {text}\n")
 }
 
-/// Puts the line of an answer at the end of a text.
-pub fn push_line(alloc: Global, out: &mut String, answer: &Answer<'_>) -> Result<(), AllocError>
+fn push_answer(alloc: Global, out: &mut String, answer: &Answer<'_>) -> Result<(), AllocError>
     ensures { OnOk result (string_bytes out.new ≡ string_bytes out.old ++ answers.answer_line answer.now) }
 {
     match answer {
@@ -83,4 +82,14 @@ pub fn push_line(alloc: Global, out: &mut String, answer: &Answer<'_>) -> Result
         Answer::Pixel(color) => push_pixel(out, color),
         Answer::Shot(digest) => push_shot(alloc, out, digest),
     }
+}
+
+/// Puts the line of an answer at the end of a text. After a refusal the text is as it was.
+pub fn push_line(alloc: Global, out: &mut String, answer: &Answer<'_>) -> Result<(), AllocError>
+    ensures pushed { OnOk result (string_bytes out.new ≡ string_bytes out.old ++ answers.answer_line answer.now) }
+    ensures kept { OnErr result (string_bytes out.new ≡ string_bytes out.old) }
+{
+    let mut line = String::new(alloc);
+    push_answer(alloc, &mut line, answer)?;
+    out.push_str(&line)
 }

@@ -1,6 +1,6 @@
 //! The lines of a dump.
 
-ghost use Rattle.std.specs.Prelude.{◌≡◌, ◌<◌, ◌+◌, ◌^◌, ◌++◌, ◌∷◌, [], length, OnOk, string_bytes, codes, decimal};
+ghost use Rattle.std.specs.Prelude.{◌≡◌, ◌<◌, ◌+◌, ◌^◌, ◌++◌, ◌∷◌, [], length, OnOk, OnErr, string_bytes, codes, decimal};
 ghost use Rattle.rd_list.specs.Entries.{flat};
 ghost use Rattle.rd_list.specs.KeptView.{kept_entries};
 ghost use Rattle.rd_list.specs.Unordered.{unordered};
@@ -135,10 +135,8 @@ fn push_entry<A: Ledger, B: Ledger>(
     }
 }
 
-/// Puts the lines of a dump at the end of a text: the number of leaves, and a line for each leaf and each group from bottom to
-/// top. Its boxes are named by their ids. The list has fewer than 4,294,967,296 leaves, and no deeper groups than that.
 #[tactic(auto, using(crate::proofs::Dumping::dumping))]
-pub fn push_dump<A: Ledger, B: Ledger>(
+fn push_whole<A: Ledger, B: Ledger>(
     out: &mut String,
     list: ListView<'_, A>,
     tree: &Tree<B>,
@@ -151,4 +149,23 @@ pub fn push_dump<A: Ledger, B: Ledger>(
     let leaves = list.leaves();
     write!(out, "dump {leaves}\n")?;
     push_entries(out, tree, 0, list.entries())
+}
+
+/// Puts the lines of a dump at the end of a text: the number of leaves, and a line for each leaf and each group from bottom to
+/// top. Its boxes are named by their ids. The list has fewer than 4,294,967,296 leaves, and no deeper groups than that. After a
+/// refusal the text is as it was.
+pub fn push_dump<A: Ledger, B: Ledger>(
+    out: &mut String,
+    list: ListView<'_, A>,
+    tree: &Tree<B>,
+) -> Result<(), AllocError>
+    requires leaves { length (flat list.list.now.entries) < 4294967296 }
+    requires groups { group_depth list.list.now.entries < 4294967296 }
+    ensures pushed { OnOk result (string_bytes out.new ≡ string_bytes out.old
+        ++ dumps.dump_lines tree.now.boxes (unordered list.entry.list.now.entries)) }
+    ensures kept { OnErr result (string_bytes out.new ≡ string_bytes out.old) }
+{
+    let mut lines = String::new(*out.allocator());
+    push_whole(&mut lines, list, tree)?;
+    out.push_str(&lines)
 }

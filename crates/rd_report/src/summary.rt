@@ -1,6 +1,6 @@
 //! The summary of a storm.
 
-ghost use Rattle.std.specs.Prelude.{◌≡◌, ◌++◌, OnOk, string_bytes};
+ghost use Rattle.std.specs.Prelude.{◌≡◌, ◌++◌, OnOk, OnErr, string_bytes};
 ghost use Rattle.rd_report.specs.Summaries as summaries;
 
 use std::alloc::{AllocError, Global};
@@ -53,13 +53,22 @@ fn push_final(alloc: Global, out: &mut String, t: &Totals) -> Result<(), AllocEr
     write!(out, "final {text}\n")
 }
 
-/// Puts the four lines of a storm at the end of a text.
 #[tactic(auto, using(crate::proofs::Joining::joining))]
-pub fn push_summary(alloc: Global, out: &mut String, totals: &Totals) -> Result<(), AllocError>
+fn push_lines(alloc: Global, out: &mut String, totals: &Totals) -> Result<(), AllocError>
     ensures { OnOk result (string_bytes out.new ≡ string_bytes out.old ++ summaries.summary_lines totals.now) }
 {
     push_asked(out, totals)?;
     push_edits(out, totals)?;
     push_paints(out, totals)?;
     push_final(alloc, out, totals)
+}
+
+/// Puts the four lines of a storm at the end of a text. After a refusal the text is as it was.
+pub fn push_summary(alloc: Global, out: &mut String, totals: &Totals) -> Result<(), AllocError>
+    ensures pushed { OnOk result (string_bytes out.new ≡ string_bytes out.old ++ summaries.summary_lines totals.now) }
+    ensures kept { OnErr result (string_bytes out.new ≡ string_bytes out.old) }
+{
+    let mut lines = String::new(alloc);
+    push_lines(alloc, &mut lines, totals)?;
+    out.push_str(&lines)
 }
