@@ -5,7 +5,7 @@ use Rattle.std.proofs.lemmas.Int.{ints}
 use Rattle.std.proofs.lemmas.List.Elements.{All-nil, All-push}
 use Rattle.rd_geom.specs.declared.color.Color.{Color}
 use Rattle.rd_style.specs.Changes.{plain}
-use Rattle.rd_scene.specs.declared.script.TheConstants.{MAX_DISTANCE}
+use Rattle.rd_scene.specs.Figures.{max_distance}
 use Rattle.rd_style.specs.Limits.{is_between, fits, fits_rect, FitsRect, Fits}
 use Rattle.rd_style.specs.declared.styles.Style.{Style}
 use Rattle.rd_style.proofs.Bounds.{fits_rect-close, IsBetween}
@@ -92,5 +92,5 @@ between_closed low v high h = both (int_le low v) (int_le v high) h.from.le h.to
     both false b p q = absurd p
 
 -- a distance that a box may be shifted by
-pub is_true_between : (v : ℤ) → IsBetween (pos 0 -ℤ pos 1000) v (pos 1000) → IsTrue (is_between (pos 0 -ℤ MAX_DISTANCE) v MAX_DISTANCE)
-is_true_between v h = between_closed (pos 0 -ℤ MAX_DISTANCE) v MAX_DISTANCE (record { from = omega (arith, ints); to = omega (arith, ints) })
+pub is_true_between : (v : ℤ) → IsBetween (pos 0 -ℤ pos 1000) v (pos 1000) → IsTrue (is_between (pos 0 -ℤ max_distance) v max_distance)
+is_true_between v h = between_closed (pos 0 -ℤ max_distance) v max_distance (record { from = omega (arith, ints); to = omega (arith, ints) })

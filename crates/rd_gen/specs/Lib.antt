@@ -1,3 +1,4 @@
+pub mod Figures
 pub mod Draws
 pub mod Names
 pub mod Values

@@ -4,6 +4,7 @@ ghost use Rattle.std.specs.Prelude.{◌≡◌, ◌≤◌, IfOk};
 ghost use Rattle.rd_scene.specs.Scripts.{IsScript};
 ghost use Rattle.rd_gen.specs.Commands as spec;
 ghost use Rattle.rd_gen.specs.Generated.{generated_script};
+ghost use Rattle.rd_gen.specs.Figures.{max_edits};
 
 use crate::boxes::boxes as drawn_boxes;
 use crate::draw::Draw;
@@ -16,6 +17,11 @@ use std::alloc::Global;
 /// The most edits of a generated script.
 pub const MAX_EDITS: u32 = 100_000;
 
+/// The limits, so that clauses can say what they are.
+fn figures()
+    ensures { MAX_EDITS ≡ max_edits }
+{}
+
 /// A paint, and so many edits with a paint after each tenth.
 fn commands(
     alloc: Global,
@@ -24,7 +30,7 @@ fn commands(
     edits: u32,
 ) -> Result<Vec<Command>, NoMemory>
     requires some { 1 ≤ boxes }
-    requires most { edits ≤ MAX_EDITS }
+    requires most { edits ≤ max_edits }
     ensures { IfOk result (λ v. spec.commands boxes edits draw.old ≡ (v.items, draw.new)) }
 {
     let mut commands = Vec::new(alloc);
@@ -44,7 +50,7 @@ fn commands(
 pub fn script(alloc: Global, seed: u64, boxes: u32, edits: u32) -> Result<Script, NoMemory>
     requires some { 1 ≤ boxes }
     requires most { boxes ≤ MAX_BOXES }
-    requires edits { edits ≤ MAX_EDITS }
+    requires edits { edits ≤ max_edits }
     ensures drawn { IfOk result (λ s. s ≡ generated_script seed boxes edits) }
     ensures rules { IfOk result (λ s. IsScript s) }
 {

@@ -9,7 +9,7 @@ use Rattle.rd_edits.specs.declared.edit.Edit.{Edit}
 use Rattle.rd_edits.specs.declared.edit.Edit.TheVariants.{Insert, Remove, Move, SetStyle, SetRect, Shift}
 use Rattle.rd_scene.specs.declared.fault.Why.{Why}
 use Rattle.rd_scene.specs.declared.fault.Why.TheVariants as why
-use Rattle.rd_scene.specs.declared.script.TheConstants.{MAX_DISTANCE}
+use Rattle.rd_scene.specs.Figures.{max_distance}
 use Rattle.rd_scene.specs.declared.version.Version.{Version}
 use Rattle.rd_scene.specs.Checked.{Checked, rule, good, ◌⊛◌, ◌>>=◌}
 use Rattle.rd_scene.specs.Members.{known, needed, number}
@@ -77,7 +77,7 @@ set_rect_of ms d =
 
 -- how far a box may be shifted each way
 unfoldable pub distance_at : List ℕ → Data → Checked Why ℤ
-distance_at name d = needed name d >>= number (pos 0 -ℤ MAX_DISTANCE) MAX_DISTANCE
+distance_at name d = needed name d >>= number (pos 0 -ℤ max_distance) max_distance
 
 -- `shift` has an id and two distances, right and down
 unfoldable pub shift_of : Members → Data → Checked Why Edit
@@ -106,4 +106,4 @@ FitsEdit (Move id parent before) = Unit {0}
 FitsEdit (SetStyle id change) = Fits (changed plain change)
 FitsEdit (SetRect id rect) = FitsRect rect
 FitsEdit (Shift id dx dy) =
-    IsTrue (is_between (pos 0 -ℤ MAX_DISTANCE) dx MAX_DISTANCE) × IsTrue (is_between (pos 0 -ℤ MAX_DISTANCE) dy MAX_DISTANCE)
+    IsTrue (is_between (pos 0 -ℤ max_distance) dx max_distance) × IsTrue (is_between (pos 0 -ℤ max_distance) dy max_distance)

@@ -5,6 +5,7 @@ pub mod Colors
 pub mod Commands
 pub mod Differing
 pub mod Edits
+pub mod Figures
 pub mod Members
 pub mod Order
 pub mod Places

@@ -5,7 +5,7 @@ use Rattle.rd_geom.specs.declared.rect.Size.{Size}
 use Rattle.rd_geom.specs.Canvas.{IsCanvas}
 use Rattle.rd_style.specs.Limits.{Fits, FitsRect}
 use Rattle.rd_tree.specs.declared.limits.TheConstants.{MAX_BOXES}
-use Rattle.rd_scene.specs.declared.script.TheConstants.{MAX_COMMANDS}
+use Rattle.rd_scene.specs.Figures.{max_commands}
 use Rattle.rd_scene.specs.declared.script.SceneBox.{SceneBox}
 use Rattle.rd_scene.specs.declared.script.Command.{Command}
 use Rattle.rd_scene.specs.declared.version.Version.{Version}
@@ -46,7 +46,7 @@ pub record IsScript (s : Script) : Type 0 where
   pub most : length s.boxes ≤ MAX_BOXES
   pub order : are_in_order [] s.boxes ≡ true
   pub boxes : All FitsBox s.boxes
-  pub few : length s.commands ≤ MAX_COMMANDS
+  pub few : length s.commands ≤ max_commands
   pub commands : All FitsCommand s.commands
 
 -- the boxes of a script object
@@ -57,7 +57,7 @@ boxes_at version d = at place.Top (elements_at (codes "boxes") d) >>= λ ds.
 -- the commands of a script object
 abbrev pub commands_at : Version → Data → Checked FormFault (List Command)
 commands_at version d = at place.Top (elements_at (codes "script") d) >>= λ ds.
-    good (λ _ commands. commands) ⊛ at place.Top (counted 0 MAX_COMMANDS (count ds)) ⊛ commands_from version 0 ds
+    good (λ _ commands. commands) ⊛ at place.Top (counted 0 max_commands (count ds)) ⊛ commands_from version 0 ds
 
 -- the canvas of a script object
 abbrev pub canvas_at : Data → Checked FormFault Size

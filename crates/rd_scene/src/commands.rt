@@ -4,7 +4,7 @@ ghost use Rattle.std.specs.Prelude.{◌≡◌, ℕ, pos, ◌-ℤ◌, ◌≤◌, 
 ghost use Rattle.std.specs.Result.{result_map_both};
 ghost use Rattle.serde_json.specs.View.{view, items_view, members_view};
 ghost use Rattle.rd_style.specs.Limits.{is_between};
-ghost use Rattle.rd_scene.specs.declared.script.TheConstants.{MAX_COMMANDS};
+ghost use Rattle.rd_scene.specs.Figures.{max_commands};
 ghost use Rattle.rd_scene.specs.declared.script.Command.TheVariants as command;
 ghost use Rattle.rd_scene.specs.Commands as spec;
 ghost use Rattle.rd_scene.specs.Commands.{FitsCommand};
@@ -168,7 +168,7 @@ pub(crate) fn commands_of(
     version: Version,
     list: Vec<Value>,
 ) -> Result<Vec<Command>, SceneFault>
-    requires { vec_len list ≤ MAX_COMMANDS }
+    requires { vec_len list ≤ max_commands }
     ensures value { GivesAt (λ v. v.items) result (spec.commands_from version 0 (items_view list.items)).first }
     ensures len { IfOk result (λ v. vec_len v ≡ length list.items) }
     ensures fits { IfOk result (λ v. All FitsCommand v.items) }

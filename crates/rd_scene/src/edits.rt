@@ -11,6 +11,7 @@ ghost use Rattle.rd_scene.specs.Edits as spec;
 ghost use Rattle.rd_scene.specs.Edits.{FitsEdit};
 ghost use Rattle.rd_scene.specs.Versions.{number_of, HasEdit, HasChange};
 ghost use Rattle.rd_scene.specs.Internal.Gives.{Gives};
+ghost use Rattle.rd_scene.specs.Figures.{max_distance};
 
 use crate::boxes::{id_at, id_of};
 use crate::fault::{Refusal, Why};
@@ -174,7 +175,7 @@ fn set_rect_of(alloc: Global, members: &Map<String, Value>, v: &Value) -> Result
 #[tactic(auto, unfolding(crate::specs::Edits::distance_at))]
 fn distance_at(v: &Value, name: &str) -> Result<i32, Why>
     ensures value { result ≡ (spec.distance_at name.now (view v.now)).first }
-    ensures range { IfOk result (λ z. IsTrue (is_between (pos 0 -ℤ MAX_DISTANCE) z MAX_DISTANCE)) }
+    ensures range { IfOk result (λ z. IsTrue (is_between (pos 0 -ℤ max_distance) z max_distance)) }
 {
     let distance = needed(v, name)?;
     number(-MAX_DISTANCE, MAX_DISTANCE, distance)

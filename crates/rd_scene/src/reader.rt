@@ -4,7 +4,7 @@ ghost use Rattle.std.specs.Prelude.{◌≡◌, ◌≤◌, true, [], length, All,
 ghost use Rattle.serde_json.specs.View.{view, members_view};
 ghost use Rattle.rd_geom.specs.Canvas.{IsCanvas};
 ghost use Rattle.rd_tree.specs.declared.limits.TheConstants.{MAX_BOXES};
-ghost use Rattle.rd_scene.specs.declared.script.TheConstants.{MAX_COMMANDS};
+ghost use Rattle.rd_scene.specs.Figures.{max_commands};
 ghost use Rattle.rd_scene.specs.declared.fault.Place.TheVariants as place;
 ghost use Rattle.rd_scene.specs.declared.fault.SceneFault.TheVariants.{Form};
 ghost use Rattle.rd_scene.specs.Commands.{FitsCommand};
@@ -104,7 +104,7 @@ fn boxes_at(alloc: Global, version: Version, v: &Value) -> Result<Vec<SceneBox>,
 #[tactic(auto, using(crate::proofs::Items::items))]
 fn commands_at(alloc: Global, version: Version, v: Value) -> Result<Vec<Command>, SceneFault>
     ensures value { GivesAt (λ v. v.items) result (spec.commands_at version (view v)).first }
-    ensures few { IfOk result (λ v. length v.items ≤ MAX_COMMANDS) }
+    ensures few { IfOk result (λ v. length v.items ≤ max_commands) }
     ensures fits { IfOk result (λ v. All FitsCommand v.items) }
     ensures had { IfOk result (λ v. All (HasCommand (number_of version)) v.items) }
 {

@@ -1,5 +1,8 @@
 //! What a script holds.
 
+ghost use Rattle.std.specs.Prelude.{◌≡◌};
+ghost use Rattle.rd_scene.specs.Figures.{max_commands, max_distance};
+
 use rd_edits::Edit;
 use rd_geom::{Rect, Size};
 use rd_style::Style;
@@ -11,6 +14,12 @@ pub const MAX_COMMANDS: usize = 1_000_000;
 
 /// How far a command may shift a box each way, in canvas pixels.
 pub const MAX_DISTANCE: i32 = 2_000_000;
+
+/// The limits, so that clauses can say what they are.
+fn figures()
+    ensures commands { MAX_COMMANDS ≡ max_commands }
+    ensures distance { MAX_DISTANCE ≡ max_distance }
+{}
 
 /// A box of a scene: its id, its parent's id (none for the root), its border box in canvas pixels and its style.
 #[derive(Drop)]

@@ -14,7 +14,7 @@ use Rattle.rd_list.specs.Wrappers.{Wrapper}
 use Rattle.rd_list.specs.Entries.{Entries, nil, leaf, group}
 use Rattle.rd_wire.specs.Leaves.{FitsLeaf, IsSeen}
 use Rattle.rd_wire.specs.Wires.{level, side, spelled, names, EachEntry, FitsGroup, IsFilled, IsWire}
-use Rattle.rd_wire.specs.declared.groups.TheConstants.{MAX_GROUPS}
+use Rattle.rd_wire.specs.Figures.{max_groups}
 use Rattle.rd_wire.specs.declared.fault.WireFault.{WireFault}
 use Rattle.rd_wire.specs.declared.fault.WireFault.TheVariants.{Form}
 use Rattle.rd_wire.specs.declared.wire.Wire.{Wire}
@@ -107,14 +107,14 @@ reads_letters = reads_made (reads_pair (reads_pair reads_byte reads_byte) (reads
 
 -- ---- wires
 
-reads_list : (s : Size) → Reads (GoodLevel (canvas_of s) MAX_GROUPS) level (list_at s)
+reads_list : (s : Size) → Reads (GoodLevel (canvas_of s) max_groups) level (list_at s)
 unfolding list_at
-reads_list s = reads_level (canvas_of s) MAX_GROUPS (inside_at (canvas_of s) MAX_GROUPS) (reads_inside (canvas_of s) MAX_GROUPS)
+reads_list s = reads_level (canvas_of s) max_groups (inside_at (canvas_of s) max_groups) (reads_inside (canvas_of s) max_groups)
 
 -- all but that no name stands twice
 pub record GoodWire (w : Wire) : Type 0 where
   pub canvas : IsCanvas w.size
-  pub list : GoodLevel (canvas_of w.size) MAX_GROUPS w.list
+  pub list : GoodLevel (canvas_of w.size) max_groups w.list
 
 abbrev wire_from : Size → Entries Wrapper Made → Wire
 wire_from s list = record { size = s; list = list }

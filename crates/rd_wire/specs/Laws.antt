@@ -14,7 +14,7 @@ use Rattle.rd_list.specs.Lists.{groups, same_leaf}
 use Rattle.rd_list.specs.Unordered.{unordered}
 use Rattle.rd_wire.specs.Leaves.{IsSeen}
 use Rattle.rd_wire.specs.Wires.{KeepsRules}
-use Rattle.rd_wire.specs.declared.groups.TheConstants.{MAX_GROUPS}
+use Rattle.rd_wire.specs.Figures.{max_groups}
 
 -- A kept list that stands for a painting order keeps the rules, where its leaves may be seen so, are fewer than 32 bits tell,
 -- and no entry has more groups round it than a wire may have.
@@ -25,7 +25,7 @@ pub record Stands (size : Size) (kept : Entries (Ordered EntryKey Wrapper) Made)
   pub once : AllPairs (λ a b. same_leaf a b ≡ false) (flat (kept_leaves kept))
   pub grouped : AllPairs (λ a b. same_key a b ≡ false) (groups (kept_leaves kept))
   pub filled : IsTrue (no_group_is_empty (kept_leaves kept))
-  pub depth : group_depth kept ≤ MAX_GROUPS
+  pub depth : group_depth kept ≤ max_groups
 
 abbrev pub Keeping : Type 0
 Keeping = (size : Size) (kept : Entries (Ordered EntryKey Wrapper) Made) → Stands size kept → KeepsRules (record { size = size; list = unordered kept })

@@ -1,3 +1,4 @@
+pub mod Figures
 pub mod Fields
 pub mod Leaves
 pub mod Wires

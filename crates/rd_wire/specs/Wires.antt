@@ -12,7 +12,7 @@ use Rattle.rd_list.specs.Entries.{Entries, nil, leaf, group, is_empty}
 use Rattle.rd_list.specs.GroupDepth.{group_depth}
 use Rattle.rd_wire.specs.Fields.{number, key, mode, IsKey}
 use Rattle.rd_wire.specs.Leaves.{leaf_form, FitsLeaf, IsSeen}
-use Rattle.rd_wire.specs.declared.groups.TheConstants.{MAX_GROUPS}
+use Rattle.rd_wire.specs.Figures.{max_groups}
 use Rattle.rd_wire.specs.declared.wire.Wire.{Wire}
 
 -- how many entries stand directly in a list
@@ -77,7 +77,7 @@ pub record KeepsRules (w : Wire) : Type 0 where
   -- no leaf key and no group key stands twice
   pub once : Once (names w.list)
   -- at most so many groups are round an entry
-  pub depth : group_depth w.list ≤ MAX_GROUPS
+  pub depth : group_depth w.list ≤ max_groups
 
 -- A wire: it keeps the rules, and its numbers fit the bytes that they are given.
 pub record IsWire (w : Wire) : Type 0 where

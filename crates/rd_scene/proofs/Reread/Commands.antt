@@ -14,7 +14,7 @@ use Rattle.rd_scene.specs.declared.fault.Place.TheVariants as place
 use Rattle.rd_scene.specs.declared.script.Command.{Command}
 use Rattle.rd_scene.specs.declared.version.Version.{Version}
 use Rattle.rd_scene.specs.declared.script.Command.TheVariants.{Change, Paint, Hit, Pixel, Dump, Shot}
-use Rattle.rd_scene.specs.declared.script.TheConstants.{MAX_DISTANCE}
+use Rattle.rd_scene.specs.Figures.{max_distance}
 use Rattle.rd_scene.specs.Boxes.{an_id}
 use Rattle.rd_scene.specs.Canonical.{IsIdOrNone, IsEdit, IsCommand}
 use Rattle.rd_scene.specs.Checked.{Checked, good, ◌>>=◌}
@@ -32,9 +32,9 @@ before_read : (before : Option (List ℕ)) → IsIdOrNone before → id_or_null 
 before_read None h = refl
 before_read (Some id) h = next_read (an_id why.Range id) (λ w. good (Some w)) id (Some id) (id_read why.Range id h) refl
 
-distance_read : (z : ℤ) → IsTrue (is_between (pos 0 -ℤ MAX_DISTANCE) z MAX_DISTANCE)
-    → number_from (pos 0 -ℤ MAX_DISTANCE) MAX_DISTANCE (number_value z) ≡ good z
-distance_read z h = number_read (pos 0 -ℤ MAX_DISTANCE) MAX_DISTANCE z (omega (arith, ints)) h
+distance_read : (z : ℤ) → IsTrue (is_between (pos 0 -ℤ max_distance) z max_distance)
+    → number_from (pos 0 -ℤ max_distance) max_distance (number_value z) ≡ good z
+distance_read z h = number_read (pos 0 -ℤ max_distance) max_distance z (omega (arith, ints)) h
 
 column_read : (z : ℤ) → IsTrue (is_between (pos 0 -ℤ MAX_COORDINATE) z MAX_COORDINATE)
     → number_from (pos 0 -ℤ MAX_COORDINATE) MAX_COORDINATE (number_value z) ≡ good z

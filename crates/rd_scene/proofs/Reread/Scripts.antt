@@ -15,7 +15,7 @@ use Rattle.rd_scene.specs.declared.script.SceneBox.{SceneBox}
 use Rattle.rd_scene.specs.declared.script.Command.{Command}
 use Rattle.rd_scene.specs.declared.version.Version.{Version}
 use Rattle.rd_scene.specs.declared.version.Version.TheVariants.{One, Two}
-use Rattle.rd_scene.specs.declared.script.TheConstants.{MAX_COMMANDS}
+use Rattle.rd_scene.specs.Figures.{max_commands}
 use Rattle.rd_scene.specs.Canonical.{HasItsTypes, CanonicalLaw}
 use Rattle.rd_scene.specs.Checked.{faults, value, good, ◌>>=◌}
 use Rattle.rd_scene.specs.Members.{holds, counted, count, whole_number, number as number_from}
@@ -62,7 +62,7 @@ commands_at_read : (version : Version) (s : Script) → IsScript s → HasItsTyp
 unfolding scene_value
 commands_at_read version s i t v =
     start (λ (_ : ⊤) (commands : List Command). commands)
-    ⊗ ap (at place.Top) (counted_read command_value 0 MAX_COMMANDS s.commands (omega arith) i.few)
+    ⊗ ap (at place.Top) (counted_read command_value 0 max_commands s.commands (omega arith) i.few)
     ⊗ commands_read version 0 s.commands t.commands i.commands v
 
 canvas_at_read : (s : Script) → IsScript s → canvas_at (scene_value s) ≡ good s.canvas

@@ -10,7 +10,7 @@ use Rattle.rd_keys.specs.Keys.{BoxKey}
 use Rattle.rd_item.specs.Items.{Made}
 use Rattle.rd_list.specs.Wrappers.{Wrapper}
 use Rattle.rd_list.specs.Entries.{Entries, nil, is_empty}
-use Rattle.rd_wire.specs.declared.groups.TheConstants.{MAX_GROUPS}
+use Rattle.rd_wire.specs.Figures.{max_groups}
 use Rattle.rd_wire.specs.declared.wire.Wire.{Wire}
 use Rattle.rd_wire.specs.Internal.Reading.{Reader, ◌>>=◌, pair_at, made_at, byte_at, number_at, key_at, mode_at}
 use Rattle.rd_wire.specs.Internal.Ones.{One, below}
@@ -72,7 +72,7 @@ letters_at bytes = made_at (pair_at (pair_at byte_at byte_at) (pair_at byte_at b
 
 -- the list of a canvas
 unfoldable pub list_at : Size → Reader (Entries Wrapper Made)
-list_at s bytes = level_at (canvas_of s) (inside_at (canvas_of s) MAX_GROUPS) bytes
+list_at s bytes = level_at (canvas_of s) (inside_at (canvas_of s) max_groups) bytes
 
 -- a wire with any names
 unfoldable pub wire_at : Reader Wire
