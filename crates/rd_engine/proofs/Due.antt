@@ -1,5 +1,5 @@
 -- The invalid area of a paint.
-use Rattle.std.proofs.Common.{◌≡◌, refl, ap, ◌∙◌, sym, subst, ℕ, zero, suc, ℤ, ◌≤◌, Bool, true, false, cond, ◌&&◌, ◌||◌, List, [], ◌∷◌, IsTrue, arith, ◌⊎◌, inl, inr, nat_eq, Contains, not}
+use Rattle.std.proofs.Common.{◌≡◌, refl, ap, ◌∙◌, sym, subst, ℕ, zero, suc, ℤ, ◌≤◌, Bool, true, false, cond, ◌&&◌, ◌||◌, List, [], ◌∷◌, IsTrue, arith, ◌⊎◌, inl, inr, nat_eq, Contains, not, Some, None}
 use Rattle.std.specs.List.{list_any}
 use Rattle.std.proofs.lemmas.List.Elements.{All-contains}
 use Rattle.rd_geom.specs.Plane.{holds_pixel}
@@ -26,7 +26,7 @@ use Rattle.rd_partial.specs.Invalid.{is_invalid, any_shows, shows_touched}
 use Rattle.rd_partial.proofs.Visits.{looks}
 use Rattle.rd_engine.specs.Kept.{stays}
 use Rattle.rd_engine.specs.State.{EngineState}
-use Rattle.rd_engine.specs.Invalid.{is_due, invalid_area}
+use Rattle.rd_engine.specs.Invalid.{is_due, painted_list, invalid_area}
 use Rattle.rd_engine.specs.Painted.{remade}
 use Rattle.rd_engine.specs.Internal.Parts.{IsInvalidArea}
 use Rattle.rd_engine.proofs.Regions.{in_region, same_count}
@@ -37,6 +37,12 @@ at_first (suc n) a b h = absurd (omega (arith, h))
 
 at_later : {A : Type 0} (n : ℕ) (a b : A) → (n ≡ 0 → ⊥) → cond (nat_eq n 0) a b ≡ b
 at_later n a b h = let e : nat_eq n 0 ≡ false = grind arith in rw e refl
+
+first_due : (s : EngineState) (x y : ℤ) → s.paints ≡ 0 → is_due (painted_list s) s.tree x y ≡ holds_pixel (canvas_of s.tree.canvas) x y
+first_due s x y e = ap (λ o. is_due o s.tree x y) (at_first s.paints None (Some (kept_leaves s.kept.entries)) e)
+
+later_due : (s : EngineState) (x y : ℤ) → (s.paints ≡ 0 → ⊥) → is_due (painted_list s) s.tree x y ≡ is_invalid s.tree (kept_leaves s.kept.entries) x y
+later_due s x y n = ap (λ o. is_due o s.tree x y) (at_later s.paints None (Some (kept_leaves s.kept.entries)) n)
 
 zero_or_not : (n : ℕ) → (n ≡ 0) ⊎ (n ≡ 0 → ⊥)
 zero_or_not zero = inl refl
@@ -72,33 +78,33 @@ untrue true h = refl
 untrue false h = absurd (let no : true ≡ false = h in cc)
 
 module _ (s : EngineState) (canvas : IsCanvas s.tree.canvas) where
-  due_on : (x y : ℤ) → is_due s x y ≡ true → holds_pixel (canvas_of s.tree.canvas) x y ≡ true
+  due_on : (x y : ℤ) → is_due (painted_list s) s.tree x y ≡ true → holds_pixel (canvas_of s.tree.canvas) x y ≡ true
   due_on x y h = elim (zero_or_not s.paints) [
-    | inl e ↦ sym (at_first s.paints (holds_pixel (canvas_of s.tree.canvas) x y) (is_invalid s.tree (kept_leaves s.kept.entries) x y) e) ∙ h
+    | inl e ↦ sym (first_due s x y e) ∙ h
     | inr n ↦
         left_of (holds_pixel (canvas_of s.tree.canvas) x y) (any_shows s.tree (kept_leaves s.kept.entries) x y || any_shows s.tree (fresh_list s.tree) x y)
-        (sym (at_later s.paints (holds_pixel (canvas_of s.tree.canvas) x y) (is_invalid s.tree (kept_leaves s.kept.entries) x y) n) ∙ h)
+        (sym (later_due s x y n) ∙ h)
   ]
 
   -- the invalid area has just the pixels that are due
-  pub in_invalid : (x y : ℤ) → in_area (invalid_area s) x y ≡ is_due s x y
-  in_invalid x y = in_region (is_due s) s.tree.canvas canvas due_on x y
+  pub in_invalid : (x y : ℤ) → in_area (invalid_area s) x y ≡ is_due (painted_list s) s.tree x y
+  in_invalid x y = in_region (is_due (painted_list s) s.tree) s.tree.canvas canvas due_on x y
 
   pub first_area : (a : Region) → s.paints ≡ 0 → a.size ≡ s.tree.canvas → ((x y : ℤ) → in_area a x y ≡ holds_pixel (canvas_of s.tree.canvas) x y) → IsInvalidArea s a
   first_area a e z h = record {
     size = z;
-    pixels = λ x y. h x y ∙ sym (at_first s.paints (holds_pixel (canvas_of s.tree.canvas) x y) (is_invalid s.tree (kept_leaves s.kept.entries) x y) e) ∙ sym (in_invalid x y);
+    pixels = λ x y. h x y ∙ sym (first_due s x y e) ∙ sym (in_invalid x y);
   }
 
   pub later_area : (a : Region) → (s.paints ≡ 0 → ⊥) → a.size ≡ s.tree.canvas → ((x y : ℤ) → in_area a x y ≡ is_invalid s.tree (kept_leaves s.kept.entries) x y) → IsInvalidArea s a
   later_area a n z h = record {
     size = z;
-    pixels = λ x y. h x y ∙ sym (at_later s.paints (holds_pixel (canvas_of s.tree.canvas) x y) (is_invalid s.tree (kept_leaves s.kept.entries) x y) n) ∙ sym (in_invalid x y);
+    pixels = λ x y. h x y ∙ sym (later_due s x y n) ∙ sym (in_invalid x y);
   }
 
   -- before the first paint every pixel of the canvas is in it
   pub all_due : (x y : ℤ) → s.paints ≡ 0 → holds_pixel (canvas_of s.tree.canvas) x y ≡ true → in_area (invalid_area s) x y ≡ true
-  all_due x y e h = in_invalid x y ∙ at_first s.paints (holds_pixel (canvas_of s.tree.canvas) x y) (is_invalid s.tree (kept_leaves s.kept.entries) x y) e ∙ h
+  all_due x y e h = in_invalid x y ∙ first_due s x y e ∙ h
 
   -- and at any time those of the visible rectangle of a leaf of a touched box
   module _ (l : Leaf) (on : IsOnCanvas (canvas_of s.tree.canvas) l) (goes : stays s.tree l ≡ false) (x y : ℤ) (shows : IsTrue (holds_pixel l.visible x y)) where
@@ -109,7 +115,7 @@ module _ (s : EngineState) (canvas : IsCanvas s.tree.canvas) where
     due h = elim (zero_or_not s.paints) [
       | inl e ↦ all_due x y e (on.within x y shows)
       | inr n ↦
-          in_invalid x y ∙ at_later s.paints (holds_pixel (canvas_of s.tree.canvas) x y) (is_invalid s.tree (kept_leaves s.kept.entries) x y) n
+          in_invalid x y ∙ later_due s x y n
           ∙ both (holds_pixel (canvas_of s.tree.canvas) x y) (any_shows s.tree (kept_leaves s.kept.entries) x y || any_shows s.tree (fresh_list s.tree) x y) (on.within x y shows) h
     ]
 

@@ -9,7 +9,7 @@ use Rattle.rd_item.specs.declared.leaf.Leaf.{Leaf}
 use Rattle.rd_item.specs.Items.{Made}
 use Rattle.rd_list.specs.Wrappers.{Wrapper}
 use Rattle.rd_list.specs.Entries.{Entries, nil, flat}
-use Rattle.rd_list.specs.Lists.{meeting, pixel}
+use Rattle.rd_list.specs.Lists.{pixel}
 use Rattle.rd_list.specs.Kept.{IsMerged}
 use Rattle.rd_list.specs.EntryNames.{entry_names, kept_leaves, made_leaf}
 use Rattle.rd_tree.specs.Forest.{map_where}
@@ -22,7 +22,7 @@ use Rattle.rd_paint.specs.Pictures.{size_of}
 use Rattle.rd_paint.specs.Repainted.{IsRepainted}
 use Rattle.rd_engine.specs.Kept.{stays}
 use Rattle.rd_engine.specs.State.{EngineState}
-use Rattle.rd_engine.specs.Invalid.{invalid_area}
+use Rattle.rd_engine.specs.Invalid.{invalid_area, remade_in, looks_in}
 use Rattle.rd_engine.specs.declared.note.PaintNote.{PaintNote}
 
 -- each box of the tree counts as touched
@@ -55,7 +55,7 @@ pub record IsSettled (old new : EngineState) : Type 0 where
 
 -- the leaves that are made anew: those of the fresh list that may be seen in the invalid area
 abbrev pub remade : EngineState → Entries Wrapper Leaf
-remade s = meeting (invalid_area s) (fresh_list s.tree)
+remade s = remade_in (invalid_area s) s.tree
 
 -- The kept list without the leaves of touched boxes, joined with those that are made anew.
 abbrev pub IsJoinedBy : EngineState → EngineState → Type 0
@@ -85,7 +85,7 @@ half_looks s = looks_bound (is_visited (invalid_area s)) s.tree.boxes
 
 -- how often a paint may look at boxes: twice at each
 abbrev pub most_looks : EngineState → ℕ
-most_looks s = 2 * half_looks s
+most_looks s = looks_in (invalid_area s) s.tree
 
 -- the pixel of a tree in column x and row y; none off its canvas
 abbrev pub shown_at : Document → ℤ → ℤ → Option Color
