@@ -1,5 +1,5 @@
 -- The invalid area of a machine is that of its engine.
-use Rattle.std.proofs.Common.{◌≡◌, ℕ, zero, suc, ◌+◌, ◌*◌, ◌≤◌, ℤ, Bool, true, false, cond, List, [], ◌∷◌, ◌++◌, map, refl, sym, ◌∙◌, ap, arith, Option, Some, None, unsigned_abs, pos}
+use Rattle.std.proofs.Common.{◌≡◌, ℕ, zero, suc, ◌+◌, ◌*◌, ◌≤◌, ℤ, Bool, true, false, cond, List, [], ◌∷◌, ◌++◌, map, refl, sym, ◌∙◌, ap, arith, Option, Some, None, option_map, unsigned_abs, pos}
 use Rattle.std.specs.List.{list_any, fold}
 use Rattle.std.proofs.lemmas.Bool.{eq-eqb, ne_eqb}
 use Rattle.std.proofs.lemmas.List.{map-append}
@@ -16,7 +16,7 @@ use Rattle.rd_stack.specs.Fresh.{fresh_list}
 use Rattle.rd_partial.specs.Invalid.{shows_touched, is_invalid}
 use Rattle.rd_engine.specs.State.{EngineState}
 use Rattle.rd_engine.specs.Invalid as engine
-use Rattle.rd_engine.specs.Invalid.{region_where, rows_where, columns_where}
+use Rattle.rd_engine.specs.Invalid.{is_due, area_due, painted_list, region_where, rows_where, columns_where}
 use Rattle.rd_run.specs.Machine as machine
 use Rattle.rd_run.specs.Machine.{State}
 use Rattle.rd_run.specs.Internal.Lasts.{IsLast}
@@ -39,13 +39,13 @@ same_invalid : (t : Document) (kept fresh : Entries Wrapper Leaf) (x y : ℤ) �
 same_invalid t kept fresh x y s =
     rw (same_leaves (shows_touched (λ k. is_touched k t.boxes) x y) kept fresh s) refl
 
-due : (last : Option Document) (e : EngineState) (x y : ℤ) → IsLast last e → machine.is_due last e.tree x y ≡ engine.is_due e x y
+due : (last : Option Document) (e : EngineState) (x y : ℤ) → IsLast last e → is_due (option_map fresh_list last) e.tree x y ≡ is_due (painted_list e) e.tree x y
 due None e x y h = rw (eq-eqb e.paints 0 h) refl
 due (Some t) e x y h = rw (ne_eqb e.paints 0 (λ z. let l = h.0 in absurd (omega (arith, z, l)))) (same_invalid e.tree (kept_leaves e.kept.entries) (fresh_list t) x y h.1)
 
 pub area_same : (s : State) (e : EngineState) → s.tree ≡ e.tree → IsLast s.last e → machine.invalid_area s ≡ engine.invalid_area e
 area_same s e t h =
-    ap (λ z. region_where (machine.is_due s.last z) z.canvas) t ∙ ap (λ p. region_where p e.tree.canvas) (λ i x y. due s.last e x y h i)
+    ap (λ z. area_due (option_map fresh_list s.last) z) t ∙ ap (λ p. region_where p e.tree.canvas) (λ i x y. due s.last e x y h i)
 
 columns-within : (ss : List Span) (n : ℕ) → columns_in ss n ≤ n
 unfolding columns_in
@@ -68,5 +68,5 @@ rows-within p w y (suc n) a =
 -- an area has no more pixels than its canvas
 pub area-within : (e : EngineState) → count_of (engine.invalid_area e) ≤ unsigned_abs e.tree.canvas.h * unsigned_abs e.tree.canvas.w
 area-within e =
-    let r = rows-within (engine.is_due e) (unsigned_abs e.tree.canvas.w) 0 (unsigned_abs e.tree.canvas.h) 0 in
+    let r = rows-within (is_due (painted_list e) e.tree) (unsigned_abs e.tree.canvas.w) 0 (unsigned_abs e.tree.canvas.h) 0 in
     omega (arith, r)

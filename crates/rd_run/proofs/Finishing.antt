@@ -8,7 +8,7 @@ use Rattle.rd_scene.specs.declared.fault.Place.{Place}
 use Rattle.rd_scene.specs.declared.fault.Why.{Why}
 use Rattle.rd_run.specs.Endings.{Stream, Counter, HasFailed, IsFaultless, HasRead, HasAnswer, EndsAs, Ends, Completes, IsScriptAnswer, IsScriptPicture, IsStormSummary}
 use Rattle.rd_run.specs.Internal.Answered.{AnswersAs, RefusesInput}
-use Rattle.rd_run.specs.declared.input.TheConstants.{MOST_BYTES}
+use Rattle.rd_run.specs.Figures.{most_bytes}
 use Rattle.rd_run.specs.declared.status.Status.{Status}
 use Rattle.rd_run.specs.declared.status.Status.TheVariants.{Done, Usage, NotJson, Form, ReadFault, WriteFault, NoMemory, TooLarge}
 use Rattle.rd_run.specs.declared.words.WordsForm.{WordsForm}
@@ -106,7 +106,7 @@ both_ways b x p w o t =
 -- a script within the limit
 abbrev IsGiven : Stream → Type 0
 IsGiven source =
-    (bytes : List ℕ) × (script : Script) × (source.bytes ≡ Some bytes) × (length bytes ≤ MOST_BYTES) × IsScriptText bytes script
+    (bytes : List ℕ) × (script : Script) × (source.bytes ≡ Some bytes) × (length bytes ≤ most_bytes) × IsScriptText bytes script
 
 unreadable : (source : Stream) (bytes : List ℕ) → IsGiven source → HasRead source bytes → HasNoReading bytes → ⊥
 unreadable source bytes v r n =
@@ -119,8 +119,8 @@ broken source bytes p w v r o =
     let same : bytes ≡ v.0 = all_taken source.bytes source.bytes_now (v.0) bytes v.2 r.taken r.ended in
     both_ways (v.0) (v.1) p w (subst (λ b. IsOffForm b p w) same o) v.4
 
-too_large : (source : Stream) → IsGiven source → Takes source.bytes source.bytes_now (MOST_BYTES + 1) → ⊥
-too_large source v t = none_over source.bytes source.bytes_now (v.0) MOST_BYTES v.2 v.3 t
+too_large : (source : Stream) → IsGiven source → Takes source.bytes source.bytes_now (most_bytes + 1) → ⊥
+too_large source v t = none_over source.bytes source.bytes_now (v.0) most_bytes v.2 v.3 t
 
 module _ (unread untouched : Type 0) (source out : Stream) (made looks : Counter) where
   -- a valid input within the limit is answered

@@ -14,7 +14,7 @@ use Rattle.rd_report.specs.Summaries.{summary_lines}
 use Rattle.rd_report.specs.declared.summary.Totals.{Totals}
 use Rattle.rd_run.specs.Machine.{State, Counts, Answers, Finishes}
 use Rattle.rd_run.specs.Pictures.{picture}
-use Rattle.rd_run.specs.declared.input.TheConstants.{MOST_BYTES}
+use Rattle.rd_run.specs.Figures.{most_bytes}
 use Rattle.rd_run.specs.declared.status.Status.{Status}
 use Rattle.rd_run.specs.declared.status.Status.TheVariants.{Done, Usage, NotJson, Form, ReadFault, WriteFault, NoMemory, TooLarge}
 use Rattle.rd_run.specs.declared.words.WordsForm.{WordsForm}
@@ -94,7 +94,7 @@ IsFaultless s = s.faults_now ≡ s.faults
 pub record HasRead (source : Stream) (bytes : List ℕ) : Type 0 where
   pub taken : Consumes source.bytes source.bytes_now bytes
   pub ended : IsAtEnd source.bytes_now
-  pub within : length bytes ≤ MOST_BYTES
+  pub within : length bytes ≤ most_bytes
   pub faultless : IsFaultless source
 
 -- What words of a form read: a script, or nothing.
@@ -170,7 +170,7 @@ module _ (unread untouched : Type 0) (source out : Stream) (made looks : Counter
   EndsAs form Usage = ⊥
   EndsAs form ReadFault = ReadsInput form × untouched × HasFailed source
   EndsAs form TooLarge =
-      ReadsInput form × untouched × IsFaultless source × Takes source.bytes source.bytes_now (MOST_BYTES + 1)
+      ReadsInput form × untouched × IsFaultless source × Takes source.bytes source.bytes_now (most_bytes + 1)
   EndsAs form NotJson =
       ReadsInput form × untouched × ((bytes : List ℕ) × IsInput unread form source bytes × HasNoReading bytes)
   EndsAs form (Form p w) =
@@ -194,7 +194,7 @@ module _ (unread untouched : Type 0) (source out : Stream) (made looks : Counter
 abbrev pub HasAnswer : WordsForm → Stream → Type 0
 HasAnswer (Storm seed boxes edits) source = Unit {0}
 HasAnswer form source =
-    (bytes : List ℕ) × (script : Script) × (source.bytes ≡ Some bytes) × (length bytes ≤ MOST_BYTES)
+    (bytes : List ℕ) × (script : Script) × (source.bytes ≡ Some bytes) × (length bytes ≤ most_bytes)
     × IsScriptText bytes script
 
 -- Such an input is answered, unless a fault was counted or there was no memory.

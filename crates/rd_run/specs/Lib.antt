@@ -1,3 +1,4 @@
+pub mod Figures
 pub mod Words
 pub mod Pictures
 pub mod Machine

@@ -1,26 +1,22 @@
 -- The machine: what the program may answer to the commands of a script. It is this project's own choice.
-use Rattle.std.specs.Prelude.{◌≡◌, ℕ, ℤ, ◌+◌, ◌*◌, Bool, true, false, if◌then◌else◌, List, [], ◌∷◌, ◌++◌, length, find, Option, Some, None, option_map}
+use Rattle.std.specs.Prelude.{◌≡◌, ℕ, ℤ, ◌+◌, Bool, true, false, if◌then◌else◌, List, [], ◌∷◌, ◌++◌, length, find, Option, Some, None, option_map}
 use Rattle.std.specs.List.{AllByRecursion}
 use Rattle.std.specs.Option.{option_map_or}
 use Rattle.sha2.specs.Sha256.{sha256}
 use Rattle.rd_geom.specs.Areas.{Region, meets_area, count_of}
-use Rattle.rd_geom.specs.Canvas.{canvas_of}
-use Rattle.rd_geom.specs.Plane.{holds_pixel}
 use Rattle.rd_item.specs.declared.leaf.Leaf.{Leaf}
 use Rattle.rd_item.specs.Items.{Made}
 use Rattle.rd_list.specs.Wrappers.{Wrapper}
 use Rattle.rd_list.specs.Entries.{Entries, nil, flat}
 use Rattle.rd_list.specs.EntryNames.{new_leaves}
-use Rattle.rd_list.specs.Lists.{StandsFor, same_leaf, meeting, hit}
+use Rattle.rd_list.specs.Lists.{StandsFor, same_leaf, hit}
 use Rattle.rd_tree.specs.Document.{Document}
 use Rattle.rd_edits.specs.declared.edit.Edit.{Edit}
 use Rattle.rd_edits.specs.declared.fault.EditFault.{EditFault}
 use Rattle.rd_edits.specs.Refusals.{refusal_of, number_of}
 use Rattle.rd_edits.specs.Edited.{IsEdited}
 use Rattle.rd_stack.specs.Fresh.{fresh_list}
-use Rattle.rd_partial.specs.Invalid.{is_invalid}
-use Rattle.rd_partial.specs.Looks.{looks_bound, is_visited}
-use Rattle.rd_engine.specs.Invalid.{region_where}
+use Rattle.rd_engine.specs.Invalid.{area_due, remade_in, looks_in}
 use Rattle.rd_engine.specs.Painted.{untouched, shown_at}
 use Rattle.rd_scene.specs.Scripts.{Script}
 use Rattle.rd_scene.specs.declared.script.Command.{Command}
@@ -57,19 +53,13 @@ no_counts = record { accepted = 0; refused = 0; built = 0; area = 0; looks = 0 }
 abbrev pub start : Document → State
 start t = record { tree = t; last = None; pending = true; paints = 0; kept = nil; counts = no_counts }
 
--- Is the pixel to be painted anew? Each one of the canvas is before the first paint; later one is where a touched box has a
--- leaf, in the list of the last paint or in that of the tree now.
-abbrev pub is_due : Option Document → Document → ℤ → ℤ → Bool
-is_due None t x y = holds_pixel (canvas_of t.canvas) x y
-is_due (Some before) t x y = is_invalid t (fresh_list before) x y
-
--- the pixels of the canvas that a paint has to paint anew
+-- the pixels of the canvas that a paint has to paint anew: the list of the last paint was that of the tree then
 abbrev pub invalid_area : State → Region
-invalid_area s = region_where (is_due s.last s.tree) s.tree.canvas
+invalid_area s = area_due (option_map fresh_list s.last) s.tree
 
--- the leaves of which a paint makes the items anew: those that may be seen in that area
+-- the leaves of which a paint makes the items anew
 abbrev pub remade : State → Entries Wrapper Leaf
-remade s = meeting (invalid_area s) (fresh_list s.tree)
+remade s = remade_in (invalid_area s) s.tree
 
 -- the number of the item of a leaf in a kept list
 abbrev pub number_in : Entries Wrapper Made → Leaf → ℕ
@@ -81,10 +71,9 @@ IsNumbered old i =
     i.made_at
     ≡ (if meets_area (invalid_area old) i.leaf.visible then old.paints + 1 else number_in old.kept i.leaf)
 
--- how often a paint may look at boxes: twice for each that is touched, has one below it that is, or is near the area, and
--- for each of their children
+-- how often a paint may look at boxes
 abbrev pub most_looks : State → ℕ
-most_looks s = 2 * looks_bound (is_visited (invalid_area s)) s.tree.boxes
+most_looks s = looks_in (invalid_area s) s.tree
 
 -- what is counted after a paint
 abbrev pub painted_counts : State → Counts

@@ -4,7 +4,7 @@ ghost use Rattle.std.specs.Prelude.{◌≡◌, ◌⊎◌, ℕ, ◌+◌, ◌≤�
 ghost use Rattle.std.specs.Prelude.{IsErrOf, OnErr, OnOk};
 ghost use Rattle.std.specs.Io.KnownBytes.{Appends};
 ghost use Rattle.rd_io.specs.Causes.{GainsPart};
-ghost use Rattle.rd_scene.specs.declared.script.TheConstants.{MAX_COMMANDS};
+ghost use Rattle.rd_scene.specs.Figures.{max_commands};
 ghost use Rattle.rd_run.specs.Endings.{counter, stream, HasFailed, IsScriptAnswer};
 ghost use Rattle.rd_run.specs.Internal.Answered.{AnswersAll, AnswersPart, AnswersAs, Passes};
 ghost use Rattle.rd_run.specs.Internal.Lasts.{IsWellFormed};
@@ -93,7 +93,7 @@ fn answer_all<O: Sink, A: Ledger, B: Ledger>(
     looks: &mut Steps<B>,
 ) -> Result<(), Status>
     requires none { IsFew session.old 0 }
-    requires few { length commands.now ≤ MAX_COMMANDS }
+    requires few { length commands.now ≤ max_commands }
     ensures all { OnOk result ((s : State) → Shows session.old s
         → AnswersAll (counter made.old made.new) (counter looks.old looks.new) s commands.now
         (stream (O.written out.old) (O.written out.new) (O.faults out.old) (O.faults out.new))) }

@@ -1,8 +1,9 @@
 //! The script that a source holds.
 
-ghost use Rattle.std.specs.Prelude.{ℕ, List, IfOk, IfErr};
+ghost use Rattle.std.specs.Prelude.{◌≡◌, ℕ, List, IfOk, IfErr};
 ghost use Rattle.rd_scene.specs.Reading.{IsScriptText};
 ghost use Rattle.rd_run.specs.Endings.{HasRead, stream};
+ghost use Rattle.rd_run.specs.Figures.{most_bytes};
 ghost use Rattle.rd_run.specs.Internal.Answered.{RefusesInput};
 
 use crate::status::Status;
@@ -12,6 +13,11 @@ use std::alloc::Global;
 
 /// The most bytes of an input.
 pub const MOST_BYTES: usize = 67_108_864;
+
+/// The limits, so that clauses can say what they are.
+fn figures()
+    ensures { MOST_BYTES ≡ most_bytes }
+{}
 
 /// Reads a script to the end of the source. The bytes are gone when it returns.
 pub(crate) fn input<S: Source>(alloc: Global, source: &mut S) -> Result<Script, Status>

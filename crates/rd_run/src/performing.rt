@@ -1,10 +1,10 @@
 //! The commands of a script without their answers, and what is written at their end.
 
 ghost use Rattle.std.specs.Prelude.{◌≡◌, ◌⊎◌, ◌≤◌, false, length, OnErr, OnOk, IfOk, string_bytes};
-ghost use Rattle.rd_gen.specs.declared.generated.TheConstants.{MAX_EDITS};
+ghost use Rattle.rd_gen.specs.Figures.{max_edits};
 ghost use Rattle.rd_tree.specs.declared.limits.TheConstants.{MAX_BOXES};
 ghost use Rattle.rd_report.specs.Summaries.{summary_lines};
-ghost use Rattle.rd_scene.specs.declared.script.TheConstants.{MAX_COMMANDS};
+ghost use Rattle.rd_scene.specs.Figures.{max_commands};
 ghost use Rattle.rd_run.specs.Endings.{counter, stream, totals_of, IsScriptPicture, IsStormSummary};
 ghost use Rattle.rd_run.specs.Internal.Answered.{AnswersAs, Performs, MayPerform, Finished, MayFinish, Writes};
 ghost use Rattle.rd_run.specs.Internal.Session.{Shows, IsFew};
@@ -28,12 +28,12 @@ fn perform_all<A: Ledger, B: Ledger>(
     looks: &mut Steps<B>,
 ) -> Result<(), NoMemory>
     requires none { IsFew session.old 0 }
-    requires few { length commands.now ≤ MAX_COMMANDS }
+    requires few { length commands.now ≤ max_commands }
     ensures all { OnOk result ((s : State) → Shows session.old s
         → Performs (counter made.old made.new) (counter looks.old looks.new) s commands.now session.new) }
     ensures part { OnErr result ((s : State) → Shows session.old s
         → MayPerform (counter made.old made.new) (counter looks.old looks.new) s commands.now) }
-    ensures count { IsFew session.new MAX_COMMANDS }
+    ensures count { IsFew session.new max_commands }
 {
     for command in commands {
         session.perform(command, made, looks)?;
@@ -136,7 +136,7 @@ pub(crate) fn storm<O: Sink, A: Ledger, B: Ledger>(
 ) -> Status
     requires some { 1 ≤ boxes }
     requires most { boxes ≤ MAX_BOXES }
-    requires edits { edits ≤ MAX_EDITS }
+    requires edits { edits ≤ max_edits }
     ensures { AnswersAs ((out.new ≡ out.old) × (made.new ≡ made.old) × (looks.new ≡ looks.old))
         (IsStormSummary seed boxes edits)
         (stream (O.written out.old) (O.written out.new) (O.faults out.old) (O.faults out.new))

@@ -9,7 +9,7 @@ use Rattle.rd_run.specs.Machine.{State, Counts, no_counts, Run, Finishes}
 use Rattle.rd_run.specs.Endings.{Stream, Counter, HasFailed, IsFaultless, HasRead}
 use Rattle.rd_run.specs.Internal.Session.{SessionState, AreCounted, AreWithin, Shows}
 use Rattle.rd_run.specs.Internal.Lasts.{IsWellFormed}
-use Rattle.rd_run.specs.declared.input.TheConstants.{MOST_BYTES}
+use Rattle.rd_run.specs.Figures.{most_bytes}
 use Rattle.rd_run.specs.declared.status.Status.{Status}
 use Rattle.rd_run.specs.declared.status.Status.TheVariants.{Done, NotJson, Form, ReadFault, WriteFault, NoMemory, TooLarge}
 
@@ -71,7 +71,7 @@ module _ (untouched : Type 0) (is_answer : List ℕ → Counts → Type 0) (out 
 -- why no script was read
 abbrev pub RefusesInput : Stream → Status → Type 0
 RefusesInput source ReadFault = HasFailed source
-RefusesInput source TooLarge = IsFaultless source × Takes source.bytes source.bytes_now (MOST_BYTES + 1)
+RefusesInput source TooLarge = IsFaultless source × Takes source.bytes source.bytes_now (most_bytes + 1)
 RefusesInput source NotJson = (bytes : List ℕ) × HasRead source bytes × HasNoReading bytes
 RefusesInput source (Form p w) = (bytes : List ℕ) × HasRead source bytes × IsOffForm bytes p w
 RefusesInput source NoMemory = IsFaultless source

@@ -1,0 +1,6 @@
+-- The largest inputs. They are this project's own choice.
+use Rattle.std.specs.Prelude.{ℕ}
+
+-- The most bytes of an input: 64 times 2 ^ 20.
+abbrev pub most_bytes : ℕ
+most_bytes = 67108864
