@@ -3,6 +3,7 @@
 ghost use Rattle.std.specs.Prelude.{◌≡◌, ℕ, ℤ, pos, ◌+ℤ◌, ◌-ℤ◌, ◌≤ℤ◌, ◌↔◌, IfSome, IfNone, IsTrue, ◌&&◌, int_le, int_lt, Bool};
 ghost use Rattle.rd_geom.specs.Plane as plane;
 ghost use Rattle.rd_geom.specs.Plane.{meet, SharesPixel, has_none, holds_pixel, right, bottom, IsPlaced, spanning, int_low, inset, outset};
+ghost use Rattle.rd_geom.specs.Figures.{max_reach, max_canvas_side};
 
 use std::marker::Model;
 
@@ -11,6 +12,12 @@ pub const MAX_REACH: i32 = 1_000_000_000;
 
 /// The largest width and height of a canvas, in pixels.
 pub const MAX_CANVAS_SIDE: i32 = 4096;
+
+/// The limits, so that clauses can say what they are.
+fn figures()
+    ensures reach { MAX_REACH ≡ max_reach }
+    ensures canvas { MAX_CANVAS_SIDE ≡ max_canvas_side }
+{}
 
 /// A rectangle of pixels: its left upper pixel, and how many it has across and down (CSS 2.2 section 8.1).
 ///
@@ -152,8 +159,8 @@ impl Rect {
 pub(crate) fn spanning(left: i32, top: i32, right: i32, bottom: i32) -> Rect
     requires from_left { int_low ≤ℤ left }
     requires from_top { int_low ≤ℤ top }
-    requires to_right { right ≤ℤ MAX_REACH }
-    requires to_bottom { bottom ≤ℤ MAX_REACH }
+    requires to_right { right ≤ℤ max_reach }
+    requires to_bottom { bottom ≤ℤ max_reach }
     ensures { result ≡ spanning left top right bottom }
 {
     if left < right && top < bottom {
