@@ -9,7 +9,7 @@ use Rattle.rd_geom.specs.Plane.{Rectangle}
 use Rattle.rd_style.specs.declared.styles.Style.{Style}
 use Rattle.rd_style.specs.declared.styles.StyleChange.{StyleChange}
 use Rattle.rd_style.specs.Changes.{plain, changed}
-use Rattle.rd_style.specs.declared.limits.TheConstants.{MAX_LINE_WIDTH, MAX_COORDINATE, MAX_EXTENT}
+use Rattle.rd_style.specs.Figures.{max_line_width, max_coordinate, max_extent}
 use Rattle.rd_style.specs.Limits.{is_between, fits_rect, FitsRect, fits, Fits}
 
 -- a number from the one to the other, both included
@@ -54,8 +54,8 @@ fits_rect-bounds r =
     (λ p. record { x = p.0.0; y = p.0.1; w = p.1.0; h = p.1.1 })
     (λ p. ((p.x, p.y), (p.w, p.h)))
     (Decides-and _ _
-    (Decides-and _ _ (between_decides (pos 0 -ℤ MAX_COORDINATE) r.x MAX_COORDINATE) (between_decides (pos 0 -ℤ MAX_COORDINATE) r.y MAX_COORDINATE))
-    (Decides-and _ _ (between_decides (pos 0) r.w MAX_EXTENT) (between_decides (pos 0) r.h MAX_EXTENT)))
+    (Decides-and _ _ (between_decides (pos 0 -ℤ max_coordinate) r.x max_coordinate) (between_decides (pos 0 -ℤ max_coordinate) r.y max_coordinate))
+    (Decides-and _ _ (between_decides (pos 0) r.w max_extent) (between_decides (pos 0) r.h max_extent)))
 
 pub fits-bounds : (s : Style) → Decides (fits s) (WidthBounds s)
 unfolding fits
@@ -64,8 +64,8 @@ fits-bounds s =
     (λ p. record { top = p.0.0.0.0; right = p.0.0.0.1; bottom = p.0.0.1; left = p.0.1; outline = p.1 })
     (λ p. ((((p.top, p.right), p.bottom), p.left), p.outline))
     (Decides-and _ _ (Decides-and _ _
-    (Decides-and _ _ (Decides-and _ _ (at_most s.border_width.top MAX_LINE_WIDTH) (at_most s.border_width.right MAX_LINE_WIDTH))
-    (at_most s.border_width.bottom MAX_LINE_WIDTH)) (at_most s.border_width.left MAX_LINE_WIDTH)) (at_most s.outline_width MAX_LINE_WIDTH))
+    (Decides-and _ _ (Decides-and _ _ (at_most s.border_width.top max_line_width) (at_most s.border_width.right max_line_width))
+    (at_most s.border_width.bottom max_line_width)) (at_most s.border_width.left max_line_width)) (at_most s.outline_width max_line_width))
 
 pub fits_rect-open : (r : Rectangle) → FitsRect r → RectBounds r
 fits_rect-open r = (fits_rect-bounds r).0

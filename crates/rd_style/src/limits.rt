@@ -1,6 +1,7 @@
 //! The limits of widths and rectangles.
 
 ghost use Rattle.std.specs.Prelude.{◌≡◌};
+ghost use Rattle.rd_style.specs.Figures.{max_line_width, max_coordinate, max_extent};
 ghost use Rattle.rd_style.specs.Limits as limits;
 
 use crate::styles::Style;
@@ -14,6 +15,13 @@ pub const MAX_COORDINATE: i32 = 1_000_000;
 
 /// The largest width and height of a box, in canvas pixels.
 pub const MAX_EXTENT: i32 = 1_000_000;
+
+/// The limits, so that clauses can say what they are.
+fn figures()
+    ensures lines { MAX_LINE_WIDTH ≡ max_line_width }
+    ensures places { MAX_COORDINATE ≡ max_coordinate }
+    ensures extents { MAX_EXTENT ≡ max_extent }
+{}
 
 /// Is every border and outline width at most `MAX_LINE_WIDTH`?
 #[tactic(auto, unfolding(crate::specs::Limits::fits))]
