@@ -7,9 +7,9 @@ ghost use Rattle.rd_tree.specs.Document.{contains, named, IsNext, HasFreeSlot};
 ghost use Rattle.rd_tree.specs.Forest.{children, depth, height, in_subtree, IsPlaceIn};
 ghost use Rattle.rd_tree.specs.Changes.{insertion, removal, moving, styling, new_item, CanRestyle};
 ghost use Rattle.rd_tree.specs.Touching.{edited};
+ghost use Rattle.rd_tree.specs.Figures.{max_depth};
 
 use crate::id::Id;
-use crate::limits::MAX_DEPTH;
 use crate::tree::Tree;
 use rd_geom::{NoMemory, Rect};
 use rd_keys::BoxKey;
@@ -30,7 +30,7 @@ impl<B: Ledger> Tree<B> {
         requires parent { contains self.old parent ≡ true }
         requires place { IsPlaceIn same_key before (children same_key parent self.old.boxes) }
         requires new_id { named id.now self.old.boxes ≡ None }
-        requires depth { depth same_key parent self.old.boxes + 1 ≤ MAX_DEPTH }
+        requires depth { depth same_key parent self.old.boxes + 1 ≤ max_depth }
         requires room { HasFreeSlot self.old }
         requires rect { FitsRect rect }
         requires style { Fits style }
@@ -76,7 +76,7 @@ impl<B: Ledger> Tree<B> {
         requires place { IsPlaceIn same_key before (children same_key parent self.old.boxes) }
         requires other { before ≡ Some key → ⊥ }
         requires depth { depth same_key parent self.old.boxes + (1 + height (children same_key
-            key self.old.boxes)) ≤ MAX_DEPTH }
+            key self.old.boxes)) ≤ max_depth }
         ensures { self.new ≡ edited (moving key parent before) self.old }
     {
         let (from, to) = if self.holds_blended(key) {

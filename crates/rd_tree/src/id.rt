@@ -88,7 +88,8 @@ impl Id {
 
     /// The text of the id, to keep.
     pub(crate) fn name(&self) -> Result<String, NoMemory>
-        ensures { IfOk result (λ text. string_bytes text ≡ self.now) }
+        ensures same_text { IfOk result (λ text. string_bytes text ≡ self.now) }
+        ensures well_formed { ids.is_id self.now ≡ true }
     {
         self.text.clone()
     }

@@ -15,6 +15,7 @@ use Rattle.rd_tree.specs.Forest.{empty, tree, has, children, IsPlaceIn}
 use Rattle.rd_tree.specs.Internal.Links.{Node, ends_of, left_of, grafted}
 use Rattle.rd_style.specs.Limits.{FitsRect, Fits}
 use Rattle.rd_tree.specs.Document.{BoxKey, Item, named, with_taken}
+use Rattle.rd_tree.specs.Ids.{is_id}
 use Rattle.rd_tree.specs.Internal.Linked.{plain, linked, Relinks, IsTree, seen, marks, item_at, IsIndexed, AddsText, EachFits, IsConsistent}
 use Rattle.rd_tree.proofs.Nodes.Marks.{marks-enters}
 use Rattle.rd_tree.proofs.Linking.Standing.{cases}
@@ -45,7 +46,7 @@ fits_added k d old new more r s h j e n =
 
 indexed_added : {Y S : Type 0} (k : BoxKey) (d : Item) (old new : BoxKey → Option Item) (ids0 ids1 : HashMap (String Y) BoxKey S) →
     AddsItem k d old new → old k ≡ None → get_by_text ids0 d.id ≡ None → AddsText d.id k ids0 ids1 → IsIndexed old ids0 → IsIndexed new ids1
-indexed_added k d old new ids0 ids1 more free none adds x = record { named = named_in; live = live_in } where
+indexed_added k d old new ids0 ids1 more free none adds x = record { named = named_in; live = live_in; are = are_in } where
   named_in : (j : BoxKey) (e : Item) → new j ≡ Some e → get_by_text ids1 e.id ≡ Some j
   named_in j e n =
       let q : cond (same_key k j) (Some d) (old j) ≡ Some e = sym (more j) ∙ n in
@@ -53,13 +54,13 @@ indexed_added k d old new ids0 ids1 more free none adds x = record { named = nam
         | inl u ↦
             let q2 : Some d ≡ Some e = rw u at q in
             let i : d ≡ e = cc (q2) in
-            let f : get_by_text ids1 d.id ≡ Some k = adds d.id ∙ rw (bytes_refl d.id) refl in
+            let f : get_by_text ids1 d.id ≡ Some k = adds.1 d.id ∙ rw (bytes_refl d.id) refl in
             subst (λ y. get_by_text ids1 y.id ≡ Some j) i (subst (λ y. get_by_text ids1 d.id ≡ Some y) (same_key-sound k j u) f)
         | inr u ↦
             let o : get_by_text ids0 e.id ≡ Some j = x.named j e (rw u at q) in
             elim (cases (bytes_eq d.id e.id)) [
               | inl v ↦ let w : get_by_text ids0 d.id ≡ Some j = subst (λ y. get_by_text ids0 y ≡ Some j) (sym (bytes_same d.id e.id v)) o in cc (w, none)
-              | inr v ↦ adds e.id ∙ rw v o
+              | inr v ↦ adds.1 e.id ∙ rw v o
             ]
       ]
 
@@ -67,12 +68,12 @@ indexed_added k d old new ids0 ids1 more free none adds x = record { named = nam
   live_in i j g =
       elim (cases (bytes_eq d.id i)) [
         | inl v ↦
-            let q : Some k ≡ Some j = sym (adds i ∙ rw v refl) ∙ g in
+            let q : Some k ≡ Some j = sym (adds.1 i ∙ rw v refl) ∙ g in
             let n : k ≡ j = cc (q) in
             let f : option_map (λ y. y.id) (new k) ≡ Some i = ap (option_map (λ y. y.id)) (more k) ∙ rw (same_key-refl k) (ap Some (bytes_same d.id i v)) in
             subst (λ y. option_map (λ y. y.id) (new y) ≡ Some i) n f
         | inr v ↦
-            let q : get_by_text ids0 i ≡ Some j = sym (adds i ∙ rw v refl) ∙ g in
+            let q : get_by_text ids0 i ≡ Some j = sym (adds.1 i ∙ rw v refl) ∙ g in
             let o : option_map (λ y. y.id) (old j) ≡ Some i = x.live i j q in
             elim (cases (same_key k j)) [
               | inl u ↦
@@ -81,6 +82,17 @@ indexed_added k d old new ids0 ids1 more free none adds x = record { named = nam
                   cc (w2)
               | inr u ↦ ap (option_map (λ y. y.id)) (more j) ∙ rw u o
             ]
+      ]
+
+  are_in : (j : BoxKey) (e : Item) → new j ≡ Some e → is_id e.id ≡ true
+  are_in j e n =
+      let q : cond (same_key k j) (Some d) (old j) ≡ Some e = sym (more j) ∙ n in
+      elim (cases (same_key k j)) [
+        | inl u ↦
+            let q2 : Some d ≡ Some e = rw u at q in
+            let i : d ≡ e = cc (q2) in
+            subst (λ y. is_id y.id ≡ true) i adds.0
+        | inr u ↦ x.are j e (rw u at q)
       ]
 
 -- A box came in with its id, and the links round it were set.
@@ -123,7 +135,7 @@ planted_sound a0 a1 k d ids0 ids1 none limit first r st stored more still no_id 
     let nothing : (j : BoxKey) → item_at a0 j ≡ None = λ j. ap (λ o. option_map (λ n. n.item) (option_map plain o)) (no_value a0 j.slot j.generation none) in
     let items : AddsItem k d (item_at a0) (item_at a1) = λ j. ap (option_map (λ n. n.item)) (linked_put a0 a1 k (alone d) stored j) ∙ kept (same_key k j)
     (linked a0 j) in
-    let x : IsIndexed (item_at a0) ids0 = record { named = λ j e h. cc (h, nothing j); live = λ i j h. cc (h, no_id i) } in (
+    let x : IsIndexed (item_at a0) ids0 = record { named = λ j e h. cc (h, nothing j); live = λ i j h. cc (h, no_id i); are = λ j e h. cc (h, nothing j) } in (
       record {
         tree = t.0;
         indexed = indexed_added k d (item_at a0) (item_at a1) ids0 ids1 items (nothing k) (no_id d.id) adds x;
@@ -149,6 +161,7 @@ same_entries a root ids0 ids1 e s =
         named = λ k d h. same d.id ∙ s.indexed.named k d h;
         live = λ i k h. s.indexed.live i k (sym (same i)
             ∙ h);
+        are = s.indexed.are;
       };
       fits = s.fits;
       limit = s.limit;
@@ -157,12 +170,15 @@ same_entries a root ids0 ids1 e s =
 
 -- What an insertion into the index does.
 pub added_text : {Y S : Type 0} (ids0 ids1 ids2 : HashMap (String Y) BoxKey S) (name : String Y) (i : List ℕ) (k : BoxKey) →
-    ids1.entries ≡ ids0.entries → string_bytes name ≡ i → Updates string_eq ids1 ids2 name (Some k) → AddsText i k ids0 ids2
-added_text ids0 ids1 ids2 name i k e n u j =
-    let h : get_by_text ids2 j ≡ cond (bytes_eq (string_bytes name) j) (Some k) (get_by_text ids1 j) = hash_map_updates_text (string_bytes name) ids1 ids2
-    (Some k) u j in
-    let same : get_by_text ids1 j ≡ get_by_text ids0 j = ap (lookup (λ k. bytes_eq j (string_bytes k))) e in
-    h ∙ (ap (λ b. cond (bytes_eq b j) (Some k) (get_by_text ids1 j)) n ∙ ap (λ o. cond (bytes_eq i j) (Some k) o) same)
+    ids1.entries ≡ ids0.entries → string_bytes name ≡ i → is_id i ≡ true → Updates string_eq ids1 ids2 name (Some k) → AddsText i k ids0 ids2
+added_text ids0 ids1 ids2 name i k e n is u = (
+  is,
+  λ j.
+      let h : get_by_text ids2 j ≡ cond (bytes_eq (string_bytes name) j) (Some k) (get_by_text ids1 j) = hash_map_updates_text (string_bytes name) ids1 ids2
+      (Some k) u j in
+      let same : get_by_text ids1 j ≡ get_by_text ids0 j = ap (lookup (λ k. bytes_eq j (string_bytes k))) e in
+      h ∙ (ap (λ b. cond (bytes_eq b j) (Some k) (get_by_text ids1 j)) n ∙ ap (λ o. cond (bytes_eq i j) (Some k) o) same),
+)
 
 -- No text is in an empty index.
 pub no_text : {Y S : Type 0} (ids : HashMap (String Y) BoxKey S) → ids.entries ≡ [] → (i : List ℕ) → get_by_text ids i ≡ None

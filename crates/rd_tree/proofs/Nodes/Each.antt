@@ -11,6 +11,7 @@ use Rattle.rd_tree.specs.declared.node.Node as inner
 use Rattle.rd_tree.specs.Forest.{Forest, empty, tree, size, ◌▷◌, has, children, map_where, is_among, AllItems, IsPlaceIn, IsApart}
 use Rattle.rd_tree.specs.Internal.Links.{Node, node, with_item, Stands, on_each, child_and_sibling}
 use Rattle.rd_tree.specs.Document.{BoxKey, Item, BoxForest}
+use Rattle.rd_tree.specs.Ids.{is_id}
 use Rattle.rd_tree.specs.Internal.Linked.{linked, Relinks, IsTree, IsRead, seen, seen_from, item_at, IsIndexed, EachFits, IsConsistent}
 use Rattle.rd_tree.proofs.Linking.Standing.{cases, frame, agree_at, from_left, from_right}
 use Rattle.rd_tree.proofs.Linking.Children.{stands_children}
@@ -153,6 +154,10 @@ module _ (p : BoxKey → Bool) (g : Item → Item) (at bt : BoxKey → Option It
         let i : d.id ≡ o.0.id = ap (λ d. d.id) o.2 ∙ ids_kept same_id (p k) o.0 in
         ap (get_by_text ids) i ∙ x.named k o.0 o.1;
     live = λ i k h. ap (option_map (λ d. d.id)) (more k) ∙ (ids_at same_id (p k) (at k) ∙ x.live i k h);
+    are = λ k d h.
+        let o : (e : Item) × (at k ≡ Some e) × (d ≡ cond (p k) (g e) e) = old_item (p k) (at k) d (sym (more k) ∙ h) in
+        let i : d.id ≡ o.0.id = ap (λ d. d.id) o.2 ∙ ids_kept same_id (p k) o.0 in
+        ap is_id i ∙ x.are k o.0 o.1;
   }
 
   fits_each : ((k : BoxKey) (d : Item) → at k ≡ Some d → p k ≡ true → FitsRect (g d).rect × Fits (g d).style) → EachFits at → EachFits bt

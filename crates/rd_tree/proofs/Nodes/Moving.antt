@@ -194,7 +194,7 @@ items_moved a0 a1 a2 a3 k q before v first last r1 r2 r3 j =
 
 indexed_same : {Y S : Type 0} (at bt : BoxKey → Option Item) (ids : HashMap (String Y) BoxKey S) → ((j : BoxKey) → bt j ≡ at j) → IsIndexed at ids
     → IsIndexed bt ids
-indexed_same at bt ids same x = record { named = λ k d h. x.named k d (sym (same k) ∙ h); live = λ i k h. ap (option_map (λ d. d.id)) (same k) ∙ x.live i k h }
+indexed_same at bt ids same x = record { named = λ k d h. x.named k d (sym (same k) ∙ h); live = λ i k h. ap (option_map (λ d. d.id)) (same k) ∙ x.live i k h; are = λ k d h. x.are k d (sym (same k) ∙ h) }
 
 pub move_sound : {Y S : Type 0} (a0 a1 a2 a3 : Arena inner.Node) (root k q : BoxKey) (before v : Option BoxKey) (ends : Option BoxKey × Option BoxKey)
     (ids : HashMap (String Y) BoxKey S) →

@@ -12,7 +12,8 @@ use Rattle.rd_tree.specs.declared.node.Node as inner
 use Rattle.rd_tree.specs.Forest.{empty, tree, has, starting_at, top, children, IsApart}
 use Rattle.rd_tree.specs.Internal.Links.{Node, Stands}
 use Rattle.rd_style.specs.Limits.{FitsRect, Fits}
-use Rattle.rd_tree.specs.Document.{BoxKey, Item, BoxForest, or_else, named, AllFit}
+use Rattle.rd_tree.specs.Document.{BoxKey, Item, BoxForest, or_else, named, AllFit, HasIds, id_of}
+use Rattle.rd_tree.specs.Ids.{is_id}
 use Rattle.rd_tree.specs.Internal.Linked.{linked, IsLinked, IsTree, seen, item_at, IsIndexed, EachFits, IsConsistent}
 use Rattle.rd_tree.proofs.Linking.Standing.{cases, never, refute, from_left, from_right}
 use Rattle.rd_tree.proofs.Linking.Children.{stands_children}
@@ -154,6 +155,18 @@ item_seen a root k t = sym (ap (λ f. top (starting_at same_key k f)) (seen_is a
 pub fits_seen : {Y S : Type 0} (a : Arena inner.Node) (root : BoxKey) (ids : HashMap (String Y) BoxKey S) → IsConsistent a root ids → AllFit (seen a root)
 fits_seen a root ids s = subst AllFit (sym (seen_is a root s.tree)) (all_fit (linked a) None None s.tree.boxes (Some root) (Some root) None
     s.tree.is.stands s.fits)
+
+-- The ids of a tree are ids, and differ.
+pub ids_seen : {Y S : Type 0} (a : Arena inner.Node) (root : BoxKey) (ids : HashMap (String Y) BoxKey S) → IsConsistent a root ids → HasIds (seen a root)
+ids_seen a root ids s = record {
+  are = λ k i h. let t = has k i h in subst (λ w. is_id w ≡ true) t.2 (s.indexed.are k t.0 t.1);
+  differ = λ j k i h g. let t : get_by_text ids i ≡ Some j = under j i h in let u : get_by_text ids i ≡ Some k = under k i g in cc (t, u);
+} where
+  has : (k : BoxKey) (i : List ℕ) → id_of k (seen a root) ≡ Some i → (d : Item) × (item_at a k ≡ Some d) × (d.id ≡ i)
+  has k i h = item_with_id (item_at a k) i (ap (option_map (λ d. d.id)) (item_seen a root k s.tree) ∙ h)
+
+  under : (k : BoxKey) (i : List ℕ) → id_of k (seen a root) ≡ Some i → get_by_text ids i ≡ Some k
+  under k i h = let t = has k i h in subst (λ w. get_by_text ids w ≡ Some k) t.2 (s.indexed.named k t.0 t.1)
 
 -- What a node tells of its item.
 pub value_item : (a : Arena inner.Node) (root k : BoxKey) → IsTree a root → option_map (λ n. n.item) (value a k.slot k.generation)

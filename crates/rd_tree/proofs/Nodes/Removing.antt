@@ -41,6 +41,7 @@ indexed_dropped : {Y S : Type 0} (at : BoxKey → Option (Node BoxKey Item)) (up
 indexed_dropped at up prev first last after gone old new ids0 ids1 s same less drops x = record {
   named = λ j d e. let t : (has same_key j gone ≡ false) × (old j ≡ Some d) = kept_item gone old new j d less e in named_in j d t.0 t.1 (named d.id gone) refl;
   live = λ i j g. live_in i j (named i gone) refl (sym (drops i) ∙ g);
+  are = λ j d e. x.are j d (kept_item gone old new j d less e).1;
 } where
   named_in : (j : BoxKey) (d : Item) → has same_key j gone ≡ false → old j ≡ Some d → (o : Option BoxKey) → named d.id gone ≡ o → get_by_text ids1 d.id ≡ Some j
   named_in j d out e None h = drops d.id ∙ rw h (x.named j d e)

@@ -5,7 +5,7 @@ use Rattle.rd_style.specs.Classes.{real, blended}
 use Rattle.rd_keys.specs.Keys.{same_key}
 use Rattle.rd_keys.specs.Arena.{Arena}
 use Rattle.rd_tree.specs.declared.node.Node as inner
-use Rattle.rd_tree.specs.declared.limits.TheConstants.{MAX_BOXES}
+use Rattle.rd_tree.specs.Figures.{max_boxes}
 use Rattle.rd_tree.specs.Forest.{empty, tree, has}
 use Rattle.rd_tree.specs.Document.{BoxKey, Item, BoxForest}
 use Rattle.rd_tree.specs.Contexts.{blends_in}
@@ -70,8 +70,8 @@ pub record CanRecount (a : Arena inner.Node) (rows : List ℕ) (from : Option Bo
   pub is : IsStanding a root boxes
   pub there : IsIn from boxes
   pub has_rows : (k : BoxKey) → has same_key k boxes ≡ true → k.slot < length rows
-  pub limit : a.limit ≡ MAX_BOXES
-  pub few : less ≤ MAX_BOXES
+  pub limit : a.limit ≡ max_boxes
+  pub few : less ≤ max_boxes
   pub owes : Owes from less more (count_at rows) boxes
 
 -- No count of a live key that is none of these boxes changes.

@@ -4,7 +4,7 @@ use Rattle.std.specs.HashMap.{HashMap}
 use Rattle.rd_keys.specs.Arena.{Arena}
 use Rattle.rd_tree.specs.declared.node.Node as inner
 use Rattle.rd_tree.specs.declared.table.row.Summary.{Summary}
-use Rattle.rd_tree.specs.declared.limits.TheConstants.{MAX_DEPTH}
+use Rattle.rd_tree.specs.Figures.{max_depth}
 use Rattle.rd_tree.specs.Forest.{height}
 use Rattle.rd_tree.specs.Document.{BoxKey}
 use Rattle.rd_tree.specs.Internal.Linked.{seen, IsConsistent}
@@ -17,4 +17,4 @@ pub record IsKept {Y S : Type 0} (a : Arena inner.Node) (root : BoxKey) (ids : H
   pub sound : IsConsistent a root ids
   pub table : IsTabled a rows (seen a root)
   pub blending : IsBlending a counts (seen a root)
-  pub shallow : height (seen a root) ≤ MAX_DEPTH
+  pub shallow : height (seen a root) ≤ max_depth

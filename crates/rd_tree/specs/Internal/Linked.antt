@@ -6,11 +6,12 @@ use Rattle.std.specs.Str.{bytes_eq}
 use Rattle.rd_keys.specs.Keys.{same_key}
 use Rattle.rd_keys.specs.Arena as inner_slot
 use Rattle.rd_keys.specs.Arena.{Arena, value, live, occupied, is_taken}
-use Rattle.rd_tree.specs.declared.limits.TheConstants.{MAX_BOXES}
+use Rattle.rd_tree.specs.Figures.{max_boxes}
 use Rattle.rd_tree.specs.declared.node.Node as inner
 use Rattle.rd_tree.specs.Forest.{size, has, IsApart}
 use Rattle.rd_tree.specs.Internal.Links.{Node, Stands, read}
 use Rattle.rd_tree.specs.Document.{BoxKey, Item, BoxForest, Slot}
+use Rattle.rd_tree.specs.Ids.{is_id}
 use Rattle.rd_style.specs.Limits.{FitsRect, Fits}
 use Rattle.rd_tree.specs.declared.table.row.Summary.{Summary}
 use Rattle.rd_tree.specs.Shown.{Shown}
@@ -60,18 +61,19 @@ pub record IsTree (a : Arena inner.Node) (root : BoxKey) : Type 0 where
 abbrev pub item_at : Arena inner.Node → BoxKey → Option Item
 item_at a k = option_map (λ n. n.item) (linked a k)
 
--- The index has the key of each item under its id, and no other.
+-- Each item has an id, and the index has its key under it, and no other.
 pub record IsIndexed {Y S : Type 0} (at : BoxKey → Option Item) (ids : HashMap
     (String Y) BoxKey S) : Type 0 where
   pub named : (k : BoxKey) (d : Item) → at k ≡ Some d → get_by_text ids d.id ≡ Some k
   pub live : (i : List ℕ) (k : BoxKey) → get_by_text ids i ≡ Some k → option_map (λ d. d.id)
       (at k) ≡ Some i
+  pub are : (k : BoxKey) (d : Item) → at k ≡ Some d → is_id d.id ≡ true
 
--- The new index has k under this id, and all else as it was.
+-- The text is an id, under which the new index has k, and all else is as it was.
 abbrev pub AddsText : {Y S : Type 0} → List ℕ → BoxKey → HashMap (String Y) BoxKey S
     → HashMap (String Y) BoxKey S → Type 0
-AddsText i k old new = (j : List ℕ) → get_by_text new j ≡ (if bytes_eq i j then Some k
-    else get_by_text old j)
+AddsText i k old new = (is_id i ≡ true) × ((j : List ℕ) → get_by_text new j ≡ (if bytes_eq
+    i j then Some k else get_by_text old j))
 
 abbrev pub EachFits : (BoxKey → Option Item) → Type 0
 EachFits at = (k : BoxKey) (d : Item) → at k ≡ Some d → FitsRect d.rect × Fits d.style
@@ -82,7 +84,7 @@ pub record IsConsistent {Y S : Type 0} (a : Arena inner.Node) (root : BoxKey) (i
   pub tree : IsTree a root
   pub indexed : IsIndexed (item_at a) ids
   pub fits : EachFits (item_at a)
-  pub limit : a.limit ≡ MAX_BOXES
+  pub limit : a.limit ≡ max_boxes
   pub first : a.first ≡ 0
 
 abbrev pub seen : Arena inner.Node → BoxKey → BoxForest

@@ -7,7 +7,7 @@ use Rattle.rd_tree.specs.declared.node.Node as inner
 use Rattle.rd_tree.specs.declared.table.row.Summary.{Summary}
 use Rattle.rd_tree.specs.declared.table.whole.Whole.{Whole}
 use Rattle.rd_style.specs.Limits.{FitsRect, Fits}
-use Rattle.rd_tree.specs.declared.limits.TheConstants.{MAX_BOXES}
+use Rattle.rd_tree.specs.Figures.{max_boxes}
 use Rattle.rd_tree.specs.Forest.{empty, tree, size, has, in_subtree, IsApart}
 use Rattle.rd_tree.specs.Internal.Links.{Node, Stands, child_and_sibling}
 use Rattle.rd_tree.specs.Document.{BoxKey, Item, BoxForest, AllFit}
@@ -164,7 +164,7 @@ pub record CanSwap (a : Arena inner.Node) (rows : List Summary) (from : Option B
   pub there : IsIn from boxes
   pub has_rows : HasRows rows boxes
   pub fits : AllFit boxes
-  pub few : a.limit ≡ MAX_BOXES
+  pub few : a.limit ≡ max_boxes
   pub swapping : IsSwapping rows boxes from old new
 
 -- no branch at all
@@ -210,7 +210,7 @@ pub record CanClimb (a : Arena inner.Node) (rows : List Summary) (p : BoxKey) (Q
   pub there : has same_key p boxes ≡ true
   pub has_rows : HasRows rows boxes
   pub fits : AllFit boxes
-  pub few : a.limit ≡ MAX_BOXES
+  pub few : a.limit ≡ max_boxes
   pub ready : Q boxes
 
 -- The table has a row for each slot, and the right one for each box.

@@ -13,9 +13,10 @@ ghost use Rattle.rd_tree.specs.Internal.Reaching.{reached};
 ghost use Rattle.rd_tree.specs.Changes as changes;
 ghost use Rattle.rd_tree.specs.Internal.Reaching as reaching;
 ghost use Rattle.std.specs.Option.{option_map_or};
+ghost use Rattle.rd_style.specs.Figures.{max_coordinate};
+ghost use Rattle.rd_tree.specs.Figures.{max_boxes};
 
 use crate::held::Nodes;
-use crate::limits::MAX_BOXES;
 use crate::node::Item;
 use crate::reach::Reach;
 use rd_geom::Rect;
@@ -43,8 +44,8 @@ impl Work {
 }
 
 fn shift_side(at: i32, by: i32) -> i32
-    requires low { (pos 0 -ℤ MAX_COORDINATE) ≤ℤ (at +ℤ by) }
-    requires high { (at +ℤ by) ≤ℤ MAX_COORDINATE }
+    requires low { (pos 0 -ℤ max_coordinate) ≤ℤ (at +ℤ by) }
+    requires high { (at +ℤ by) ≤ℤ max_coordinate }
     ensures { result ≡ at +ℤ by }
 {
     at + by
@@ -119,7 +120,7 @@ pub(crate) fn child_and_sibling(nodes: &Nodes, key: BoxKey) -> (Option<BoxKey>, 
 /// How many levels a box, those below it, and its later siblings with theirs have.
 pub(crate) fn height_from(nodes: &Nodes, first: Option<BoxKey>) -> u32
     requires read { IsRead nodes.now first }
-    requires small { nodes.now.limit ≤ MAX_BOXES }
+    requires small { nodes.now.limit ≤ max_boxes }
     ensures height { result ≡ height (seen_from nodes.now first) }
     ensures most { result ≤ nodes.now.limit }
 {
@@ -167,9 +168,9 @@ impl Offset {
 }
 
 fn side_fits(at: i32, by: i32) -> bool
-    ensures low { IsTrue result → (pos 0 -ℤ MAX_COORDINATE) ≤ℤ (at +ℤ by) }
-    ensures high { IsTrue result → (at +ℤ by) ≤ℤ MAX_COORDINATE }
-    ensures fits { (pos 0 -ℤ MAX_COORDINATE) ≤ℤ (at +ℤ by) → (at +ℤ by) ≤ℤ MAX_COORDINATE
+    ensures low { IsTrue result → (pos 0 -ℤ max_coordinate) ≤ℤ (at +ℤ by) }
+    ensures high { IsTrue result → (at +ℤ by) ≤ℤ max_coordinate }
+    ensures fits { (pos 0 -ℤ max_coordinate) ≤ℤ (at +ℤ by) → (at +ℤ by) ≤ℤ max_coordinate
         → IsTrue result }
 {
     let sum = i64::from(at) + i64::from(by);

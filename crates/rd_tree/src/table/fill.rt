@@ -6,9 +6,9 @@ ghost use Rattle.rd_tree.specs.Document.{AllFit};
 ghost use Rattle.rd_tree.specs.Internal.Linked.{IsRead, linked, seen_from};
 ghost use Rattle.rd_tree.specs.Internal.Rows.{HasRows, IsFitAt, extent_under, touched_under};
 ghost use Rattle.rd_tree.specs.Internal.Gathers.{Gathers, gathered_in, row_over};
+ghost use Rattle.rd_tree.specs.Figures.{max_boxes};
 
 use crate::held::Nodes;
-use crate::limits::MAX_BOXES;
 use crate::links::walk::child_and_sibling;
 use crate::table::hulls::extent_of;
 use crate::table::row::{Summary, write};
@@ -77,7 +77,7 @@ fn with_one(all: &Gathered, own: u32, row: &Summary) -> Gathered
 /// Writes the rows of a box, of those below it, and of its later siblings with theirs. What the siblings are together.
 pub(crate) fn gather(table: &mut Vec<Summary>, nodes: &Nodes, first: Option<BoxKey>) -> Gathered
     requires read { IsRead nodes.now first }
-    requires small { nodes.now.limit ≤ MAX_BOXES }
+    requires small { nodes.now.limit ≤ max_boxes }
     requires has_rows { HasRows table.old.items (seen_from nodes.now first) }
     requires fits { AllFit (seen_from nodes.now first) }
     ensures told { result ≡ gathered_in (seen_from nodes.now first) }

@@ -1,5 +1,5 @@
 use Rattle.std.proofs.Common.{◌∙◌}
-use Rattle.rd_tree.proofs.Nodes.Naming.{named_seen, fits_seen}
+use Rattle.rd_tree.proofs.Nodes.Naming.{named_seen, fits_seen, ids_seen}
 use Rattle.rd_tree.proofs.tree.Tree.find.Goals as goal
 
 pub returns-clause-found : goal.returns-clause-found
@@ -8,3 +8,6 @@ returns-clause-found g c = rw (← c.self.view_is) (c.copied.ensures ∙ (c.get.
 
 pub returns-clause-limits : goal.returns-clause-limits
 returns-clause-limits g c = rw (← c.self.view_is) (fits_seen c.self.inside.nodes c.self.inside.root c.self.inside.ids c.self.invariant.sound)
+
+pub returns-clause-ids : goal.returns-clause-ids
+returns-clause-ids g c = rw (← c.self.view_is) (ids_seen c.self.inside.nodes c.self.inside.root c.self.inside.ids c.self.invariant.sound)

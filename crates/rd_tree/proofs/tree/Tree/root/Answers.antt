@@ -1,5 +1,5 @@
 use Rattle.rd_tree.proofs.Nodes.Rooting.{rooted_seen}
-use Rattle.rd_tree.proofs.Nodes.Naming.{fits_seen}
+use Rattle.rd_tree.proofs.Nodes.Naming.{fits_seen, ids_seen}
 use Rattle.rd_tree.proofs.Nodes.Looking.{apart_seen}
 use Rattle.rd_tree.proofs.Tables.TreeRows.{seen_keyed}
 use Rattle.rd_tree.proofs.tree.Tree.root.Goals as goal
@@ -18,3 +18,6 @@ returns-clause-keyed g c = rw (← c.self.view_is) (λ k h. seen_keyed c.self.in
 
 pub returns-clause-depth : goal.returns-clause-depth
 returns-clause-depth g c = rw (← c.self.view_is) c.self.invariant.shallow
+
+pub returns-clause-ids : goal.returns-clause-ids
+returns-clause-ids g c = rw (← c.self.view_is) (ids_seen c.self.inside.nodes c.self.inside.root c.self.inside.ids c.self.invariant.sound)
