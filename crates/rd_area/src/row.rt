@@ -4,7 +4,7 @@ ghost use Rattle.std.specs.Prelude.{◌≡◌, ℕ, ℤ, pos, ◌+◌, ◌<◌, 
 ghost use Rattle.std.specs.Int.{int_max, int_min};
 ghost use Rattle.rd_geom.specs.Areas.{in_span, in_spans, columns_in};
 ghost use Rattle.rd_geom.specs.declared.span.Span.{Span};
-ghost use Rattle.rd_geom.specs.declared.rect.TheConstants.{MAX_CANVAS_SIDE};
+ghost use Rattle.rd_geom.specs.Figures.{max_canvas_side};
 ghost use Rattle.rd_area.specs.Internal.Joining.{Joins, overlaps, row_has, row_meets, with_span, absorbing};
 ghost use Rattle.rd_area.specs.Rows.{IsRising};
 
@@ -122,9 +122,9 @@ pub(crate) fn holds(row: &[Span], x: i32) -> bool
 
 /// How many columns are in a row whose spans rise.
 pub(crate) fn count(row: &[Span]) -> u64
-    requires { IsRising (pos 0) MAX_CANVAS_SIDE row.now }
+    requires { IsRising (pos 0) max_canvas_side row.now }
     ensures value { (n : ℕ) → IsRising (pos 0) (pos n) row.now → result ≡ columns_in row.now n }
-    ensures at_most { pos result ≤ℤ (MAX_CANVAS_SIDE +ℤ pos 1) }
+    ensures at_most { pos result ≤ℤ (max_canvas_side +ℤ pos 1) }
 {
     let mut count = 0;
     for s in row {
@@ -137,7 +137,7 @@ pub(crate) fn count(row: &[Span]) -> u64
 fn width(s: Span) -> u64
     requires from { pos 0 ≤ℤ s.x0 }
     requires some { s.x0 <ℤ s.x1 }
-    requires to { s.x1 ≤ℤ MAX_CANVAS_SIDE }
+    requires to { s.x1 ≤ℤ max_canvas_side }
     ensures { pos result ≡ s.x1 -ℤ s.x0 }
 {
     (s.x1 - s.x0) as u64

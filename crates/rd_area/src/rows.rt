@@ -8,7 +8,7 @@ ghost use Rattle.rd_area.specs.Internal.Normal.{spans_of};
 ghost use Rattle.rd_area.specs.Internal.Bands.{IsBanded, rows_of};
 ghost use Rattle.rd_area.specs.Internal.Room.{room_at};
 ghost use Rattle.rd_area.specs.Rows.{IsRising};
-ghost use Rattle.rd_geom.specs.declared.rect.TheConstants.{MAX_CANVAS_SIDE};
+ghost use Rattle.rd_geom.specs.Figures.{max_canvas_side};
 
 use crate::row;
 use rd_geom::{NoMemory, Span};
@@ -60,8 +60,8 @@ pub(crate) fn have(rows: &Vec<Vec<Span>>, from: usize, to: usize, span: Span) ->
 
 /// How many pixels are in bands whose spans rise.
 pub(crate) fn count(ends: &[usize], bands: &[Vec<Span>], height: usize) -> u64
-    requires rising { (k : ℕ) → IsRising (pos 0) MAX_CANVAS_SIDE (get_or (spans_of bands.now) k []) }
-    requires few { pos height ≤ℤ MAX_CANVAS_SIDE }
+    requires rising { (k : ℕ) → IsRising (pos 0) max_canvas_side (get_or (spans_of bands.now) k []) }
+    requires few { pos height ≤ℤ max_canvas_side }
     requires banded { IsBanded height ends.now (length bands.now) }
     ensures { (n : ℕ) → ((k : ℕ) → IsRising (pos 0) (pos n) (get_or (spans_of bands.now) k []))
         → result ≡ sum_by (λ ss. columns_in ss n) (rows_of height ends.now (spans_of bands.now)) }

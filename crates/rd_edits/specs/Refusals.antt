@@ -3,7 +3,7 @@ use Rattle.std.specs.Prelude.{◌≡◌, ℕ, ◌+◌, nat_le, nat_lt, Bool, tru
 use Rattle.std.specs.Option.{option_map_or}
 use Rattle.rd_style.specs.Limits.{fits_rect, fits}
 use Rattle.rd_keys.specs.Keys.{same_key}
-use Rattle.rd_tree.specs.declared.limits.TheConstants.{MAX_BOXES, MAX_DEPTH}
+use Rattle.rd_tree.specs.Figures.{max_boxes, max_depth}
 use Rattle.rd_tree.specs.Forest.{children, depth, height, in_subtree, is_among}
 use Rattle.rd_tree.specs.Document.{Document, BoxKey, named, taken}
 use Rattle.rd_tree.specs.Changes.{fits_shift}
@@ -68,11 +68,11 @@ levels_of k t = 1 + height (children same_key k t.boxes)
 
 -- Would so many levels below the parent go too deep?
 abbrev pub is_too_deep : ℕ → BoxKey → Document → Bool
-is_too_deep levels parent t = nat_lt MAX_DEPTH (depth same_key parent t.boxes + levels)
+is_too_deep levels parent t = nat_lt max_depth (depth same_key parent t.boxes + levels)
 
 -- Are as many slots taken by boxes, or retired, as there may be boxes?
 abbrev pub is_full : Document → Bool
-is_full t = nat_le MAX_BOXES (taken t)
+is_full t = nat_le max_boxes (taken t)
 
 -- the fault that refuses the edit, if one does
 abbrev pub refusal_of : Document → Edit → Option EditFault

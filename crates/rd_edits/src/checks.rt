@@ -7,6 +7,7 @@ ghost use Rattle.rd_tree.specs.Forest.{children, depth, IsPlaceIn};
 ghost use Rattle.rd_edits.specs.Edited as edited;
 ghost use Rattle.rd_edits.specs.Ranges as ranges;
 ghost use Rattle.rd_edits.specs.Refusals as refusals;
+ghost use Rattle.rd_tree.specs.Figures.{max_depth};
 
 use rd_geom::Sides;
 use rd_style::{MAX_LINE_WIDTH, StyleChange};
@@ -60,7 +61,7 @@ pub(crate) fn is_before_itself(key: BoxKey, place: Option<BoxKey>) -> bool
 pub(crate) fn is_too_deep<B: Ledger>(tree: &Tree<B>, parent: BoxKey, levels: u32) -> bool
     requires { contains tree.now parent ≡ true }
     ensures test { result ≡ refusals.is_too_deep levels parent tree.now }
-    ensures room { result ≡ false → depth same_key parent tree.now.boxes + levels ≤ MAX_DEPTH }
+    ensures room { result ≡ false → depth same_key parent tree.now.boxes + levels ≤ max_depth }
 {
     u64::from(tree.depth(parent)) + u64::from(levels) > u64::from(MAX_DEPTH)
 }

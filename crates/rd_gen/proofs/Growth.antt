@@ -4,7 +4,7 @@ use Rattle.std.proofs.lemmas.List.{reverse-append, append-nil, get_or_append_lef
 use Rattle.std.proofs.lemmas.Grind.{get_or_default_zero}
 use Rattle.std.proofs.Math.Seq.{get_or-append_seam}
 use Rattle.std.proofs.lemmas.Bool.{lt-ltb, leb-false}
-use Rattle.rd_tree.specs.declared.limits.TheConstants.{MAX_DEPTH}
+use Rattle.rd_tree.specs.Figures.{max_depth}
 use Rattle.rd_scene.specs.declared.script.SceneBox.{SceneBox}
 use Rattle.rd_scene.specs.Order.{depth_of, depth_below, has_place, has_level_below, are_in_order}
 use Rattle.rd_gen.specs.Names.{box_id}
@@ -43,7 +43,7 @@ order_more before (x ∷ xs) b h free place =
 place_below : (before : List SceneBox) (p : List ℕ) (d : ℕ) → depth_of p before ≡ Some d → d ≤ 63 → has_place before (Some p) ≡ true
 place_below [] p d is shallow = cc
 place_below (b ∷ before) p d is shallow =
-    let e : nat_lt d MAX_DEPTH ≡ true = lt-ltb d MAX_DEPTH (omega arith) in
+    let e : nat_lt d max_depth ≡ true = lt-ltb d max_depth (omega arith) in
     ap has_level_below is ∙ e
 
 -- the root alone

@@ -5,6 +5,7 @@ ghost use Rattle.rd_scene.specs.declared.script.SceneBox.{SceneBox as Box};
 ghost use Rattle.rd_scene.specs.Order.{are_in_order};
 ghost use Rattle.rd_gen.specs.Boxes as spec;
 ghost use Rattle.rd_gen.specs.Internal.Depths.{HasDepths};
+ghost use Rattle.rd_tree.specs.Figures.{max_boxes};
 
 use crate::draw::Draw;
 use crate::names::box_id;
@@ -13,7 +14,6 @@ use crate::values::rectangle;
 use rd_geom::{Color, NoMemory, Rect};
 use rd_scene::SceneBox;
 use rd_style::Style;
-use rd_tree::MAX_BOXES;
 use std::alloc::Global;
 
 /// The depth from which on a box gets no child.
@@ -76,7 +76,7 @@ fn parent_by(depths: &[u32], p: u32) -> u32
 /// So many boxes, each below one before it.
 pub(crate) fn boxes(alloc: Global, draw: &mut Draw, number: u32) -> Result<Vec<SceneBox>, NoMemory>
     requires some { 1 ≤ number }
-    requires most { number ≤ MAX_BOXES }
+    requires most { number ≤ max_boxes }
     ensures drawn { IfOk result (λ v. spec.boxes number draw.old ≡ (v.items, draw.new)) }
     ensures order { IfOk result (λ v. are_in_order [] v.items ≡ true) }
     ensures len { IfOk result (λ v. length v.items ≡ number) }

@@ -5,13 +5,13 @@ ghost use Rattle.rd_scene.specs.Scripts.{IsScript};
 ghost use Rattle.rd_gen.specs.Commands as spec;
 ghost use Rattle.rd_gen.specs.Generated.{generated_script};
 ghost use Rattle.rd_gen.specs.Figures.{max_edits};
+ghost use Rattle.rd_tree.specs.Figures.{max_boxes};
 
 use crate::boxes::boxes as drawn_boxes;
 use crate::draw::Draw;
 use crate::edits::edit;
 use rd_geom::{NoMemory, Size};
 use rd_scene::{Command, Script};
-use rd_tree::MAX_BOXES;
 use std::alloc::Global;
 
 /// The most edits of a generated script.
@@ -49,7 +49,7 @@ fn commands(
 /// the root, and so many edits with paints among them.
 pub fn script(alloc: Global, seed: u64, boxes: u32, edits: u32) -> Result<Script, NoMemory>
     requires some { 1 ≤ boxes }
-    requires most { boxes ≤ MAX_BOXES }
+    requires most { boxes ≤ max_boxes }
     requires edits { edits ≤ max_edits }
     ensures drawn { IfOk result (λ s. s ≡ generated_script seed boxes edits) }
     ensures rules { IfOk result (λ s. IsScript s) }

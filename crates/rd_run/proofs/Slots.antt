@@ -3,7 +3,7 @@ use Rattle.std.proofs.Common.{◌≡◌, refl, ap, ◌∙◌, sym, subst, ℕ, �
 use Rattle.std.specs.Prelude.{nat_le}
 use Rattle.std.proofs.lemmas.List.{length-append}
 use Rattle.std.proofs.lemmas.List.Elements.{All-nil}
-use Rattle.rd_tree.specs.declared.limits.TheConstants.{MAX_BOXES}
+use Rattle.rd_tree.specs.Figures.{max_boxes}
 use Rattle.rd_tree.specs.Forest.{size}
 use Rattle.rd_tree.specs.Document.{Document, BoxForest, Slot, taken, with_taken}
 use Rattle.rd_tree.specs.Changes.{insertion}
@@ -100,8 +100,8 @@ run_counted (c ∷ cs) n m old text new l most h s =
 no_retired : (t : Document) → taken t ≡ size t.boxes → HasNoRetiredSlot t
 no_retired t e = record {
   same = e;
-  full = ap (nat_le MAX_BOXES) e;
-  free = (λ h. subst (λ n. n < MAX_BOXES) e h, λ h. subst (λ n. n < MAX_BOXES) (sym e) h);
+  full = ap (nat_le max_boxes) e;
+  free = (λ h. subst (λ n. n < max_boxes) e h, λ h. subst (λ n. n < max_boxes) (sym e) h);
 }
 
 pub slots_law : SlotsLaw

@@ -4,7 +4,7 @@ use Rattle.clap.specs.Words.{App, Kinds, Rule, Text, fault_of, first_of, matches
 use Rattle.clap.specs.Simple.{on_top}
 use Rattle.clap.specs.declared.builder.action.ArgAction.TheVariants.{Set}
 use Rattle.rd_gen.specs.Figures.{max_edits}
-use Rattle.rd_tree.specs.declared.limits.TheConstants.{MAX_BOXES}
+use Rattle.rd_tree.specs.Figures.{max_boxes}
 use Rattle.rd_run.specs.declared.words.WordsForm.{WordsForm}
 use Rattle.rd_run.specs.declared.words.WordsForm.TheVariants.{Replay, Render, Storm}
 
@@ -64,7 +64,7 @@ abbrev pub form_of : Option Text → Option Text → Option Text → Option Text
 form_of (Some m) None None None = plain_form m
 form_of (Some m) (Some seed) (Some boxes) (Some edits) =
     if bytes_eq m (codes "storm")
-    then storm_of (number_in 0 18446744073709551615 seed) (number_in 1 MAX_BOXES boxes) (number_in 0 max_edits edits)
+    then storm_of (number_in 0 18446744073709551615 seed) (number_in 1 max_boxes boxes) (number_in 0 max_edits edits)
     else None
 form_of _ _ _ _ = None
 

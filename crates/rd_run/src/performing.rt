@@ -2,7 +2,7 @@
 
 ghost use Rattle.std.specs.Prelude.{◌≡◌, ◌⊎◌, ◌≤◌, false, length, OnErr, OnOk, IfOk, string_bytes};
 ghost use Rattle.rd_gen.specs.Figures.{max_edits};
-ghost use Rattle.rd_tree.specs.declared.limits.TheConstants.{MAX_BOXES};
+ghost use Rattle.rd_tree.specs.Figures.{max_boxes};
 ghost use Rattle.rd_report.specs.Summaries.{summary_lines};
 ghost use Rattle.rd_scene.specs.Figures.{max_commands};
 ghost use Rattle.rd_run.specs.Endings.{counter, stream, totals_of, IsScriptPicture, IsStormSummary};
@@ -135,7 +135,7 @@ pub(crate) fn storm<O: Sink, A: Ledger, B: Ledger>(
     looks: &mut Steps<B>,
 ) -> Status
     requires some { 1 ≤ boxes }
-    requires most { boxes ≤ MAX_BOXES }
+    requires most { boxes ≤ max_boxes }
     requires edits { edits ≤ max_edits }
     ensures { AnswersAs ((out.new ≡ out.old) × (made.new ≡ made.old) × (looks.new ≡ looks.old))
         (IsStormSummary seed boxes edits)

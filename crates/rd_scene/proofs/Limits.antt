@@ -4,14 +4,14 @@ use Rattle.std.specs.Prelude.{IsTrue, IfSome, IfNone}
 use Rattle.std.proofs.lemmas.Int.{ints}
 use Rattle.rd_geom.specs.Plane.{Rectangle, IsPlaced}
 use Rattle.rd_geom.specs.declared.color.Color.{Color}
-use Rattle.rd_style.specs.declared.limits.TheConstants.{MAX_COORDINATE, MAX_EXTENT}
+use Rattle.rd_style.specs.Figures.{max_coordinate, max_extent}
 use Rattle.rd_style.specs.Limits.{is_between, fits_rect, fits, FitsRect, Fits}
 use Rattle.rd_style.specs.Changes.{plain, changed}
 use Rattle.rd_style.proofs.Bounds.{fits_rect-open}
 use Rattle.rd_style.specs.declared.styles.StyleChange.{StyleChange}
 use Rattle.rd_style.specs.declared.kinds.Visibility.{Visibility}
 use Rattle.rd_style.specs.declared.kinds.Pointer.{Pointer}
-use Rattle.rd_style.specs.declared.limits.TheConstants.{MAX_LINE_WIDTH}
+use Rattle.rd_style.specs.Figures.{max_line_width}
 use Rattle.rd_geom.specs.declared.rect.Sides.{Sides}
 use Rattle.std.proofs.lemmas.Bool.Decides.{nat_tests}
 use Rattle.rd_scene.specs.Styles.{painting, joined}
@@ -27,18 +27,18 @@ both : (a b : Bool) → IsTrue a → IsTrue b → IsTrue (a && b)
 both true b p q = q
 both false b p q = absurd (let no : false ≡ true = p in cc)
 
-five : (a b c d e : ℕ) → a ≤ MAX_LINE_WIDTH → b ≤ MAX_LINE_WIDTH → c ≤ MAX_LINE_WIDTH → d ≤ MAX_LINE_WIDTH → e ≤ MAX_LINE_WIDTH
-    → IsTrue (nat_le a MAX_LINE_WIDTH && nat_le b MAX_LINE_WIDTH && nat_le c MAX_LINE_WIDTH && nat_le d MAX_LINE_WIDTH && nat_le e MAX_LINE_WIDTH)
+five : (a b c d e : ℕ) → a ≤ max_line_width → b ≤ max_line_width → c ≤ max_line_width → d ≤ max_line_width → e ≤ max_line_width
+    → IsTrue (nat_le a max_line_width && nat_le b max_line_width && nat_le c max_line_width && nat_le d max_line_width && nat_le e max_line_width)
 five a b c d e p q r s t = grind (arith, nat_tests)
 
 -- a rectangle whose numbers are within the limits
-pub fits_four : (x y w h : ℤ) → IsTrue (is_between (pos 0 -ℤ MAX_COORDINATE) x MAX_COORDINATE) → IsTrue (is_between (pos 0 -ℤ MAX_COORDINATE) y MAX_COORDINATE)
-    → IsTrue (is_between (pos 0) w MAX_EXTENT) → IsTrue (is_between (pos 0) h MAX_EXTENT) → FitsRect (record { x = x; y = y; w = w; h = h })
+pub fits_four : (x y w h : ℤ) → IsTrue (is_between (pos 0 -ℤ max_coordinate) x max_coordinate) → IsTrue (is_between (pos 0 -ℤ max_coordinate) y max_coordinate)
+    → IsTrue (is_between (pos 0) w max_extent) → IsTrue (is_between (pos 0) h max_extent) → FitsRect (record { x = x; y = y; w = w; h = h })
 unfolding fits_rect
 fits_four x y w h a b c d = both _ _ (both _ _ a b) (both _ _ c d)
 
-pub fits_four_at : (x y w h : ℤ) (r : Rectangle) → r ≡ record { x = x; y = y; w = w; h = h } → IsTrue (is_between (pos 0 -ℤ MAX_COORDINATE) x MAX_COORDINATE)
-    → IsTrue (is_between (pos 0 -ℤ MAX_COORDINATE) y MAX_COORDINATE) → IsTrue (is_between (pos 0) w MAX_EXTENT) → IsTrue (is_between (pos 0) h MAX_EXTENT) → FitsRect r
+pub fits_four_at : (x y w h : ℤ) (r : Rectangle) → r ≡ record { x = x; y = y; w = w; h = h } → IsTrue (is_between (pos 0 -ℤ max_coordinate) x max_coordinate)
+    → IsTrue (is_between (pos 0 -ℤ max_coordinate) y max_coordinate) → IsTrue (is_between (pos 0) w max_extent) → IsTrue (is_between (pos 0) h max_extent) → FitsRect r
 fits_four_at x y w h r e a b c d = subst FitsRect (sym e) (fits_four x y w h a b c d)
 
 -- is where a rectangle may be
@@ -66,27 +66,27 @@ unfolding fits
 plain_fits = refl
 
 pub painting_fits : (b : Option Color) (w : Option Sides) (c : Option Color) (t : Option (Option Color)) (n : Option ℕ) (o : Option Color)
-    → IfSome w AreWidths → IfSome n (λ m. m ≤ MAX_LINE_WIDTH) → Fits (changed plain (painting b w c t n o))
+    → IfSome w AreWidths → IfSome n (λ m. m ≤ max_line_width) → Fits (changed plain (painting b w c t n o))
 unfolding fits painting
 painting_fits b w c t n o ws m = five _ _ _ _ _ (top w ws) (right w ws) (bottom w ws) (left w ws) (outline n m)
   where
-    top : (w : Option Sides) → IfSome w AreWidths → (unwrap_or w plain.border_width).top ≤ MAX_LINE_WIDTH
+    top : (w : Option Sides) → IfSome w AreWidths → (unwrap_or w plain.border_width).top ≤ max_line_width
     top None h = omega arith
     top (Some s) h = h.top
 
-    right : (w : Option Sides) → IfSome w AreWidths → (unwrap_or w plain.border_width).right ≤ MAX_LINE_WIDTH
+    right : (w : Option Sides) → IfSome w AreWidths → (unwrap_or w plain.border_width).right ≤ max_line_width
     right None h = omega arith
     right (Some s) h = h.right
 
-    bottom : (w : Option Sides) → IfSome w AreWidths → (unwrap_or w plain.border_width).bottom ≤ MAX_LINE_WIDTH
+    bottom : (w : Option Sides) → IfSome w AreWidths → (unwrap_or w plain.border_width).bottom ≤ max_line_width
     bottom None h = omega arith
     bottom (Some s) h = h.bottom
 
-    left : (w : Option Sides) → IfSome w AreWidths → (unwrap_or w plain.border_width).left ≤ MAX_LINE_WIDTH
+    left : (w : Option Sides) → IfSome w AreWidths → (unwrap_or w plain.border_width).left ≤ max_line_width
     left None h = omega arith
     left (Some s) h = h.left
 
-    outline : (n : Option ℕ) → IfSome n (λ m. m ≤ MAX_LINE_WIDTH) → unwrap_or n 0 ≤ MAX_LINE_WIDTH
+    outline : (n : Option ℕ) → IfSome n (λ m. m ≤ max_line_width) → unwrap_or n 0 ≤ max_line_width
     outline None h = omega arith
     outline (Some k) h = h
 

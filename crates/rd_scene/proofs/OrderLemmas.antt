@@ -3,7 +3,7 @@ use Rattle.std.proofs.Common.{◌≡◌, ℕ, suc, ◌+◌, ◌<◌, ◌==◌, n
 use Rattle.std.specs.Bool.{⊤}
 use Rattle.std.proofs.lemmas.List.{take_more, reverse-append, length-reverse}
 use Rattle.std.proofs.lemmas.Bool.{ne_eqb}
-use Rattle.rd_tree.specs.declared.limits.TheConstants.{MAX_DEPTH}
+use Rattle.rd_tree.specs.Figures.{max_depth}
 use Rattle.rd_scene.specs.declared.fault.Why.{Why}
 use Rattle.rd_scene.specs.declared.fault.Why.TheVariants as why
 use Rattle.rd_scene.specs.declared.script.SceneBox.{SceneBox}
@@ -34,16 +34,16 @@ stands_under [] (Some p) depth h = cc
 stands_under (b ∷ before) None depth h = cc
 stands_under (b ∷ before) (Some p) depth h = by (depth_of p (b ∷ before)) refl h
   where
-    level : (above : ℕ) (t : Bool) → depth_of p (b ∷ before) ≡ Some above → nat_lt above MAX_DEPTH ≡ t
+    level : (above : ℕ) (t : Bool) → depth_of p (b ∷ before) ≡ Some above → nat_lt above max_depth ≡ t
         → by_case {F = Why} {A = ⊤} (λ _. Ok (above + 1)) Err (if t then Ok tt else Err why.Depth) ≡ Ok depth → Stands (b ∷ before) (Some p) depth
     level above true e f g = record { place = ap has_level_below e ∙ f; deep = ap (λ (o : Option ℕ). unwrap_or o 0 + 1) e ∙ cc }
     level above false e f g = cc
 
     by : (o : Option ℕ) → depth_of p (b ∷ before) ≡ o
-        → by_case {F = Why} (λ (above : ℕ). by_case {F = Why} {A = ⊤} (λ _. Ok (above + 1)) Err (if nat_lt above MAX_DEPTH then Ok tt else Err why.Depth)) Err (ok_or o why.Parent) ≡ Ok depth
+        → by_case {F = Why} (λ (above : ℕ). by_case {F = Why} {A = ⊤} (λ _. Ok (above + 1)) Err (if nat_lt above max_depth then Ok tt else Err why.Depth)) Err (ok_or o why.Parent) ≡ Ok depth
         → Stands (b ∷ before) (Some p) depth
     by None e g = cc
-    by (Some above) e g = level above (nat_lt above MAX_DEPTH) e refl g
+    by (Some above) e g = level above (nat_lt above max_depth) e refl g
 
 -- none stands before the first box alone
 pub first_at : (bs : List SceneBox) (i : ℕ) → length bs ≡ i → (i == 0) ≡ is_first (reverse bs)

@@ -4,7 +4,7 @@ use Rattle.std.proofs.lemmas.List.{take_all}
 use Rattle.rd_keys.specs.Keys.{same_key}
 use Rattle.rd_tree.specs.Forest.{empty, tree, has, depth, map_where}
 use Rattle.rd_tree.specs.Touching.{touch}
-use Rattle.rd_tree.specs.declared.limits.TheConstants.{MAX_DEPTH}
+use Rattle.rd_tree.specs.Figures.{max_depth}
 use Rattle.rd_tree.proofs.Nodes.Naming.{named_there, bytes_same}
 use Rattle.rd_tree.proofs.Linking.Standing.{cases}
 use Rattle.rd_tree.proofs.Nodes.Each.{has-each}
@@ -136,11 +136,11 @@ known_parent f first bs rest b same s =
 
 -- there is room for a level below the parent
 pub room_below : (f : BoxForest) (before : List SceneBox) (b : SceneBox) (p : BoxKey) → SameDepths f before → is_first before ≡ false → has_place before b.parent ≡ true
-    → parent_in f b ≡ Some p → depth same_key p f + 1 ≤ MAX_DEPTH
+    → parent_in f b ≡ Some p → depth same_key p f + 1 ≤ max_depth
 room_below f [] b p same away place e = absurd (let n : true ≡ false = away in cc)
 room_below f (c ∷ before) b p same away place e = by b.parent place (parent_depth f (c ∷ before) b p same e)
   where
-    by : (o : Option (List ℕ)) → has_place (c ∷ before) o ≡ true → option_and_then (λ i. depth_of i (c ∷ before)) o ≡ Some (depth same_key p f) → depth same_key p f + 1 ≤ MAX_DEPTH
+    by : (o : Option (List ℕ)) → has_place (c ∷ before) o ≡ true → option_and_then (λ i. depth_of i (c ∷ before)) o ≡ Some (depth same_key p f) → depth same_key p f + 1 ≤ max_depth
     by None h d = absurd (let n : None ≡ Some (depth same_key p f) = d in cc)
     by (Some i) h d =
         let room : has_level_below (Some (depth same_key p f)) ≡ true = ap has_level_below (sym d) ∙ h in

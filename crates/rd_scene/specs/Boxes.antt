@@ -3,7 +3,7 @@ use Rattle.std.specs.Prelude.{ℕ, ◌+◌, Bool, nat_lt, if◌then◌else◌, L
 use Rattle.serde_json.specs.Data.{Data, Items, no_items, item}
 use Rattle.serde_json.specs.Find.{as_null}
 use Rattle.rd_tree.specs.Ids.{is_id}
-use Rattle.rd_tree.specs.declared.limits.TheConstants.{MAX_DEPTH}
+use Rattle.rd_tree.specs.Figures.{max_depth}
 use Rattle.rd_scene.specs.declared.fault.Why.{Why}
 use Rattle.rd_scene.specs.declared.fault.Why.TheVariants as why
 use Rattle.rd_scene.specs.declared.fault.Place.TheVariants as place
@@ -49,7 +49,7 @@ parent_name d = needed (codes "parent") d >>= name_of
 unfoldable pub depth_under : Bool → (List ℕ → Option ℕ) → Option (List ℕ) → Checked Why ℕ
 depth_under is_first depths None = rule (if is_first then Ok 1 else Err why.Parent)
 depth_under is_first depths (Some p) =
-    there why.Parent (depths p) >>= λ above. (holds why.Depth (nat_lt above MAX_DEPTH) >>= λ _. good (above + 1))
+    there why.Parent (depths p) >>= λ above. (holds why.Depth (nat_lt above max_depth) >>= λ _. good (above + 1))
 
 -- a box object of this version after these boxes
 unfoldable pub box_of : Version → Bool → (List ℕ → Option ℕ) → Data → Checked Why SceneBox

@@ -1,7 +1,7 @@
 -- Commands as a script writes them. They are this project's own choice.
 use Rattle.std.specs.Prelude.{ℕ, ◌+◌, ℤ, pos, ◌-ℤ◌, if◌then◌else◌, List, [], ◌∷◌, codes, bytes_eq, IsTrue}
 use Rattle.serde_json.specs.Data.{Data, Members, Items, no_items, item}
-use Rattle.rd_style.specs.declared.limits.TheConstants.{MAX_COORDINATE}
+use Rattle.rd_style.specs.Figures.{max_coordinate}
 use Rattle.rd_style.specs.Limits.{is_between}
 use Rattle.rd_scene.specs.declared.fault.Why.{Why}
 use Rattle.rd_scene.specs.declared.fault.Place.TheVariants as place
@@ -19,7 +19,7 @@ alone c ms = good (λ _. c) ⊛ known (codes "do" ∷ []) ms
 
 -- a column or a row of a pixel
 unfoldable pub pixel_at : List ℕ → Data → Checked Why ℤ
-pixel_at name d = needed name d >>= number (pos 0 -ℤ MAX_COORDINATE) MAX_COORDINATE
+pixel_at name d = needed name d >>= number (pos 0 -ℤ max_coordinate) max_coordinate
 
 -- `hit` and `pixel` have a column and a row
 unfoldable pub at_pixel : (ℤ → ℤ → Command) → Members → Data → Checked Why Command
@@ -55,7 +55,7 @@ commands_from version i (item d ds) =
 -- may a pixel be asked for there?
 abbrev pub IsPixel : ℤ → ℤ → Type 0
 IsPixel x y =
-    IsTrue (is_between (pos 0 -ℤ MAX_COORDINATE) x MAX_COORDINATE) × IsTrue (is_between (pos 0 -ℤ MAX_COORDINATE) y MAX_COORDINATE)
+    IsTrue (is_between (pos 0 -ℤ max_coordinate) x max_coordinate) × IsTrue (is_between (pos 0 -ℤ max_coordinate) y max_coordinate)
 
 -- What a command names is within the limits.
 abbrev pub FitsCommand : Command → Type 0

@@ -1,7 +1,7 @@
 -- Which boxes may follow which. It is this project's own choice: a parent stands before its children, and a tree is not too
 -- deep.
 use Rattle.std.specs.Prelude.{ℕ, ◌+◌, Bool, true, false, ◌&&◌, nat_lt, if◌then◌else◌, List, [], ◌∷◌, bytes_eq, Option, Some, None, is_none, unwrap_or, option_and_then}
-use Rattle.rd_tree.specs.declared.limits.TheConstants.{MAX_DEPTH}
+use Rattle.rd_tree.specs.Figures.{max_depth}
 use Rattle.rd_scene.specs.declared.script.SceneBox.{SceneBox}
 
 -- The root has depth 1, and any other box one more than its parent. Here of the box with
@@ -23,7 +23,7 @@ is_first (b ∷ before) = false
 -- Does a depth leave room for a level below it?
 abbrev pub has_level_below : Option ℕ → Bool
 has_level_below None = false
-has_level_below (Some depth) = nat_lt depth MAX_DEPTH
+has_level_below (Some depth) = nat_lt depth max_depth
 
 -- Has the first box no parent, and any other one a parent before it that leaves room below it?
 abbrev pub has_place : List SceneBox → Option (List ℕ) → Bool

@@ -4,8 +4,8 @@ use Rattle.serde_json.specs.Data.{Data, Items, no_items, item}
 use Rattle.rd_geom.specs.Plane.{Rectangle}
 use Rattle.rd_geom.specs.declared.rect.Size.{Size}
 use Rattle.rd_geom.specs.declared.rect.Sides.{Sides}
-use Rattle.rd_geom.specs.declared.rect.TheConstants.{MAX_CANVAS_SIDE}
-use Rattle.rd_style.specs.declared.limits.TheConstants.{MAX_COORDINATE, MAX_EXTENT, MAX_LINE_WIDTH}
+use Rattle.rd_geom.specs.Figures.{max_canvas_side}
+use Rattle.rd_style.specs.Figures.{max_coordinate, max_extent, max_line_width}
 use Rattle.rd_scene.specs.declared.fault.Why.{Why}
 use Rattle.rd_scene.specs.declared.fault.Why.TheVariants as why
 use Rattle.rd_scene.specs.Checked.{Checked, rule, good, ◌⊛◌, ◌>>=◌}
@@ -27,11 +27,11 @@ four_of ds = rule (Err why.Kind)
 
 -- a column or a row where a box begins
 unfoldable pub coordinate : ℤ → Checked Why ℤ
-coordinate z = within (pos 0 -ℤ MAX_COORDINATE) MAX_COORDINATE z
+coordinate z = within (pos 0 -ℤ max_coordinate) max_coordinate z
 
 -- a width or a height of a box
 unfoldable pub extent : ℤ → Checked Why ℤ
-extent z = within (pos 0) MAX_EXTENT z
+extent z = within (pos 0) max_extent z
 
 -- CSS 2.2 section 8.1: the border box with this left, top, width and height
 unfoldable pub placed : Four → Checked Why Rectangle
@@ -49,7 +49,7 @@ rect_at d = needed (codes "rect") d >>= rect_of
 
 -- a width of a border or an outline
 unfoldable pub width : ℤ → Checked Why ℕ
-width z = within (pos 0) (pos MAX_LINE_WIDTH) z >>= λ w. good (unsigned_abs w)
+width z = within (pos 0) (pos max_line_width) z >>= λ w. good (unsigned_abs w)
 
 -- CSS 2.2 section 8.5.1: the widths of the four borders
 unfoldable pub bordered : Four → Checked Why Sides
@@ -67,7 +67,7 @@ outline_width_of d = whole_number d >>= width
 
 -- a width or a height of the canvas
 abbrev pub side : Data → Checked Why ℤ
-side d = number (pos 1) MAX_CANVAS_SIDE d
+side d = number (pos 1) max_canvas_side d
 
 -- the same at its member
 abbrev pub side_at : List ℕ → Data → Checked Why ℤ

@@ -4,7 +4,7 @@ use Rattle.serde_json.specs.Data.{Data, Members}
 use Rattle.rd_geom.specs.declared.rect.Size.{Size}
 use Rattle.rd_geom.specs.Canvas.{IsCanvas}
 use Rattle.rd_style.specs.Limits.{Fits, FitsRect}
-use Rattle.rd_tree.specs.declared.limits.TheConstants.{MAX_BOXES}
+use Rattle.rd_tree.specs.Figures.{max_boxes}
 use Rattle.rd_scene.specs.Figures.{max_commands}
 use Rattle.rd_scene.specs.declared.script.SceneBox.{SceneBox}
 use Rattle.rd_scene.specs.declared.script.Command.{Command}
@@ -43,7 +43,7 @@ pub record IsScript (s : Script) : Type 0 where
   pub version : IsOfVersion s
   pub canvas : IsCanvas s.canvas
   pub some : 1 ≤ length s.boxes
-  pub most : length s.boxes ≤ MAX_BOXES
+  pub most : length s.boxes ≤ max_boxes
   pub order : are_in_order [] s.boxes ≡ true
   pub boxes : All FitsBox s.boxes
   pub few : length s.commands ≤ max_commands
@@ -52,7 +52,7 @@ pub record IsScript (s : Script) : Type 0 where
 -- the boxes of a script object
 abbrev pub boxes_at : Version → Data → Checked FormFault (List SceneBox)
 boxes_at version d = at place.Top (elements_at (codes "boxes") d) >>= λ ds.
-    good (λ _ boxes. boxes) ⊛ at place.Top (counted 1 MAX_BOXES (count ds)) ⊛ boxes_from version 0 [] ds
+    good (λ _ boxes. boxes) ⊛ at place.Top (counted 1 max_boxes (count ds)) ⊛ boxes_from version 0 [] ds
 
 -- the commands of a script object
 abbrev pub commands_at : Version → Data → Checked FormFault (List Command)

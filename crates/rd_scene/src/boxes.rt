@@ -13,6 +13,7 @@ ghost use Rattle.rd_scene.specs.Internal.Gives.{Gives, GivesAt};
 ghost use Rattle.rd_scene.specs.Internal.Steps.{told, IsNoted, box_named, names_after};
 ghost use Rattle.rd_scene.specs.Scripts.{FitsBox};
 ghost use Rattle.rd_scene.specs.Versions.{number_of, HasBox};
+ghost use Rattle.rd_tree.specs.Figures.{max_boxes};
 
 use crate::fault::{Place, Refusal, SceneFault, Why};
 use crate::members::{known, members, needed, string};
@@ -21,7 +22,7 @@ use crate::script::SceneBox;
 use crate::styles::style_at;
 use crate::version::Version;
 use indexmap::IndexMap;
-use rd_tree::{Id, IdFault, MAX_BOXES, MAX_DEPTH};
+use rd_tree::{Id, IdFault, MAX_DEPTH};
 use serde_json::Value;
 use std::alloc::Global;
 
@@ -219,7 +220,7 @@ pub(crate) fn boxes_of(
     version: Version,
     list: &[Value],
 ) -> Result<Vec<SceneBox>, SceneFault>
-    requires { length list.now ≤ MAX_BOXES }
+    requires { length list.now ≤ max_boxes }
     ensures value { GivesAt (λ v. v.items) result (spec.boxes_from version 0 [] (items_view list.now)).first }
     ensures len { IfOk result (λ v. length v.items ≡ length list.now) }
     ensures order { IfOk result (λ v. are_in_order [] v.items ≡ true) }

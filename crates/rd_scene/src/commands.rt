@@ -13,6 +13,7 @@ ghost use Rattle.rd_scene.specs.declared.fault.Place.TheVariants as place;
 ghost use Rattle.rd_scene.specs.Places.{at};
 ghost use Rattle.rd_scene.specs.Internal.Changes as changing;
 ghost use Rattle.rd_scene.specs.Internal.Gives.{Gives, GivesAt};
+ghost use Rattle.rd_style.specs.Figures.{max_coordinate};
 
 use crate::edits::edit_named;
 use crate::fault::{Place, Refusal, SceneFault, Why};
@@ -56,7 +57,7 @@ fn shot_of(members: &Map<String, Value>) -> Result<Command, Refusal>
 #[tactic(auto, unfolding(crate::specs::Commands::pixel_at))]
 fn pixel_at(v: &Value, name: &str) -> Result<i32, Why>
     ensures value { result ≡ (spec.pixel_at name.now (view v.now)).first }
-    ensures range { IfOk result (λ z. IsTrue (is_between (pos 0 -ℤ MAX_COORDINATE) z MAX_COORDINATE)) }
+    ensures range { IfOk result (λ z. IsTrue (is_between (pos 0 -ℤ max_coordinate) z max_coordinate)) }
 {
     let place = needed(v, name)?;
     number(-MAX_COORDINATE, MAX_COORDINATE, place)

@@ -9,10 +9,11 @@ ghost use Rattle.rd_scene.specs.Planting as spec;
 ghost use Rattle.rd_scene.specs.Planting.{IsAlone, Adds, AddsAll, Plants};
 ghost use Rattle.rd_scene.specs.Scripts.{FitsBox};
 ghost use Rattle.rd_scene.specs.Internal.WellFormed.{IsWellFormed};
+ghost use Rattle.rd_tree.specs.Figures.{max_boxes, max_depth};
 
 use crate::script::{SceneBox, Script};
 use rd_geom::NoMemory;
-use rd_tree::{BoxKey, Id, IdFault, MAX_BOXES, MAX_DEPTH, Tree};
+use rd_tree::{BoxKey, Id, IdFault, Tree};
 use std::alloc::Global;
 use std::sync::ledger::Ledger;
 
@@ -38,7 +39,7 @@ fn parent_key<B: Ledger>(tree: &Tree<B>, b: &SceneBox) -> Option<BoxKey>
 #[tactic(auto, using(crate::proofs::Plants::parent_there))]
 fn add<B: Ledger>(tree: &mut Tree<B>, b: &SceneBox) -> Result<(), NoMemory>
     requires parent { IsSome (spec.parent_in tree.old.boxes b.now) }
-    requires depth { (p : Key) → spec.parent_in tree.old.boxes b.now ≡ Some p → depth same_key p tree.old.boxes + 1 ≤ MAX_DEPTH }
+    requires depth { (p : Key) → spec.parent_in tree.old.boxes b.now ≡ Some p → depth same_key p tree.old.boxes + 1 ≤ max_depth }
     requires new_id { named b.now.id tree.old.boxes ≡ None }
     requires room { HasFreeSlot tree.old }
     requires fits { FitsBox b.now }
@@ -61,7 +62,7 @@ fn add_all<B: Ledger>(
     requires alone { IsAlone first.now tree.old }
     requires taken { taken tree.old ≡ 1 }
     requires order { are_in_order (first.now ∷ []) rest.now ≡ true }
-    requires most { length rest.now < MAX_BOXES }
+    requires most { length rest.now < max_boxes }
     requires fits { All FitsBox rest.now }
     ensures { OnOk result (AddsAll rest.now tree.old tree.new) }
 {

@@ -3,7 +3,7 @@
 ghost use Rattle.std.specs.Prelude.{◌≡◌, ◌≤◌, true, [], length, All, IfOk, IsErrOf};
 ghost use Rattle.serde_json.specs.View.{view, members_view};
 ghost use Rattle.rd_geom.specs.Canvas.{IsCanvas};
-ghost use Rattle.rd_tree.specs.declared.limits.TheConstants.{MAX_BOXES};
+ghost use Rattle.rd_tree.specs.Figures.{max_boxes};
 ghost use Rattle.rd_scene.specs.Figures.{max_commands};
 ghost use Rattle.rd_scene.specs.declared.fault.Place.TheVariants as place;
 ghost use Rattle.rd_scene.specs.declared.fault.SceneFault.TheVariants.{Form};
@@ -90,7 +90,7 @@ fn canvas_at(v: &Value) -> Result<Size, SceneFault>
 fn boxes_at(alloc: Global, version: Version, v: &Value) -> Result<Vec<SceneBox>, SceneFault>
     ensures value { GivesAt (λ v. v.items) result (spec.boxes_at version (view v.now)).first }
     ensures some { IfOk result (λ v. 1 ≤ length v.items) }
-    ensures most { IfOk result (λ v. length v.items ≤ MAX_BOXES) }
+    ensures most { IfOk result (λ v. length v.items ≤ max_boxes) }
     ensures order { IfOk result (λ v. are_in_order [] v.items ≡ true) }
     ensures fits { IfOk result (λ v. All FitsBox v.items) }
     ensures had { IfOk result (λ v. All (HasBox (number_of version)) v.items) }

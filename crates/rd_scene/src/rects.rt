@@ -6,6 +6,8 @@ ghost use Rattle.rd_geom.specs.Canvas.{IsCanvas};
 ghost use Rattle.rd_style.specs.Limits.{FitsRect, is_between};
 ghost use Rattle.rd_scene.specs.Rects as spec;
 ghost use Rattle.rd_scene.specs.Internal.Widths.{AreWidths};
+ghost use Rattle.rd_geom.specs.Figures.{max_canvas_side};
+ghost use Rattle.rd_style.specs.Figures.{max_coordinate, max_extent, max_line_width};
 
 use crate::fault::Why;
 use crate::members::{elements, known, members, needed, number, whole_number, within};
@@ -38,7 +40,7 @@ fn four_of(list: &[Value]) -> Result<(i64, i64, i64, i64), Why>
 #[tactic(auto, unfolding(crate::specs::Rects::coordinate))]
 fn coordinate(z: i64) -> Result<i32, Why>
     ensures value { result ≡ (spec.coordinate z).first }
-    ensures range { IfOk result (λ z. IsTrue (is_between (pos 0 -ℤ MAX_COORDINATE) z MAX_COORDINATE)) }
+    ensures range { IfOk result (λ z. IsTrue (is_between (pos 0 -ℤ max_coordinate) z max_coordinate)) }
 {
     within(-MAX_COORDINATE, MAX_COORDINATE, z)
 }
@@ -46,7 +48,7 @@ fn coordinate(z: i64) -> Result<i32, Why>
 #[tactic(auto, unfolding(crate::specs::Rects::extent))]
 fn extent(z: i64) -> Result<i32, Why>
     ensures value { result ≡ (spec.extent z).first }
-    ensures range { IfOk result (λ z. IsTrue (is_between (pos 0) z MAX_EXTENT)) }
+    ensures range { IfOk result (λ z. IsTrue (is_between (pos 0) z max_extent)) }
 {
     within(0, MAX_EXTENT, z)
 }
@@ -96,7 +98,7 @@ pub(crate) fn rect_at(v: &Value) -> Result<Rect, Why>
 #[tactic(auto, unfolding(crate::specs::Rects::width))]
 fn width(z: i64) -> Result<u16, Why>
     ensures value { result ≡ (spec.width z).first }
-    ensures most { IfOk result (λ n. n ≤ MAX_LINE_WIDTH) }
+    ensures most { IfOk result (λ n. n ≤ max_line_width) }
 {
     let z = within(0, MAX_LINE_WIDTH as i32, z)?;
     Ok(z as u16)
@@ -132,7 +134,7 @@ pub(crate) fn sides_of(v: &Value) -> Result<Sides, Why>
 /// The width of the outline.
 pub(crate) fn outline_width_of(v: &Value) -> Result<u16, Why>
     ensures value { result ≡ (spec.outline_width_of (view v.now)).first }
-    ensures most { IfOk result (λ n. n ≤ MAX_LINE_WIDTH) }
+    ensures most { IfOk result (λ n. n ≤ max_line_width) }
 {
     let z = whole_number(v)?;
     width(z)
@@ -140,14 +142,14 @@ pub(crate) fn outline_width_of(v: &Value) -> Result<u16, Why>
 
 fn side(v: &Value) -> Result<i32, Why>
     ensures value { result ≡ (spec.side (view v.now)).first }
-    ensures range { IfOk result (λ z. IsTrue (is_between (pos 1) z MAX_CANVAS_SIDE)) }
+    ensures range { IfOk result (λ z. IsTrue (is_between (pos 1) z max_canvas_side)) }
 {
     number(1, MAX_CANVAS_SIDE, v)
 }
 
 fn side_at(v: &Value, name: &str) -> Result<i32, Why>
     ensures value { result ≡ (spec.side_at name.now (view v.now)).first }
-    ensures range { IfOk result (λ z. IsTrue (is_between (pos 1) z MAX_CANVAS_SIDE)) }
+    ensures range { IfOk result (λ z. IsTrue (is_between (pos 1) z max_canvas_side)) }
 {
     let side_value = needed(v, name)?;
     side(side_value)

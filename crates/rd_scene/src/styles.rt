@@ -5,7 +5,7 @@ ghost use Rattle.serde_json.specs.View.{view, members_view};
 ghost use Rattle.serde_json.specs.Find.{as_str};
 ghost use Rattle.rd_style.specs.Changes.{plain, changed};
 ghost use Rattle.rd_style.specs.Limits.{Fits};
-ghost use Rattle.rd_style.specs.declared.limits.TheConstants.{MAX_LINE_WIDTH};
+ghost use Rattle.rd_style.specs.Figures.{max_line_width};
 ghost use Rattle.rd_scene.specs.Members.{optional, if_given};
 ghost use Rattle.rd_scene.specs.Members.{known as known_names};
 ghost use Rattle.rd_scene.specs.Styles as spec;
@@ -199,7 +199,7 @@ fn content_at(v: &Value) -> Result<Option<Option<Color>>, Why>
 
 fn outline_width_at(v: &Value) -> Result<Option<u16>, Why>
     ensures value { result ≡ (if_given rects.outline_width_of (codes "outline-width") (view v.now)).first }
-    ensures most { IfOk result (λ o. IfSome o (λ n. n ≤ MAX_LINE_WIDTH)) }
+    ensures most { IfOk result (λ o. IfSome o (λ n. n ≤ max_line_width)) }
 {
     member(v, "outline-width").map(outline_width_of).transpose()
 }

@@ -4,7 +4,7 @@ use Rattle.std.specs.Prelude.{FitsSigned, int_le}
 use Rattle.std.specs.Int.{w32, cast_unsigned, cast_signed}
 use Rattle.std.proofs.lemmas.Int.{ints, to_z-of_z, of_z-to_z}
 use Rattle.rd_geom.specs.Plane.{Rectangle, IsPlaced, int_low, right, bottom}
-use Rattle.rd_geom.specs.declared.rect.TheConstants.{MAX_REACH}
+use Rattle.rd_geom.specs.Figures.{max_reach}
 use Rattle.rd_geom.specs.declared.blend.Blend.{Blend}
 use Rattle.rd_geom.specs.declared.blend.Blend.TheVariants.{Normal, Multiply, Screen, Darken, Lighten}
 use Rattle.rd_geom.specs.declared.color.Color.{Color}
@@ -28,12 +28,12 @@ true_le a b h = grind (arith, ints)
 
 pub placed_true : (r : Rectangle) → IsPlaced r → is_placed r ≡ true
 placed_true r p =
-    rw (true_le (pos 0) r.w p.wide, true_le (pos 0) r.h p.high, true_le int_low r.x p.from_left, true_le int_low r.y p.from_top, true_le (right r) MAX_REACH p.to_right, true_le (bottom r) MAX_REACH p.to_bottom) refl
+    rw (true_le (pos 0) r.w p.wide, true_le (pos 0) r.h p.high, true_le int_low r.x p.from_left, true_le int_low r.y p.from_top, true_le (right r) max_reach p.to_right, true_le (bottom r) max_reach p.to_bottom) refl
 
 pub true_placed : (r : Rectangle) → is_placed r ≡ true → IsPlaced r
 true_placed r h =
-    let a = both _ (int_le (bottom r) MAX_REACH) h in
-    let b = both _ (int_le (right r) MAX_REACH) a.0 in
+    let a = both _ (int_le (bottom r) max_reach) h in
+    let b = both _ (int_le (right r) max_reach) a.0 in
     let c = both _ (int_le int_low r.y) b.0 in
     let d = both _ (int_le int_low r.x) c.0 in
     let e = both (int_le (pos 0) r.w) (int_le (pos 0) r.h) d.0 in

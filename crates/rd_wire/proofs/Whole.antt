@@ -7,7 +7,7 @@ use Rattle.std.proofs.lemmas.List.{append-nil}
 use Rattle.std.proofs.lemmas.Int.{ints}
 use Rattle.rd_geom.specs.Canvas.{IsCanvas, canvas_of}
 use Rattle.rd_geom.specs.declared.rect.Size.{Size}
-use Rattle.rd_geom.specs.declared.rect.TheConstants.{MAX_CANVAS_SIDE}
+use Rattle.rd_geom.specs.Figures.{max_canvas_side}
 use Rattle.rd_item.specs.Items.{Made}
 use Rattle.rd_graph.specs.Orders.{Once}
 use Rattle.rd_list.specs.Wrappers.{Wrapper}
@@ -50,8 +50,8 @@ sides_back : (s : Size) → IsCanvas s → ((unsigned_abs s.w < 2 ^ 16) × (unsi
 sides_back s c =
     let w = natural s.w c.some_wide in
     let h = natural s.h c.some_high in
-    let v : pos w.0 ≤ℤ MAX_CANVAS_SIDE = subst (λ (z : ℤ). z ≤ℤ MAX_CANVAS_SIDE) w.1 c.wide in
-    let u : pos h.0 ≤ℤ MAX_CANVAS_SIDE = subst (λ (z : ℤ). z ≤ℤ MAX_CANVAS_SIDE) h.1 c.high in
+    let v : pos w.0 ≤ℤ max_canvas_side = subst (λ (z : ℤ). z ≤ℤ max_canvas_side) w.1 c.wide in
+    let u : pos h.0 ≤ℤ max_canvas_side = subst (λ (z : ℤ). z ≤ℤ max_canvas_side) h.1 c.high in
     let a : pos 1 ≤ℤ pos w.0 = subst (λ (z : ℤ). pos 1 ≤ℤ z) w.1 c.some_wide in
     let b : pos 1 ≤ℤ pos h.0 = subst (λ (z : ℤ). pos 1 ≤ℤ z) h.1 c.some_high in
     let back : (size_from (w.0, h.0)) ≡ s = two w.0 h.0 s w.1 h.1 in

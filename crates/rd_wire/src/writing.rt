@@ -9,8 +9,9 @@ ghost use Rattle.rd_wire.specs.Fields.{IsKey, IsColor};
 ghost use Rattle.rd_wire.specs.Leaves.{name_form, place_form, look_form, leaf_form, FitsLeaf};
 ghost use Rattle.rd_wire.specs.Wires.{entries_form, level, group_form, side, width, spelled, KeepsRules, NumbersFit, IsWire, FitsGroup};
 ghost use Rattle.rd_wire.specs.Internal.Counts.{CountsFit};
+ghost use Rattle.rd_geom.specs.Figures.{max_canvas_side};
 
-use rd_geom::{Blend, Color, MAX_CANVAS_SIDE, NoMemory, Rect, Size};
+use rd_geom::{Blend, Color, NoMemory, Rect, Size};
 use rd_item::Item;
 use rd_keys::{BoxKey, Part};
 use rd_list::{Entry, Kept, ListView};
@@ -213,7 +214,7 @@ fn push_entry<A: Ledger>(out: &mut Vec<u8>, entry: &Entry<A>) -> Result<(), NoMe
 /// The width or the height of a canvas.
 fn push_side(out: &mut Vec<u8>, n: i32) -> Result<(), NoMemory>
     requires some { pos 1 ≤ℤ n }
-    requires most { n ≤ℤ MAX_CANVAS_SIDE }
+    requires most { n ≤ℤ max_canvas_side }
     ensures { OnOk result (out.new.items ≡ out.old.items ++ side n) }
 {
     let n = n.unsigned_abs() as u16;

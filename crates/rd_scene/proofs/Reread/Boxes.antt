@@ -3,7 +3,7 @@ use Rattle.std.proofs.Common.{◌≡◌, ℕ, ◌+◌, nat_lt, true, false, ◌&
 use Rattle.std.specs.Prelude.{All}
 use Rattle.std.proofs.lemmas.List.Elements.{All-head, All-tail}
 use Rattle.serde_json.specs.View.{items_of}
-use Rattle.rd_tree.specs.declared.limits.TheConstants.{MAX_DEPTH}
+use Rattle.rd_tree.specs.Figures.{max_depth}
 use Rattle.rd_scene.specs.declared.fault.Why.{Why}
 use Rattle.rd_scene.specs.declared.fault.Why.TheVariants as why
 use Rattle.rd_scene.specs.declared.fault.Place.TheVariants as place
@@ -38,7 +38,7 @@ new_id_read depths id h fresh =
 
 -- the name of a parent that has a level below it
 under_read : (o : Option ℕ) (p : Option (List ℕ)) → has_level_below o ≡ true
-    → ((there why.Parent o >>= λ above. (holds why.Depth (nat_lt above MAX_DEPTH) >>= λ _. good (above + 1))) >>=
+    → ((there why.Parent o >>= λ above. (holds why.Depth (nat_lt above max_depth) >>= λ _. good (above + 1))) >>=
     λ _. good p) ≡ good p
 under_read None p h = false_is h
 under_read (Some depth) p h = ap (λ b. (holds why.Depth b >>= λ _. good (depth + 1)) >>= λ _. good p) h

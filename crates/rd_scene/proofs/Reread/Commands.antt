@@ -4,7 +4,7 @@ use Rattle.std.specs.Prelude.{ℤ, pos, ◌-ℤ◌, All, IsTrue}
 use Rattle.std.proofs.lemmas.Int.{ints}
 use Rattle.std.proofs.lemmas.List.Elements.{All-head, All-tail}
 use Rattle.serde_json.specs.View.{items_of}
-use Rattle.rd_style.specs.declared.limits.TheConstants.{MAX_COORDINATE}
+use Rattle.rd_style.specs.Figures.{max_coordinate}
 use Rattle.rd_style.specs.Limits.{is_between}
 use Rattle.rd_edits.specs.declared.edit.Edit.{Edit}
 use Rattle.rd_edits.specs.declared.edit.Edit.TheVariants.{Insert, Remove, Move, SetStyle, SetRect, Shift}
@@ -36,9 +36,9 @@ distance_read : (z : ℤ) → IsTrue (is_between (pos 0 -ℤ max_distance) z max
     → number_from (pos 0 -ℤ max_distance) max_distance (number_value z) ≡ good z
 distance_read z h = number_read (pos 0 -ℤ max_distance) max_distance z (omega (arith, ints)) h
 
-column_read : (z : ℤ) → IsTrue (is_between (pos 0 -ℤ MAX_COORDINATE) z MAX_COORDINATE)
-    → number_from (pos 0 -ℤ MAX_COORDINATE) MAX_COORDINATE (number_value z) ≡ good z
-column_read z h = number_read (pos 0 -ℤ MAX_COORDINATE) MAX_COORDINATE z (omega (arith, ints)) h
+column_read : (z : ℤ) → IsTrue (is_between (pos 0 -ℤ max_coordinate) z max_coordinate)
+    → number_from (pos 0 -ℤ max_coordinate) max_coordinate (number_value z) ≡ good z
+column_read z h = number_read (pos 0 -ℤ max_coordinate) max_coordinate z (omega (arith, ints)) h
 
 -- the edit that is read is the command that it is
 as_command : (c : Checked Why Edit) (e : Edit) → c ≡ good e → (c >>= λ x. good (Change x)) ≡ good (Change e)

@@ -7,8 +7,8 @@ use Rattle.serde_json.specs.Data.{Data, number, unsigned}
 use Rattle.serde_json.specs.View.{items_of}
 use Rattle.rd_geom.specs.Canvas.{IsCanvas}
 use Rattle.rd_geom.specs.declared.rect.Size.{Size}
-use Rattle.rd_geom.specs.declared.rect.TheConstants.{MAX_CANVAS_SIDE}
-use Rattle.rd_tree.specs.declared.limits.TheConstants.{MAX_BOXES}
+use Rattle.rd_geom.specs.Figures.{max_canvas_side}
+use Rattle.rd_tree.specs.Figures.{max_boxes}
 use Rattle.rd_scene.specs.declared.fault.Why.TheVariants as why
 use Rattle.rd_scene.specs.declared.fault.Place.TheVariants as place
 use Rattle.rd_scene.specs.declared.script.SceneBox.{SceneBox}
@@ -41,8 +41,8 @@ counted_read : {X : Type 0} (f : X → Data) (low high : ℕ) (xs : List X) → 
 counted_read f low high xs p q = ap (counted low high) (count_read f xs)
     ∙ ap (holds why.Count) (few low high (length xs) p q)
 
-side_read : (z : ℤ) → pos 1 ≤ℤ z → z ≤ℤ MAX_CANVAS_SIDE → number_from (pos 1) MAX_CANVAS_SIDE (number_value z) ≡ good z
-side_read z p q = number_read (pos 1) MAX_CANVAS_SIDE z (omega (arith, ints)) (grind (arith, ints, nat_tests))
+side_read : (z : ℤ) → pos 1 ≤ℤ z → z ≤ℤ max_canvas_side → number_from (pos 1) max_canvas_side (number_value z) ≡ good z
+side_read z p q = number_read (pos 1) max_canvas_side z (omega (arith, ints)) (grind (arith, ints, nat_tests))
 
 canvas_read : (s : Size) → IsCanvas s → canvas_of (canvas_value s) ≡ good s
 unfolding canvas_of
@@ -54,7 +54,7 @@ boxes_at_read : (version : Version) (s : Script) → IsScript s → HasItsTypes 
 unfolding scene_value
 boxes_at_read version s i t v =
     start (λ (_ : ⊤) (boxes : List SceneBox). boxes)
-    ⊗ ap (at place.Top) (counted_read box_value 1 MAX_BOXES s.boxes i.some i.most)
+    ⊗ ap (at place.Top) (counted_read box_value 1 max_boxes s.boxes i.some i.most)
     ⊗ boxes_read version 0 [] s.boxes t.boxes i.boxes v i.order
 
 commands_at_read : (version : Version) (s : Script) → IsScript s → HasItsTypes s → All (HasCommand (number_of version)) s.commands

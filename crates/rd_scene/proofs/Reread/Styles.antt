@@ -10,7 +10,7 @@ use Rattle.rd_geom.specs.declared.blend.Blend.{Blend}
 use Rattle.rd_geom.specs.declared.blend.Blend.TheVariants as blend
 use Rattle.rd_style.specs.Changes.{plain, changed, black, transparent}
 use Rattle.rd_style.specs.Limits.{Fits, fits}
-use Rattle.rd_style.specs.declared.limits.TheConstants.{MAX_LINE_WIDTH}
+use Rattle.rd_style.specs.Figures.{max_line_width}
 use Rattle.rd_style.specs.declared.styles.Style.{Style}
 use Rattle.rd_style.specs.declared.styles.StyleChange.{StyleChange}
 use Rattle.rd_style.specs.declared.kinds.Position.{Position}
@@ -69,7 +69,7 @@ word_read read word k d (Some x) e r = ap (optional read) e
 pub record Named (c : StyleChange) : Type 0 where
   pub types : IsChange c
   pub sides : IfSome c.border_width AreWidths
-  pub outline : IfSome c.outline_width (λ n. n ≤ MAX_LINE_WIDTH)
+  pub outline : IfSome c.outline_width (λ n. n ≤ max_line_width)
 
 -- the members of a style object that both versions have
 abbrev first_fields : StyleChange → List Field
@@ -206,7 +206,7 @@ painting_read c n =
     (border_color-get c) n.types.border_color color_read
     ⊗ given_read content_of content_value IsContent (codes "content") (style_object c) c.content
     (content-get c) n.types.content content_read
-    ⊗ given_read outline_width_of (λ k. number (unsigned k)) (λ k. k ≤ MAX_LINE_WIDTH) (codes "outline-width")
+    ⊗ given_read outline_width_of (λ k. number (unsigned k)) (λ k. k ≤ max_line_width) (codes "outline-width")
     (style_object c) c.outline_width (outline_width-get c) n.outline outline_width_read
     ⊗ given_read color_of color_value IsColor (codes "outline-color") (style_object c) c.outline_color
     (outline_color-get c) n.types.outline_color color_read
@@ -381,9 +381,9 @@ content_some (Some c) h = h
 -- the widths of a style within the limits
 record Within (s : Style) : Type 0 where
   sides : AreWidths s.border_width
-  outline : s.outline_width ≤ MAX_LINE_WIDTH
+  outline : s.outline_width ≤ max_line_width
 
-below : (n : ℕ) → nat_le n MAX_LINE_WIDTH ≡ true → n ≤ MAX_LINE_WIDTH
+below : (n : ℕ) → nat_le n max_line_width ≡ true → n ≤ max_line_width
 below n h = grind (arith, nat_tests)
 
 within : (s : Style) → Fits s → Within s
@@ -414,7 +414,7 @@ differing_named s t w = record {
     outline_color = unless_some IsColor _ s.outline_color t.outline_color;
   };
   sides = unless_some AreWidths _ s.border_width w.sides;
-  outline = unless_some (λ n. n ≤ MAX_LINE_WIDTH) _ s.outline_width w.outline;
+  outline = unless_some (λ n. n ≤ max_line_width) _ s.outline_width w.outline;
 }
 
 differing_had : (version : ℕ) (s : Style) → HasStyle version s → HasChange version (differing s)
@@ -440,5 +440,5 @@ change_named c t f =
     record {
       types = t;
       sides = named_or AreWidths c.border_width (sides 0 0 0 0) w.sides;
-      outline = named_or (λ n. n ≤ MAX_LINE_WIDTH) c.outline_width 0 w.outline;
+      outline = named_or (λ n. n ≤ max_line_width) c.outline_width 0 w.outline;
     }

@@ -10,7 +10,7 @@ use Rattle.rd_geom.specs.declared.color.Color.{Color}
 use Rattle.rd_geom.specs.declared.rect.Sides.{Sides}
 use Rattle.rd_geom.specs.declared.blend.Blend.{Blend}
 use Rattle.rd_geom.specs.declared.blend.Blend.TheVariants as blend
-use Rattle.rd_style.specs.declared.limits.TheConstants.{MAX_COORDINATE, MAX_EXTENT, MAX_LINE_WIDTH}
+use Rattle.rd_style.specs.Figures.{max_coordinate, max_extent, max_line_width}
 use Rattle.rd_style.specs.Limits.{is_between, FitsRect, fits_rect}
 use Rattle.rd_style.specs.declared.kinds.Position.{Position}
 use Rattle.rd_style.specs.declared.kinds.Position.TheVariants as position
@@ -178,10 +178,10 @@ four_read w x y z p q r s =
 
 -- the numbers of a rectangle within the limits
 record Near (r : Rectangle) : Type 0 where
-  x : IsTrue (is_between (pos 0 -ℤ MAX_COORDINATE) r.x MAX_COORDINATE)
-  y : IsTrue (is_between (pos 0 -ℤ MAX_COORDINATE) r.y MAX_COORDINATE)
-  w : IsTrue (is_between (pos 0) r.w MAX_EXTENT)
-  h : IsTrue (is_between (pos 0) r.h MAX_EXTENT)
+  x : IsTrue (is_between (pos 0 -ℤ max_coordinate) r.x max_coordinate)
+  y : IsTrue (is_between (pos 0 -ℤ max_coordinate) r.y max_coordinate)
+  w : IsTrue (is_between (pos 0) r.w max_extent)
+  h : IsTrue (is_between (pos 0) r.h max_extent)
 
 near : (r : Rectangle) → FitsRect r → Near r
 unfolding fits_rect
@@ -194,13 +194,13 @@ few_read : (low high z : ℤ) → high ≤ℤ pos 9223372036854775807 → IsTrue
     → z ≤ℤ pos 9223372036854775807
 few_read low high z few h = grind (arith, ints, nat_tests)
 
-coordinate_read : (z : ℤ) → IsTrue (is_between (pos 0 -ℤ MAX_COORDINATE) z MAX_COORDINATE) → coordinate z ≡ good z
+coordinate_read : (z : ℤ) → IsTrue (is_between (pos 0 -ℤ max_coordinate) z max_coordinate) → coordinate z ≡ good z
 unfolding coordinate
-coordinate_read z h = within_read (pos 0 -ℤ MAX_COORDINATE) MAX_COORDINATE z h
+coordinate_read z h = within_read (pos 0 -ℤ max_coordinate) max_coordinate z h
 
-extent_read : (z : ℤ) → IsTrue (is_between (pos 0) z MAX_EXTENT) → extent z ≡ good z
+extent_read : (z : ℤ) → IsTrue (is_between (pos 0) z max_extent) → extent z ≡ good z
 unfolding extent
-extent_read z h = within_read (pos 0) MAX_EXTENT z h
+extent_read z h = within_read (pos 0) max_extent z h
 
 placed_read : (r : Rectangle) → Near r → placed (r.x, r.y, r.w, r.h) ≡ good r
 unfolding placed
@@ -212,15 +212,15 @@ pub rect_read : (r : Rectangle) → FitsRect r → rect_of (rect_value r) ≡ go
 rect_read r f =
     let n : Near r = near r f in
     next_read _ placed (r.x, r.y, r.w, r.h) r
-    (four_read r.x r.y r.w r.h (few_read (pos 0 -ℤ MAX_COORDINATE) MAX_COORDINATE r.x (omega (arith, ints)) n.x)
-    (few_read (pos 0 -ℤ MAX_COORDINATE) MAX_COORDINATE r.y (omega (arith, ints)) n.y)
-    (few_read (pos 0) MAX_EXTENT r.w (omega (arith, ints)) n.w)
-    (few_read (pos 0) MAX_EXTENT r.h (omega (arith, ints)) n.h)) (placed_read r n)
+    (four_read r.x r.y r.w r.h (few_read (pos 0 -ℤ max_coordinate) max_coordinate r.x (omega (arith, ints)) n.x)
+    (few_read (pos 0 -ℤ max_coordinate) max_coordinate r.y (omega (arith, ints)) n.y)
+    (few_read (pos 0) max_extent r.w (omega (arith, ints)) n.w)
+    (few_read (pos 0) max_extent r.h (omega (arith, ints)) n.h)) (placed_read r n)
 
-width_read : (n : ℕ) → n ≤ MAX_LINE_WIDTH → width (pos n) ≡ good n
+width_read : (n : ℕ) → n ≤ max_line_width → width (pos n) ≡ good n
 unfolding width
 width_read n h = next_read _ (λ w. good (unsigned_abs w)) (pos n) n
-    (within_read (pos 0) (pos MAX_LINE_WIDTH) (pos n) (grind (arith, ints, nat_tests))) refl
+    (within_read (pos 0) (pos max_line_width) (pos n) (grind (arith, ints, nat_tests))) refl
 
 bordered_read : (s : Sides) → AreWidths s → bordered (pos s.top, pos s.right, pos s.bottom, pos s.left) ≡ good s
 unfolding bordered
@@ -228,7 +228,7 @@ bordered_read s n =
     start (λ t r b l. record { top = t; right = r; bottom = b; left = l })
     ⊗ width_read s.top n.top ⊗ width_read s.right n.right ⊗ width_read s.bottom n.bottom ⊗ width_read s.left n.left
 
-narrow_read : (n : ℕ) → n ≤ MAX_LINE_WIDTH → pos n ≤ℤ pos 9223372036854775807
+narrow_read : (n : ℕ) → n ≤ max_line_width → pos n ≤ℤ pos 9223372036854775807
 narrow_read n h = omega (arith, ints)
 
 pub sides_read : (s : Sides) → AreWidths s → sides_of (sides_value s) ≡ good s
@@ -238,6 +238,6 @@ sides_read s n =
     (narrow_read s.top n.top) (narrow_read s.right n.right) (narrow_read s.bottom n.bottom)
     (narrow_read s.left n.left)) (bordered_read s n)
 
-pub outline_width_read : (n : ℕ) → n ≤ MAX_LINE_WIDTH → outline_width_of (number (unsigned n)) ≡ good n
+pub outline_width_read : (n : ℕ) → n ≤ max_line_width → outline_width_of (number (unsigned n)) ≡ good n
 outline_width_read n h = next_read (whole_number (number_value (pos n))) width (pos n) n
     (whole_read (pos n) (narrow_read n h)) (width_read n h)

@@ -4,7 +4,7 @@ use Rattle.std.specs.Int.{Width, w32, byte_len, from_be_bytes, cast_signed}
 use Rattle.rd_geom.specs.declared.blend.Blend.{Blend}
 use Rattle.rd_geom.specs.declared.blend.Blend.TheVariants.{Normal, Multiply, Screen, Darken, Lighten}
 use Rattle.rd_geom.specs.declared.color.Color.{Color}
-use Rattle.rd_geom.specs.declared.rect.TheConstants.{MAX_REACH}
+use Rattle.rd_geom.specs.Figures.{max_reach}
 use Rattle.rd_geom.specs.Plane.{Rectangle, right, bottom, int_low}
 use Rattle.rd_keys.specs.Keys.{BoxKey}
 use Rattle.rd_keys.specs.declared.entry.Part.{Part}
@@ -38,7 +38,7 @@ whole_at bytes = made_at (number_at w32) (λ n. Some (cast_signed w32 n)) bytes
 
 -- may a rectangle lie so?
 abbrev pub is_placed : Rectangle → Bool
-is_placed r = int_le (pos 0) r.w && int_le (pos 0) r.h && int_le int_low r.x && int_le int_low r.y && int_le (right r) MAX_REACH && int_le (bottom r) MAX_REACH
+is_placed r = int_le (pos 0) r.w && int_le (pos 0) r.h && int_le int_low r.x && int_le int_low r.y && int_le (right r) max_reach && int_le (bottom r) max_reach
 
 abbrev pub rect_of : (ℤ × ℤ) × (ℤ × ℤ) → Rectangle
 rect_of p = record { x = p.0.0; y = p.0.1; w = p.1.0; h = p.1.1 }
