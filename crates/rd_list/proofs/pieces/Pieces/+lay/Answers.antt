@@ -14,4 +14,4 @@ returns g t c =
     subst (λ z. OnOk c.push_run.result (c.push_run.new.self ≡ z))
     (lay_top (into_iter_items c.loop-list.list-iterator) c.self.inside.top.items c.loop-list.out c.args.out.now c.args.self
     (sym c.loop-list.list-iterator.rest.ok.0 ∙ c.in-None.ensures.steps.0) c.loop-list.invariant)
-    c.push_run.ensures
+    c.push_run.ensures.pushed
