@@ -17,6 +17,7 @@ use Rattle.rd_list.specs.Entries.{nil}
 use Rattle.rd_list.specs.EntryNames.{kept_leaves}
 use Rattle.rd_list.specs.Kept.{KeptList}
 use Rattle.rd_list.specs.Lists.{pixel, hit}
+use Rattle.rd_list.proofs.Naming.{groups_apart}
 use Rattle.rd_tree.specs.Forest.{IsApart}
 use Rattle.rd_tree.specs.Document.{Document}
 use Rattle.rd_tree.specs.Changes.{Change, insertion, removal, moving, styling, placing, shifting}
@@ -82,7 +83,7 @@ begun_engine t c k touched is size =
 
 module _ (s : EngineState) (is : IsEngine s) (apart : IsApart same_key s.tree.boxes) (now : s.pending ≡ false) where
   same : ShowsTheSame (kept_leaves s.kept.entries) (fresh_list s.tree)
-  same = locality (kept_leaves s.kept.entries) (fresh_list s.tree) (is.stands now) (stands_for_itself s.tree apart).grouped
+  same = locality (kept_leaves s.kept.entries) (fresh_list s.tree) (is.stands now) (groups_apart (fresh_list s.tree) (stands_for_itself s.tree apart).grouped)
 
   pub same_hit : (x y : ℤ) → hit (kept_leaves s.kept.entries) x y ≡ hit (fresh_list s.tree) x y
   same_hit x y = same.hits x y

@@ -5,7 +5,7 @@ use Rattle.rd_item.specs.declared.leaf.Leaf.{Leaf}
 use Rattle.rd_list.specs.Lists.{leaves_meet, without_touched}
 use Rattle.rd_list.specs.Kept.{KeptReady, bare}
 use Rattle.rd_list.specs.EntryNames.{entry_names}
-use Rattle.rd_list.proofs.Naming.{display_editing, display_merging}
+use Rattle.rd_list.proofs.Naming.{display_editing, display_merging, groups_apart}
 use Rattle.rd_tree.specs.Forest.{map_where}
 use Rattle.rd_tree.specs.Touching.{settled}
 use Rattle.rd_tree.specs.Document.{Document, is_touched}
@@ -43,6 +43,6 @@ painting t kept joined new in_area apart covered ready same merged =
     let next : Document = record t { boxes = map_where (λ _. true) settled t.boxes } in
     let is : BoxKey → Bool = λ j. is_touched j next.boxes in
     record {
-      shows = locality (bare entry_names (λ m. m.leaf) joined.entries) (fresh_list t) m.0 once.grouped;
+      shows = locality (bare entry_names (λ m. m.leaf) joined.entries) (fresh_list t) m.0 (groups_apart (fresh_list t) once.grouped);
       kept = display_editing (fresh_list t) (fresh_list next) joined (λ _. false) is once (ap (without_touched is) (sym (settled_list t))) m.2;
     }

@@ -22,7 +22,7 @@ use Rattle.rd_list.specs.Display.{Numbers}
 use Rattle.rd_list.specs.GroupDepth.{group_depth}
 use Rattle.rd_list.specs.Lists.{StandsFor, pixel}
 use Rattle.rd_list.specs.Views.{levels}
-use Rattle.rd_list.proofs.Naming.{stands_back}
+use Rattle.rd_list.proofs.Naming.{groups_apart}
 use Rattle.rd_list.proofs.Numbered.{numbering}
 use Rattle.rd_tree.specs.Forest.{IsApart, height, size}
 use Rattle.rd_stack.specs.Fresh.{fresh_list}
@@ -137,8 +137,8 @@ module _ {A : Type 0} (s : EngineState) (e : IsEngine s) (p : Prepared A) (prep 
     same_outside : pixel (kept_leaves s.kept.entries) x y ≡ pixel (kept_leaves j.entries) x y
     same_outside =
         let stay = stays s.tree in
-        let left : StandsFor (only stay (kept_leaves s.kept.entries)) (only stay fresh) = stands_back (only stay (kept_leaves s.kept.entries)) (only stay fresh) e.ready.ready.stands in
-        let once = (leaving stay fresh fresh (stands_for_itself s.tree apart)).grouped in
+        let left : StandsFor (only stay (kept_leaves s.kept.entries)) (only stay fresh) = e.ready.ready.stands in
+        let once = groups_apart (only stay fresh) (leaving stay fresh fresh (stands_for_itself s.tree apart)).grouped in
         sym (composed-where x y white stay (kept_leaves s.kept.entries) clear_before)
         ∙ (locality (only stay (kept_leaves s.kept.entries)) (only stay fresh) left once).pixels x y
         ∙ composed-where x y white stay fresh clear_now

@@ -11,7 +11,7 @@ use Rattle.rd_graph.specs.Internal.Seen.{seen, seen_one}
 use Rattle.rd_graph.specs.Names.{is_in, place_of, same_entry}
 use Rattle.rd_graph.specs.Orders as spec
 use Rattle.rd_graph.specs.Orders.{Before}
-use Rattle.rd_graph.specs.Passes.{pushed, all_pushed}
+use Rattle.rd_graph.specs.Internal.Passes.{pushed, all_pushed}
 use Rattle.rd_graph.specs.Patches.{AreRising, found_in, is_gone}
 use Rattle.rd_graph.specs.declared.graph.Node.{Node}
 use Rattle.rd_graph.proofs.Listing.{Has, Once, cases, never, has_from, has_either, map_has, once_join}

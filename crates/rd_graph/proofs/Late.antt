@@ -7,7 +7,7 @@ use Rattle.rd_keys.specs.declared.entry.EntryKey.{EntryKey}
 use Rattle.rd_graph.specs.Orders.{Before}
 use Rattle.rd_graph.specs.Graphs.{Graph, nodes, Precedes, Hop, here, Stitch, IsInOrder}
 use Rattle.rd_graph.specs.Names.{same_entry}
-use Rattle.rd_graph.specs.Passes.{IsSorted, noted, distinct, resolved, all_pushed}
+use Rattle.rd_graph.specs.Internal.Passes.{IsSorted, noted, distinct, resolved, all_pushed}
 use Rattle.rd_graph.specs.Patches.{AreWithin}
 use Rattle.rd_graph.specs.Internal.Relisting.{list_at, IsAt, some_gone, is_late, AreNoted, Relists}
 use Rattle.rd_graph.proofs.Listing.{Has, Once, cases, never, has_from, contains_from, has_either, before_to}

@@ -8,7 +8,7 @@ use Rattle.rd_graph.specs.Graphs.{Graph, nodes, Precedes, Next, Stitch, Hop, her
 use Rattle.rd_graph.specs.Gathered.{gathered, arranged, IsLine}
 use Rattle.rd_graph.specs.Laws.{Full}
 use Rattle.rd_graph.specs.Names.{place_of, same_entry}
-use Rattle.rd_graph.specs.Passes.{stitch_pass}
+use Rattle.rd_graph.specs.Internal.Passes.{stitch_pass}
 use Rattle.rd_graph.specs.Patches.{with_list, with_lists, not_found, found_in, is_gone, IsStill, CanBePatched, IsRelisted, IsArranged, FitsPatch, IsPatched}
 use Rattle.rd_graph.specs.Internal.MadeNodes.{made_after}
 use Rattle.rd_graph.specs.Internal.Seen.{seen}

@@ -6,7 +6,7 @@ use Rattle.rd_keys.specs.declared.entry.EntryKey.{EntryKey}
 use Rattle.rd_graph.specs.Graphs.{Graph, nodes, IsInOrder}
 use Rattle.rd_graph.specs.Gathered.{gathered}
 use Rattle.rd_graph.specs.Names.{is_in, same_entry}
-use Rattle.rd_graph.specs.Passes.{resolved, all_pushed}
+use Rattle.rd_graph.specs.Internal.Passes.{resolved, all_pushed}
 use Rattle.rd_graph.specs.Patches.{AreRising}
 use Rattle.rd_graph.specs.Internal.Relisting.{AreQuiet, IsAt, has_mark, is_late, some_gone}
 use Rattle.rd_graph.specs.Internal.Walks.{IsMet}

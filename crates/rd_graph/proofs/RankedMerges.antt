@@ -12,7 +12,7 @@ use Rattle.rd_graph.specs.Graphs.{Graph, nodes, Precedes, Reaches, Hop, here, ov
 use Rattle.rd_graph.specs.Orders as spec
 use Rattle.rd_graph.specs.Orders.{Before}
 use Rattle.rd_graph.specs.Names.{same_entry}
-use Rattle.rd_graph.specs.Passes.{stitch_pass}
+use Rattle.rd_graph.specs.Internal.Passes.{stitch_pass}
 use Rattle.rd_graph.specs.Patches.{CanBePatched, IsArranged, is_gone, not_found}
 use Rattle.rd_graph.specs.Internal.Seen.{seen}
 use Rattle.rd_graph.specs.Internal.Walks.{stays_at, staying, counted, free_after}

@@ -1,6 +1,8 @@
 -- What private contracts, invariants and views say. No public clause cites it, so a reader need not read it.
 pub mod Chains
+pub mod Lines
 pub mod MadeNodes
+pub mod Passes
 pub mod Patching
 pub mod Relisting
 pub mod Ranks

@@ -1,7 +1,7 @@
 //! Predecessors are resolved: what is noted of those that go comes in their place.
 ghost use Rattle.std.specs.Prelude.{◌≡◌, IfOk, IfSome, OnOk, IsTrue, Some};
 ghost use Rattle.rd_graph.specs.Names.{same_entry};
-ghost use Rattle.rd_graph.specs.Passes.{pushed, all_pushed};
+ghost use Rattle.rd_graph.specs.Internal.Passes.{pushed, all_pushed};
 ghost use Rattle.rd_graph.specs.Internal.Relisting.{AreMarked};
 ghost use Rattle.rd_graph.specs.Internal.Tables.{fits_list};
 ghost use Rattle.rd_graph.specs.Internal.Words.{in_place_by, note_at, resolved_by};

@@ -98,22 +98,22 @@ module _ {A B : Type 0} (f : A → B) (R : B → B → Type 0) where
       subst (λ (x : B). R x (get_or (map f xs) j d)) (sym (get-map xs i o d (omega arith)))
       (subst (λ (y : B). R (f (get_or xs i o)) y) (sym (get-map xs j o d n)) (h i j o l n))
 
--- the boxes of the groups, as StandsFor of display lists names them
+-- the boxes of the groups are the keys of their wrappers
 groups-wrappers : (xs : Entries Wrapper Leaf) → groups xs ≡ map (λ w. w.key) (wrappers xs)
 groups-wrappers nil = refl
 groups-wrappers (leaf l xs) = groups-wrappers xs
 groups-wrappers (group g inner xs) = ap (λ zs. g.key ∷ zs) (rw (groups-wrappers inner, groups-wrappers xs) (sym (map-append (λ w. w.key) (wrappers inner) (wrappers xs))))
 
-pub stands_to : (kept fresh : Entries Wrapper Leaf) → lists.StandsFor kept fresh → StandsFor entry_names leaves_meet kept fresh
-stands_to kept fresh s = record { leaves = s.leaves; once = s.once; grouped = pairs_of_images (λ w. w.key) (λ a b. same_key a b ≡ false) (wrappers kept) (rw (groups-wrappers kept) at s.grouped); filled = s.filled; ordered = s.ordered }
+-- the wrappers of a list's groups differ by their keys where the boxes of its groups differ
+pub groups_apart : (xs : Entries Wrapper Leaf) → AllPairs (λ a b. same_key a.key b.key ≡ false) (wrappers xs) → AllPairs (λ a b. same_key a b ≡ false) (groups xs)
+groups_apart xs h = rw (groups-wrappers xs) (images_of_pairs (λ w. w.key) (λ a b. same_key a b ≡ false) (wrappers xs) h)
 
-pub stands_back : (kept fresh : Entries Wrapper Leaf) → StandsFor entry_names leaves_meet kept fresh → lists.StandsFor kept fresh
-stands_back kept fresh s = record { leaves = s.leaves; once = s.once; grouped = rw (groups-wrappers kept) (images_of_pairs (λ w. w.key) (λ a b. same_key a b ≡ false) (wrappers kept) s.grouped); filled = s.filled; ordered = s.ordered }
+pub wrappers_apart : (xs : Entries Wrapper Leaf) → AllPairs (λ a b. same_key a b ≡ false) (groups xs) → AllPairs (λ a b. same_key a.key b.key ≡ false) (wrappers xs)
+wrappers_apart xs h = pairs_of_images (λ w. w.key) (λ a b. same_key a b ≡ false) (wrappers xs) (rw (groups-wrappers xs) at h)
 
 pub display_merging : DisplayMerging
 display_merging = λ fresh kept joined new stays in_area once covered ready same merged.
-    let r = kept_merging entry_names (λ m. m.leaf) entry_names_are leaves_meet leaves_meet-flip fresh kept joined new stays in_area (stands_to fresh fresh once) covered ready same merged in
-    (stands_back _ fresh r.0, r.1, r.2)
+    kept_merging entry_names (λ m. m.leaf) entry_names_are leaves_meet leaves_meet-flip fresh kept joined new stays in_area once covered ready same merged
 
 same_by_each : {A B : Type 0} (f g : A → B) → ((x : A) → f x ≡ g x) → f ≡ g
 same_by_each f g h = λ i x. h x i
@@ -129,7 +129,7 @@ display_editing = λ fresh next kept touched more once same ready.
     let e : both ≡ none = same_by_each both none (λ l. neither (touched l.owner) (more l.owner)) in
     let reach = reach_of entry_names (λ m. m.leaf) kept in
     let r : IsReady entry_names leaves_meet both reach (bare entry_names (λ m. m.leaf) kept.entries) next =
-    edited entry_names entry_names_are leaves_meet reach fresh next (bare entry_names (λ m. m.leaf) kept.entries) (λ l. not (touched l.owner)) (λ l. not (more l.owner)) (stands_to fresh fresh once)
+    edited entry_names entry_names_are leaves_meet reach fresh next (bare entry_names (λ m. m.leaf) kept.entries) (λ l. not (touched l.owner)) (λ l. not (more l.owner)) once
     (subst (λ (p : Leaf → Bool). only p fresh ≡ only p next) (sym e) same) ready.ready in
     record { nodes_are = ready.nodes_are; names_once = ready.names_once; in_order = ready.in_order; ready = subst (λ (p : Leaf → Bool). IsReady entry_names leaves_meet p reach (bare entry_names (λ m. m.leaf) kept.entries) next) e r }
 
@@ -146,4 +146,4 @@ covering = λ fresh stays in_area holds marks some within. record {
 pub display_beginning : DisplayBeginning
 display_beginning = λ new stays once.
     let fresh : Entries Wrapper Leaf = bare_new entry_names (λ m. m.leaf) new in
-    linear_merged entry_names (λ m. m.leaf) entry_names_are stays new (stands_once entry_names entry_names_are leaves_meet fresh fresh (stands_to fresh fresh once))
+    linear_merged entry_names (λ m. m.leaf) entry_names_are stays new (stands_once entry_names entry_names_are leaves_meet fresh fresh once)

@@ -8,7 +8,7 @@ use Rattle.rd_list.specs.Entries.{Entries, nil, leaf, group, ◌▷◌, flat, he
 use Rattle.rd_list.specs.Levels.{Names, keys, name, inside, held}
 use Rattle.rd_list.proofs.Named.{AreNames}
 use Rattle.rd_list.specs.Kept.{Ordered, KeptList, bare, bare_new, within, IsMerged}
-use Rattle.rd_list.specs.Fits.{Fits, MakesLevel, IsPicked, Picking, MergesTo, is_group, within_new}
+use Rattle.rd_list.specs.Internal.Fits.{Fits, MakesLevel, IsPicked, Picking, MergesTo, is_group, within_new}
 use Rattle.rd_list.proofs.Levelling.{join-nil, flat-join, held-only, held_key, has_only, inside_flat}
 use Rattle.rd_list.proofs.Onces.{inside_none}
 use Rattle.rd_list.proofs.Ordering.{once_same}

@@ -14,11 +14,11 @@ use Rattle.rd_keys.specs.declared.entry.EntryKey.{EntryKey}
 use Rattle.rd_item.specs.declared.leaf.Leaf.{Leaf}
 use Rattle.rd_item.specs.Items.{Made}
 use Rattle.rd_list.specs.Wrappers.{Wrapper}
-use Rattle.rd_list.specs.Entries.{Entries, nil, leaf, group, ◌▷◌, one_leaf, flat, routes, only, no_group_is_empty}
+use Rattle.rd_list.specs.Entries.{Entries, nil, leaf, group, ◌▷◌, one_leaf, flat, routes, only, wrappers, no_group_is_empty}
 use Rattle.rd_list.specs.EntryNames.{entry_names, made_leaf, new_leaves}
 use Rattle.rd_list.specs.Kept.{KeptList, KeptReady}
 use Rattle.rd_list.specs.Lists as lists
-use Rattle.rd_list.specs.Lists.{groups, leaves_meet, same_leaf}
+use Rattle.rd_list.specs.Lists.{leaves_meet, same_leaf}
 use Rattle.rd_list.specs.Laws.{IsCovered}
 use Rattle.rd_list.proofs.Naming.{display_merging, display_editing, images_of_pairs}
 use Rattle.rd_list.specs.NewView.{new_entries}
@@ -36,9 +36,9 @@ module _ (ink : Color) where
   flat-line [] = refl
   flat-line (s ∷ ss) = ap (λ ls. spot_leaf ink s ∷ ls) (flat-line ss)
 
-  groups-line : (ss : List Spot) → groups (line ink ss) ≡ []
-  groups-line [] = refl
-  groups-line (s ∷ ss) = groups-line ss
+  wrappers-line : (ss : List Spot) → wrappers (line ink ss) ≡ []
+  wrappers-line [] = refl
+  wrappers-line (s ∷ ss) = wrappers-line ss
 
   filled-line : (ss : List Spot) → no_group_is_empty (line ink ss) ≡ true
   filled-line [] = refl
@@ -58,7 +58,7 @@ module _ (ink : Color) where
   stands ss apart = record {
     leaves = IsPermutation-refl (routes [] (line ink ss));
     once = rw (flat-line ss) (images_of_pairs (spot_leaf ink) (λ a b. same_leaf a b ≡ false) ss (λ i j d l m. differ (get_or ss i d) (get_or ss j d) (apart i j d l m)));
-    grouped = rw (groups-line ss) (λ i j d l m. absurd (omega (arith, m)));
+    grouped = rw (wrappers-line ss) (λ i j d l m. absurd (omega (arith, m)));
     filled = filled-line ss;
     ordered = λ a b c d m. refl;
   }

@@ -13,7 +13,7 @@ use Rattle.rd_item.specs.Items.{Made}
 use Rattle.rd_list.specs.Wrappers.{Wrapper}
 use Rattle.rd_list.specs.Entries.{Entries, nil, leaf, group, heads, only, grouped_if_any}
 use Rattle.rd_list.specs.EntryNames.{entry_names, made_leaf, kept_leaves, new_names, new_leaves}
-use Rattle.rd_list.specs.Fits.{Fits, is_group, within_new}
+use Rattle.rd_list.specs.Internal.Fits.{Fits, is_group, within_new}
 use Rattle.rd_list.specs.Kept.{Ordered, KeptList, within}
 use Rattle.rd_list.specs.Levels.{keys, name, inside}
 use Rattle.rd_list.proofs.Fitting.{fits_inside, new_inside}
@@ -22,7 +22,7 @@ use Rattle.rd_list.proofs.Narrowing.{key_head}
 use Rattle.rd_list.proofs.Picking.{same_head}
 use Rattle.rd_list.proofs.Routing.{only_head}
 use Rattle.rd_graph.proofs.Calls.{once_of}
-use Rattle.rd_merge.specs.Fitting.{FitsFor}
+use Rattle.rd_merge.specs.Internal.Fitting.{FitsFor}
 use Rattle.rd_merge.specs.Looking.{kept_names}
 use Rattle.rd_merge.specs.Plans.{entry_at, gathered_entries, arranged_entries, old_list, IsGroupPlace}
 use Rattle.rd_merge.proofs.Places.{HasGroup}

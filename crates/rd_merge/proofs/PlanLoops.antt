@@ -29,7 +29,7 @@ use Rattle.rd_list.specs.declared.kept.Group.{Group}
 use Rattle.rd_list.proofs.News.{new-append, names-join, runs-append, runs_next, runs_from}
 use Rattle.rd_list.proofs.Viewing.{size_at, group_here}
 use Rattle.rd_merge.specs.Going.{is_untouched}
-use Rattle.rd_merge.specs.Fitting.{FitsFor}
+use Rattle.rd_merge.specs.Internal.Fitting.{FitsFor}
 use Rattle.rd_merge.specs.Looking.{inner_places, kept_names, IsLooked}
 use Rattle.rd_merge.specs.Merging.{IsPlan}
 use Rattle.rd_merge.specs.Plans.{Steps, PlanList, old_list, IsGroupPlace}

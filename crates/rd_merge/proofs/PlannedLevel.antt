@@ -17,7 +17,7 @@ use Rattle.rd_item.specs.Items.{Made}
 use Rattle.rd_list.specs.Wrappers.{Wrapper}
 use Rattle.rd_list.specs.Entries.{Entries, nil, leaf, group, ◌▷◌, heads, only}
 use Rattle.rd_list.specs.EntryNames.{entry_names, made_leaf, kept_leaves, new_leaves, new_names}
-use Rattle.rd_list.specs.Fits.{TellsGone, MakesLevel, is_group, within_new}
+use Rattle.rd_list.specs.Internal.Fits.{TellsGone, MakesLevel, is_group, within_new}
 use Rattle.rd_list.specs.Kept.{Ordered, KeptList, within, IsMerged}
 use Rattle.rd_list.specs.Levels.{keys}
 use Rattle.rd_list.proofs.Fitting.{going_together}
@@ -25,7 +25,7 @@ use Rattle.rd_list.proofs.Levelling.{has_only}
 use Rattle.rd_list.proofs.Naming.{entry_names_are}
 use Rattle.rd_list.proofs.Picking.{picking, kept_leaf}
 use Rattle.rd_merge.specs.Going.{any_stays, gone_keys, is_untouched}
-use Rattle.rd_merge.specs.Fitting.{FitsFor}
+use Rattle.rd_merge.specs.Internal.Fitting.{FitsFor}
 use Rattle.rd_merge.specs.Looking.{any_goes, gone_places, kept_names, IsLooked}
 use Rattle.rd_merge.specs.Merging.{IsPlan}
 use Rattle.rd_merge.specs.Plans.{Steps, size_of, made_count, one_made, stepped, filled, MakesNone, PlacesFit}

@@ -7,7 +7,7 @@ use Rattle.rd_graph.proofs.Calls.{once_of}
 use Rattle.rd_graph.proofs.Chains.{chain_of}
 use Rattle.rd_graph.proofs.Listing.{Has, before_from, before_to, cases, contains_from, has_either, has_from, has_left, has_right, pairs_from}
 use Rattle.rd_list.specs.Entries.{Entries, nil, leaf, group, flat, only, grouped_if_any, is_empty}
-use Rattle.rd_list.specs.Fits.{Fits}
+use Rattle.rd_list.specs.Internal.Fits.{Fits}
 use Rattle.rd_list.specs.Joining.{Among, IsJoinedAt, Step}
 use Rattle.rd_list.specs.Kept.{Ordered, KeptList, bare, kept_at, reach_of, IsMerged}
 use Rattle.rd_list.specs.Levels.{Names, keys, level_at}

@@ -8,17 +8,17 @@ use Rattle.rd_list.specs.Entries.{Entries}
 use Rattle.rd_list.specs.EntryNames.{entry_names, made_leaf}
 use Rattle.rd_list.specs.Kept.{KeptList}
 use Rattle.rd_list.specs.Lists.{leaves_meet}
-use Rattle.rd_list.proofs.Naming.{entry_names_are, stands_to, display_merging}
+use Rattle.rd_list.proofs.Naming.{entry_names_are, display_merging}
 use Rattle.rd_list.proofs.Fitting.{ready_fits}
 use Rattle.rd_merge.specs.Going.{is_untouched}
-use Rattle.rd_merge.specs.Fitting.{FitsFor}
+use Rattle.rd_merge.specs.Internal.Fitting.{FitsFor}
 use Rattle.rd_merge.specs.Merging.{CanBeMerged, MergedInto, StandsAfter}
 
 module _ (touched : BoxKey → Bool) (kept : KeptList EntryKey Wrapper Made) (new : Entries Wrapper Made) where
   pub fits_whole : CanBeMerged touched kept new → FitsFor (is_untouched touched) kept new
   fits_whole can = record {
     fresh = can.fresh;
-    fits = ready_fits entry_names made_leaf (is_untouched touched) entry_names_are leaves_meet kept new can.fresh can.in_area (stands_to can.fresh can.fresh can.itself) can.ready can.limited;
+    fits = ready_fits entry_names made_leaf (is_untouched touched) entry_names_are leaves_meet kept new can.fresh can.in_area can.itself can.ready can.limited;
   }
 
   pub stands_after : (joined : KeptList EntryKey Wrapper Made) → MergedInto touched kept new joined → StandsAfter touched kept new joined

@@ -1,5 +1,6 @@
 -- What private contracts say. No public clause cites it, so a reader need not read it.
 pub mod Adding
+pub mod Fitting
 pub mod Looks
 pub mod Marks
 pub mod Moving
@@ -8,4 +9,5 @@ pub mod PlanFalls
 pub mod Planning
 pub mod PlanRoom
 pub mod Sought
+pub mod Telling
 pub mod Untaken

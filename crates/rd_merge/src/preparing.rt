@@ -6,7 +6,7 @@ ghost use Rattle.rd_list.specs.EntryNames.{new_names};
 ghost use Rattle.rd_list.specs.NewView.{new_entries, in_runs};
 ghost use Rattle.rd_list.specs.Wrappers.{wrapper};
 ghost use Rattle.rd_merge.specs.Going.{is_untouched};
-ghost use Rattle.rd_merge.specs.Fitting.{FitsFor};
+ghost use Rattle.rd_merge.specs.Internal.Fitting.{FitsFor};
 ghost use Rattle.rd_merge.specs.Merging.{CanBeMerged, IsPlan, MergedInto, StandsAfter};
 ghost use Rattle.rd_merge.specs.Plans.{PlacesFit, filled, old_list};
 ghost use Rattle.rd_merge.specs.PlanView.{steps_seen};

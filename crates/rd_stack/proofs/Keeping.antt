@@ -12,6 +12,7 @@ use Rattle.rd_item.specs.Leaves.{covers}
 use Rattle.rd_graph.proofs.Listing.{Has, has_from, contains_from, has_left, has_right, has_filter, filter_has}
 use Rattle.rd_list.specs.Wrappers.{Wrapper}
 use Rattle.rd_list.specs.Entries.{Entries, nil, leaf, group, flat, routes, only, grouped_if_any}
+use Rattle.rd_list.proofs.Naming.{groups_apart, wrappers_apart}
 use Rattle.rd_list.specs.Lists.{StandsFor, groups, pair_in_order, same_leaf, leaves_meet, without_touched, composed, is_hit, is_outline, last}
 use Rattle.rd_list.proofs.Levelling.{flat-only}
 use Rattle.rd_list.proofs.Routing.{only_filled}
@@ -126,7 +127,7 @@ module _ (p : Leaf → Bool) where
     flat_once = subst (λ ls. IsDistinct same_leaf ls) (sym (flat-only p kept)) (distinct_filter same_leaf p (flat kept) (IsDistinct-from_apart same_leaf (flat kept) s.once))
 
     groups_once : IsDistinct same_key (groups (only p kept))
-    groups_once = distinct_part same_key (groups (only p kept)) (groups kept) (groups_left kept) (IsDistinct-from_apart same_key (groups kept) s.grouped)
+    groups_once = distinct_part same_key (groups (only p kept)) (groups kept) (groups_left kept) (IsDistinct-from_apart same_key (groups kept) (groups_apart kept s.grouped))
 
     in_whole : (l : Leaf) → Contains (flat (only p fresh)) l → Contains (flat fresh) l
     in_whole l c = contains_from (flat fresh) l (filter_has p (flat fresh) l (has_from (filter p (flat fresh)) l (subst (λ ls. Contains ls l) (flat-only p fresh) c))).0
@@ -144,7 +145,7 @@ pub leaving : LeavingLaw
 leaving p kept fresh s = record {
   leaves = subst (λ ws. IsPermutation ws (routes [] (only p fresh))) (sym (routes_left p kept fresh s kept)) (subst (λ vs. IsPermutation (filter (λ w. p w.1) (ways kept)) vs) (sym (routes_left p kept fresh s fresh)) (same_left p kept fresh s));
   once = λ i j d. apart_from_distinct same_leaf (flat (only p kept)) i j d (flat_once p kept fresh s);
-  grouped = λ i j d. apart_from_distinct same_key (groups (only p kept)) i j d (groups_once p kept fresh s);
+  grouped = wrappers_apart (only p kept) (λ i j d. apart_from_distinct same_key (groups (only p kept)) i j d (groups_once p kept fresh s));
   filled = only_filled p kept;
   ordered = order_left p kept fresh s;
 }

@@ -13,6 +13,7 @@ use Rattle.rd_item.specs.Leaves.{covers}
 use Rattle.rd_graph.proofs.Listing.{Has, has_from, contains_from, has_filter, filter_has, has_map}
 use Rattle.rd_list.specs.Wrappers.{Wrapper}
 use Rattle.rd_list.specs.Entries.{Entries, flat, routes, only}
+use Rattle.rd_list.proofs.Naming.{groups_apart}
 use Rattle.rd_list.specs.Lists.{StandsFor, groups, pair_in_order, same_leaf, is_outline, is_hit, last, composed}
 use Rattle.rd_graph.specs.Names.{same_part}
 use Rattle.rd_list.proofs.Narrowing.{filter_swap}
@@ -129,7 +130,7 @@ module _ (kept fresh : Entries Wrapper Leaf) (s : StandsFor kept fresh) where
     same_lists : only (at x y) kept ≡ only (at x y) fresh
     same_lists =
         rebuilt (only (at x y) kept) (only (at x y) fresh) (filled_only (at x y) kept) (filled_only (at x y) fresh)
-        (apart_only (at x y) kept (apart_from kept (IsDistinct-from_apart same_key (groups kept) s.grouped)))
+        (apart_only (at x y) kept (apart_from kept (IsDistinct-from_apart same_key (groups kept) (groups_apart kept s.grouped))))
         (apart_only (at x y) fresh (apart_from fresh (IsDistinct-from_apart same_key (groups fresh) once)))
         (ways-only (at x y) kept ∙ (same_ways ∙ sym (ways-only (at x y) fresh)))
 

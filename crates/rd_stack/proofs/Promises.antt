@@ -6,6 +6,7 @@ use Rattle.rd_keys.specs.Keys.{same_key}
 use Rattle.rd_keys.proofs.Keys.{same_key-refl}
 use Rattle.rd_list.specs.Entries.{flat, routes}
 use Rattle.rd_list.specs.Lists.{same_leaf, groups}
+use Rattle.rd_list.proofs.Naming.{wrappers_apart}
 use Rattle.rd_stack.specs.Fresh.{fresh_list}
 use Rattle.rd_stack.proofs.Counting.Counted.{pairs_apart, leaf_once, group_once, none_empty, filled}
 use Rattle.rd_stack.proofs.Counting.Counted.{none_fails}
@@ -18,7 +19,7 @@ pub stands_for_itself : StandsForItself
 stands_for_itself = λ t apart. record {
   leaves = IsPermutation-refl (routes [] (fresh_list t));
   once = pairs_apart same_leaf same_leaf-refl (flat (fresh_list t)) (λ a. leaf_once (canvas_of t.canvas) a t.boxes apart);
-  grouped = pairs_apart same_key same_key-refl (groups (fresh_list t)) (λ j. group_once (canvas_of t.canvas) j t.boxes apart);
+  grouped = wrappers_apart (fresh_list t) (pairs_apart same_key same_key-refl (groups (fresh_list t)) (λ j. group_once (canvas_of t.canvas) j t.boxes apart));
   filled = filled (fresh_list t) (none_empty (canvas_of t.canvas) t.boxes apart);
   ordered = λ a b _ _ _. refl;
 }

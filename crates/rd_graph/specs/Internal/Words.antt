@@ -5,7 +5,7 @@ use Rattle.smallvec.specs.SmallVec.{SmallVec}
 use Rattle.rd_keys.specs.declared.entry.EntryKey.{EntryKey}
 use Rattle.rd_graph.specs.Graphs.{Graph}
 use Rattle.rd_graph.specs.Names.{same_entry}
-use Rattle.rd_graph.specs.Passes.{resolved, all_pushed, stitch_pass}
+use Rattle.rd_graph.specs.Internal.Passes.{resolved, all_pushed, stitch_pass}
 use Rattle.rd_graph.specs.Internal.Chains.{Lowers, just_before, old_part, new_among, new_part}
 use Rattle.rd_graph.specs.Internal.Seen.{seen, labelled}
 use Rattle.rd_graph.specs.Internal.Tables.{at, label_in, noted_in, has_it}

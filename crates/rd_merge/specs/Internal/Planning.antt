@@ -9,7 +9,7 @@ use Rattle.rd_list.specs.Entries.{Entries, nil, leaf, group}
 use Rattle.rd_list.specs.EntryNames.{entry_names}
 use Rattle.rd_list.specs.Kept.{Ordered}
 use Rattle.rd_merge.specs.Going.{is_untouched}
-use Rattle.rd_merge.specs.Fitting.{FitsFor}
+use Rattle.rd_merge.specs.Internal.Fitting.{FitsFor}
 use Rattle.rd_merge.specs.Looking.{kept_names}
 use Rattle.rd_merge.specs.Merging.{IsPlan}
 use Rattle.rd_merge.specs.Plans.{GroupStep, Steps, IsGroupPlace, old_list}

@@ -1,5 +1,5 @@
 use Rattle.std.proofs.Common.{◌≡◌, take}
-use Rattle.rd_graph.specs.Passes.{all_pushed}
+use Rattle.rd_graph.specs.Internal.Passes.{all_pushed}
 use Rattle.rd_graph.specs.Names.{same_entry}
 use Rattle.rd_graph.proofs.resolving.push_few.Given as goal
 

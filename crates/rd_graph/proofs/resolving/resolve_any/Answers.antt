@@ -1,7 +1,7 @@
 use Rattle.std.proofs.Common.{◌∙◌, ap}
 use Rattle.rd_keys.specs.declared.entry.EntryKey.{EntryKey}
 use Rattle.rd_graph.specs.Names.{same_entry}
-use Rattle.rd_graph.specs.Passes.{all_pushed}
+use Rattle.rd_graph.specs.Internal.Passes.{all_pushed}
 use Rattle.rd_graph.specs.Internal.Words.{in_place_by, noted_by}
 use Rattle.rd_graph.specs.Internal.Tables.{has_it}
 use Rattle.rd_graph.proofs.Stitches.{resolves_next}

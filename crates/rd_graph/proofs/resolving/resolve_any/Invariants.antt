@@ -1,5 +1,5 @@
 use Rattle.std.proofs.Common.{◌≡◌, [], take}
-use Rattle.rd_graph.specs.Passes.{all_pushed, resolved}
+use Rattle.rd_graph.specs.Internal.Passes.{all_pushed, resolved}
 use Rattle.rd_graph.specs.Internal.Tables.{fits_list, has_it}
 use Rattle.rd_graph.specs.Internal.Words.{noted_by}
 use Rattle.rd_graph.specs.Names.{same_entry}

@@ -1,6 +1,6 @@
 use Rattle.std.proofs.Common.{◌≡◌, subst, Bool, cond, [], ◌∷◌}
 use Rattle.std.specs.Prelude.{OnOk}
-use Rattle.rd_graph.specs.Passes.{all_pushed}
+use Rattle.rd_graph.specs.Internal.Passes.{all_pushed}
 use Rattle.rd_graph.specs.Internal.Tables.{noted_in}
 use Rattle.rd_graph.specs.Names.{same_entry}
 use Rattle.rd_graph.proofs.stitch.resolve_one.Goals as goal

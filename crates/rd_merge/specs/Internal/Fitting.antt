@@ -7,7 +7,7 @@ use Rattle.rd_list.specs.Wrappers.{Wrapper}
 use Rattle.rd_list.specs.Entries.{Entries}
 use Rattle.rd_list.specs.EntryNames.{entry_names, made_leaf, new_leaves}
 use Rattle.rd_list.specs.Kept.{KeptList}
-use Rattle.rd_list.specs.Fits.{Fits}
+use Rattle.rd_list.specs.Internal.Fits.{Fits}
 
 -- There is a fresh list that both lists fit, where these leaves stay.
 pub record FitsFor (stays : Leaf → Bool) (kept : KeptList EntryKey Wrapper Made) (new : Entries Wrapper Made) : Type 0 where
