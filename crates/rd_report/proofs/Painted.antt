@@ -4,7 +4,7 @@ use Rattle.std.proofs.lemmas.List.{take_more}
 use Rattle.rd_geom.specs.Colors.{Premultiplied}
 use Rattle.rd_report.specs.Pictures.{rgb}
 
-rgb-append : (ps qs : List Premultiplied) → rgb (ps ++ qs) ≡ rgb ps ++ rgb qs
+pub rgb-append : (ps qs : List Premultiplied) → rgb (ps ++ qs) ≡ rgb ps ++ rgb qs
 unfolding rgb
 rgb-append [] qs = refl
 rgb-append (p ∷ ps) qs = ap (λ z. p.r ∷ p.g ∷ p.b ∷ z) (rgb-append ps qs)

@@ -13,5 +13,5 @@ mod words;
 pub use answer::{Answer, push_line};
 pub use digests::digest;
 pub use dump::push_dump;
-pub use picture::p6;
+pub use picture::{p6, picture_head, push_px};
 pub use summary::{Totals, push_summary};

@@ -7,17 +7,17 @@ use rd_geom::{NoMemory, Px};
 use rd_paint::Canvas;
 use std::alloc::Global;
 
-/// The head of a picture of this width and height.
+/// The head of a picture of this width and height, in pixels, as Netpbm P6 has it.
 #[tactic(auto, unfolding(crate::specs::Pictures::p6_head))]
-fn head(alloc: Global, width: u32, height: u32) -> Result<String, NoMemory>
+pub fn picture_head(alloc: Global, width: u32, height: u32) -> Result<String, NoMemory>
     ensures { IfOk result (λ s. string_bytes s ≡ p6_head width height) }
 {
     format!(in alloc; "P6\n{width} {height}\n255\n")
 }
 
-/// Red, green and blue of a pixel.
+/// Puts red, green and blue of a pixel at the end of a picture, in channels of 8 bits.
 #[tactic(auto, unfolding(crate::specs::Pictures::rgb), using(crate::proofs::Joining::joining))]
-fn push_px(bytes: &mut Vec<u8>, px: &Px) -> Result<(), NoMemory>
+pub fn push_px(bytes: &mut Vec<u8>, px: &Px) -> Result<(), NoMemory>
     ensures { OnOk result (bytes.new.items ≡ bytes.old.items ++ rgb (px.now ∷ [])) }
 {
     bytes.push(px.r())?;
@@ -33,7 +33,7 @@ pub fn p6(alloc: Global, canvas: &Canvas) -> Result<Vec<u8>, NoMemory>
     ensures { IfOk result (λ bytes. bytes.items ≡ p6_text canvas.now.width canvas.now.height canvas.now.pixels) }
 {
     let size = canvas.size();
-    let head = head(alloc, size.w.unsigned_abs(), size.h.unsigned_abs())?;
+    let head = picture_head(alloc, size.w.unsigned_abs(), size.h.unsigned_abs())?;
     let pixels = canvas.pixels();
     let mut bytes = Vec::with_capacity(alloc, head.len() + 3 * pixels.len())?;
     bytes.extend_from_slice(head.as_bytes())?;

@@ -6,76 +6,93 @@ use Rattle.rd_scene.specs.Scripts.{Script, form_faults}
 use Rattle.rd_scene.specs.Reading.{IsScriptText, IsOffForm, HasNoReading}
 use Rattle.rd_scene.specs.declared.fault.Place.{Place}
 use Rattle.rd_scene.specs.declared.fault.Why.{Why}
-use Rattle.rd_run.specs.Endings.{Stream, Counter, HasFailed, IsFaultless, HasRead, HasAnswer, EndsAs, Ends, Completes, IsScriptAnswer, IsScriptPicture, IsStormSummary}
-use Rattle.rd_run.specs.Internal.Answered.{AnswersAs, RefusesInput}
+use Rattle.rd_run.specs.Endings.{Stream, Counter, HasFailed, IsFaultless, HasRead, HasAnswer, EndsAs, Ends, Completes, IsScriptAnswer, IsScriptPicture, IsStormSummary, ReadsInput, ReadsScript, ReadsWire, IsInput, IsAnswer, IsScriptWire, IsWireText, IsNoWireText, IsWirePicture}
+use Rattle.rd_run.specs.Internal.Answered.{AnswersAs, RefusesInput, RefusesWire}
 use Rattle.rd_run.specs.Figures.{most_bytes}
+use Rattle.rd_wire.specs.declared.wire.Wire as wires
+use Rattle.rd_run.specs.Machine.{Counts}
 use Rattle.rd_run.specs.declared.status.Status.{Status}
-use Rattle.rd_run.specs.declared.status.Status.TheVariants.{Done, Usage, NotJson, Form, ReadFault, WriteFault, NoMemory, TooLarge}
+use Rattle.rd_run.specs.declared.status.Status.TheVariants.{Done, Usage, NotJson, Form, ReadFault, WriteFault, NoMemory, TooLarge, BadWire}
 use Rattle.rd_run.specs.declared.words.WordsForm.{WordsForm}
-use Rattle.rd_run.specs.declared.words.WordsForm.TheVariants.{Replay, Render, Storm}
+use Rattle.rd_run.specs.declared.words.WordsForm.TheVariants.{Replay, Render, Wire, Compose, Storm}
+
+-- an answer is one also where less is known of a run that wrote nothing
+pub untouched_as : (P Q : Type 0) (is_answer : List ℕ → Counts → Type 0) (out : Stream) (made looks : Counter) (s : Status) → (P → Q)
+    → AnswersAs P is_answer out made looks s → AnswersAs Q is_answer out made looks s
+untouched_as P Q is_answer out made looks Done f a = a
+untouched_as P Q is_answer out made looks WriteFault f a = a
+untouched_as P Q is_answer out made looks NoMemory f (inl p) = inl (f p)
+untouched_as P Q is_answer out made looks NoMemory f (inr a) = inr a
+untouched_as P Q is_answer out made looks Usage f a = absurd a
+untouched_as P Q is_answer out made looks NotJson f a = absurd a
+untouched_as P Q is_answer out made looks (Form p w) f a = absurd a
+untouched_as P Q is_answer out made looks ReadFault f a = absurd a
+untouched_as P Q is_answer out made looks TooLarge f a = absurd a
+untouched_as P Q is_answer out made looks BadWire f a = absurd a
 
 module _ (unread untouched : Type 0) (source out : Stream) (made looks : Counter) where
-  -- a run whose script was answered
+  -- a run whose input was answered by a text
+  answered_ends : (form : WordsForm) (is_answer : List ℕ → Counts → Type 0) (bytes : List ℕ) (s : Status) → IsFaultless source
+      → IsInput unread form source bytes → ((text : List ℕ) (counts : Counts) → is_answer text counts → IsAnswer form bytes text counts)
+      → AnswersAs untouched is_answer out made looks s → EndsAs unread untouched source out made looks form s
+  answered_ends form is_answer bytes Done f i g a = (a.0, (bytes, i, (a.1.0, a.1.1, g (a.1.0) (a.1.1) a.1.2, a.1.3, a.1.4, a.1.5)))
+  answered_ends form is_answer bytes WriteFault f i g a = (a.0, (bytes, i, (a.1.0, a.1.1, g (a.1.0) (a.1.1) a.1.2, a.1.3, a.1.4, a.1.5)))
+  answered_ends form is_answer bytes NoMemory f i g (inl u) = (f, inl u)
+  answered_ends form is_answer bytes NoMemory f i g (inr a) = (f, inr (a.0, (bytes, i, (a.1.0, a.1.1, g (a.1.0) (a.1.1) a.1.2, a.1.3, a.1.4, a.1.5))))
+  answered_ends form is_answer bytes Usage f i g a = absurd a
+  answered_ends form is_answer bytes NotJson f i g a = absurd a
+  answered_ends form is_answer bytes (Form p w) f i g a = absurd a
+  answered_ends form is_answer bytes ReadFault f i g a = absurd a
+  answered_ends form is_answer bytes TooLarge f i g a = absurd a
+  answered_ends form is_answer bytes BadWire f i g a = absurd a
+
   pub replay_ends : (script : Script) (bytes : List ℕ) (s : Status) → IsScriptText bytes script → HasRead source bytes
       → AnswersAs untouched (IsScriptAnswer script) out made looks s → EndsAs unread untouched source out made looks Replay s
-  replay_ends script bytes Done t r a = (a.0, (bytes, r, (a.1.0, a.1.1, (script, t, a.1.2), a.1.3, a.1.4, a.1.5)))
-  replay_ends script bytes WriteFault t r a = (a.0, (bytes, r, (a.1.0, a.1.1, (script, t, a.1.2), a.1.3, a.1.4, a.1.5)))
-  replay_ends script bytes NoMemory t r (inl u) = (r.faultless, inl u)
-  replay_ends script bytes NoMemory t r (inr a) =
-      (r.faultless, inr (a.0, (bytes, r, (a.1.0, a.1.1, (script, t, a.1.2), a.1.3, a.1.4, a.1.5))))
-  replay_ends script bytes Usage t r a = absurd a
-  replay_ends script bytes NotJson t r a = absurd a
-  replay_ends script bytes (Form p w) t r a = absurd a
-  replay_ends script bytes ReadFault t r a = absurd a
-  replay_ends script bytes TooLarge t r a = absurd a
+  replay_ends script bytes s t r a = answered_ends Replay (IsScriptAnswer script) bytes s r.faultless r (λ text counts i. (script, t, i)) a
 
-  -- a run whose script was done, and its picture written
   pub render_ends : (script : Script) (bytes : List ℕ) (s : Status) → IsScriptText bytes script → HasRead source bytes
       → AnswersAs untouched (IsScriptPicture script) out made looks s → EndsAs unread untouched source out made looks Render s
-  render_ends script bytes Done t r a = (a.0, (bytes, r, (a.1.0, a.1.1, (script, t, a.1.2), a.1.3, a.1.4, a.1.5)))
-  render_ends script bytes WriteFault t r a = (a.0, (bytes, r, (a.1.0, a.1.1, (script, t, a.1.2), a.1.3, a.1.4, a.1.5)))
-  render_ends script bytes NoMemory t r (inl u) = (r.faultless, inl u)
-  render_ends script bytes NoMemory t r (inr a) =
-      (r.faultless, inr (a.0, (bytes, r, (a.1.0, a.1.1, (script, t, a.1.2), a.1.3, a.1.4, a.1.5))))
-  render_ends script bytes Usage t r a = absurd a
-  render_ends script bytes NotJson t r a = absurd a
-  render_ends script bytes (Form p w) t r a = absurd a
-  render_ends script bytes ReadFault t r a = absurd a
-  render_ends script bytes TooLarge t r a = absurd a
+  render_ends script bytes s t r a = answered_ends Render (IsScriptPicture script) bytes s r.faultless r (λ text counts i. (script, t, i)) a
+
+  pub wire_ends : (script : Script) (bytes : List ℕ) (s : Status) → IsScriptText bytes script → HasRead source bytes
+      → AnswersAs untouched (IsScriptWire script) out made looks s → EndsAs unread untouched source out made looks Wire s
+  wire_ends script bytes s t r a = answered_ends Wire (IsScriptWire script) bytes s r.faultless r (λ text counts i. (script, t, i)) a
+
+  pub compose_ends : (w : wires.Wire) (bytes : List ℕ) (s : Status) → IsWireText bytes w → HasRead source bytes
+      → AnswersAs untouched (IsWirePicture w) out made looks s → EndsAs unread untouched source out made looks Compose s
+  compose_ends w bytes s t r a = answered_ends Compose (IsWirePicture w) bytes s r.faultless r (λ text counts i. (w, t, i)) a
 
   -- a storm, which reads nothing
   pub storm_ends : (seed boxes edits : ℕ) (s : Status) → unread → IsFaultless source
       → AnswersAs untouched (IsStormSummary seed boxes edits) out made looks s → EndsAs unread untouched source out made looks (Storm seed boxes edits) s
-  storm_ends seed boxes edits Done u f a = (a.0, ([], (u, refl), a.1))
-  storm_ends seed boxes edits WriteFault u f a = (a.0, ([], (u, refl), a.1))
-  storm_ends seed boxes edits NoMemory u f (inl w) = (f, inl w)
-  storm_ends seed boxes edits NoMemory u f (inr a) = (f, inr (a.0, ([], (u, refl), a.1)))
-  storm_ends seed boxes edits Usage u f a = absurd a
-  storm_ends seed boxes edits NotJson u f a = absurd a
-  storm_ends seed boxes edits (Form p w) u f a = absurd a
-  storm_ends seed boxes edits ReadFault u f a = absurd a
-  storm_ends seed boxes edits TooLarge u f a = absurd a
+  storm_ends seed boxes edits s u f a =
+      answered_ends (Storm seed boxes edits) (IsStormSummary seed boxes edits) [] s f (u, refl) (λ text counts i. i) a
 
   -- a run without a script
-  pub replay_refused : (s : Status) → RefusesInput source s → untouched → EndsAs unread untouched source out made looks Replay s
-  replay_refused ReadFault h u = (tt, u, h)
-  replay_refused TooLarge h u = (tt, u, h.0, h.1)
-  replay_refused NotJson h u = (tt, u, h)
-  replay_refused (Form p w) h u = (tt, u, h)
-  replay_refused NoMemory h u = (h, inl u)
-  replay_refused Done h u = absurd h
-  replay_refused Usage h u = absurd h
-  replay_refused WriteFault h u = absurd h
+  pub script_refused : (form : WordsForm) (s : Status) → ReadsScript form → ReadsInput form
+      → ((bytes : List ℕ) → HasRead source bytes → IsInput unread form source bytes)
+      → RefusesInput source s → untouched → EndsAs unread untouched source out made looks form s
+  script_refused form ReadFault is some i h u = (some, u, h)
+  script_refused form TooLarge is some i h u = (some, u, h.0, h.1)
+  script_refused form NotJson is some i h u = (is, u, (h.0, i (h.0) h.1, h.2))
+  script_refused form (Form p w) is some i h u = (is, u, (h.0, i (h.0) h.1, h.2))
+  script_refused form NoMemory is some i h u = (h, inl u)
+  script_refused form Done is some i h u = absurd h
+  script_refused form Usage is some i h u = absurd h
+  script_refused form WriteFault is some i h u = absurd h
+  script_refused form BadWire is some i h u = absurd h
 
-  pub render_refused : (s : Status) → RefusesInput source s → untouched → EndsAs unread untouched source out made looks Render s
-  render_refused ReadFault h u = (tt, u, h)
-  render_refused TooLarge h u = (tt, u, h.0, h.1)
-  render_refused NotJson h u = (tt, u, h)
-  render_refused (Form p w) h u = (tt, u, h)
-  render_refused NoMemory h u = (h, inl u)
-  render_refused Done h u = absurd h
-  render_refused Usage h u = absurd h
-  render_refused WriteFault h u = absurd h
+  -- a run without a wire
+  pub wire_refused : (s : Status) → RefusesWire source s → untouched → EndsAs unread untouched source out made looks Compose s
+  wire_refused ReadFault h u = (tt, u, h)
+  wire_refused TooLarge h u = (tt, u, h.0, h.1)
+  wire_refused BadWire h u = (tt, u, h)
+  wire_refused NoMemory h u = (h, inl u)
+  wire_refused NotJson h u = absurd h
+  wire_refused (Form p w) h u = absurd h
+  wire_refused Done h u = absurd h
+  wire_refused Usage h u = absurd h
+  wire_refused WriteFault h u = absurd h
 
 -- the bytes that were taken to the end are those that were left
 all_taken : (left now : Option (List ℕ)) (all bytes : List ℕ) → left ≡ Some all → Consumes left now bytes → IsAtEnd now → bytes ≡ all
@@ -122,24 +139,67 @@ broken source bytes p w v r o =
 too_large : (source : Stream) → IsGiven source → Takes source.bytes source.bytes_now (most_bytes + 1) → ⊥
 too_large source v t = none_over source.bytes source.bytes_now (v.0) most_bytes v.2 v.3 t
 
+-- a wire within the limit
+abbrev IsGivenWire : Stream → Type 0
+IsGivenWire source =
+    (bytes : List ℕ) × (w : wires.Wire) × (source.bytes ≡ Some bytes) × (length bytes ≤ most_bytes) × IsWireText bytes w
+
+no_wire : (source : Stream) (bytes : List ℕ) → IsGivenWire source → HasRead source bytes → IsNoWireText bytes → ⊥
+no_wire source bytes v r n =
+    let same : bytes ≡ v.0 = all_taken source.bytes source.bytes_now (v.0) bytes v.2 r.taken r.ended in
+    subst IsNoWireText same n (v.1) v.4
+
+wire_too_large : (source : Stream) → IsGivenWire source → Takes source.bytes source.bytes_now (most_bytes + 1) → ⊥
+wire_too_large source v t = none_over source.bytes source.bytes_now (v.0) most_bytes v.2 v.3 t
+
 module _ (unread untouched : Type 0) (source out : Stream) (made looks : Counter) where
-  -- a valid input within the limit is answered
+  -- a script within the limit is answered
+  script_done : (form : WordsForm) (s : Status) → ((bytes : List ℕ) → IsInput unread form source bytes → HasRead source bytes) → (ReadsWire form → ⊥)
+      → EndsAs unread untouched source out made looks form s → IsGiven source → (HasFailed source → ⊥) → (HasFailed out → ⊥)
+      → (s ≡ Done) ⊎ (s ≡ NoMemory)
+  script_done form Done i scripted e v f g = inl refl
+  script_done form NoMemory i scripted e v f g = inr refl
+  script_done form Usage i scripted e v f g = absurd e
+  script_done form ReadFault i scripted e v f g = absurd (f e.2)
+  script_done form WriteFault i scripted e v f g = absurd (g e.0)
+  script_done form TooLarge i scripted e v f g = absurd (too_large source v e.3)
+  script_done form NotJson i scripted e v f g = absurd (unreadable source (e.2.0) v (i (e.2.0) e.2.1) e.2.2)
+  script_done form (Form p w) i scripted e v f g = absurd (broken source (e.2.0) p w v (i (e.2.0) e.2.1) e.2.2)
+  script_done form BadWire i scripted e v f g = absurd (scripted e.0)
+
+  -- and so is a wire
+  wire_done : (s : Status) → EndsAs unread untouched source out made looks Compose s → IsGivenWire source → (HasFailed source → ⊥) → (HasFailed out → ⊥)
+      → (s ≡ Done) ⊎ (s ≡ NoMemory)
+  wire_done Done e v f g = inl refl
+  wire_done NoMemory e v f g = inr refl
+  wire_done Usage e v f g = absurd e
+  wire_done ReadFault e v f g = absurd (f e.2)
+  wire_done WriteFault e v f g = absurd (g e.0)
+  wire_done TooLarge e v f g = absurd (wire_too_large source v e.3)
+  wire_done NotJson e v f g = absurd e.0
+  wire_done (Form p w) e v f g = absurd e.0
+  wire_done BadWire e v f g = absurd (no_wire source (e.2.0) v e.2.1 e.2.2)
+
+  -- and so is a storm
+  storm_done : (seed boxes edits : ℕ) (s : Status) → EndsAs unread untouched source out made looks (Storm seed boxes edits) s → (HasFailed out → ⊥)
+      → (s ≡ Done) ⊎ (s ≡ NoMemory)
+  storm_done seed boxes edits Done e g = inl refl
+  storm_done seed boxes edits NoMemory e g = inr refl
+  storm_done seed boxes edits Usage e g = absurd e
+  storm_done seed boxes edits ReadFault e g = absurd e.0
+  storm_done seed boxes edits WriteFault e g = absurd (g e.0)
+  storm_done seed boxes edits TooLarge e g = absurd e.0
+  storm_done seed boxes edits NotJson e g = absurd e.0
+  storm_done seed boxes edits (Form p w) e g = absurd e.0
+  storm_done seed boxes edits BadWire e g = absurd e.0
+
   done : (form : WordsForm) (s : Status) → EndsAs unread untouched source out made looks form s
       → HasAnswer form source → (HasFailed source → ⊥) → (HasFailed out → ⊥) → (s ≡ Done) ⊎ (s ≡ NoMemory)
-  done form Done e v f g = inl refl
-  done form NoMemory e v f g = inr refl
-  done form Usage e v f g = absurd e
-  done form ReadFault e v f g = absurd (f e.2)
-  done form WriteFault e v f g = absurd (g e.0)
-  done Replay TooLarge e v f g = absurd (too_large source v e.3)
-  done Replay NotJson e v f g = absurd (unreadable source (e.2.0) v e.2.1 e.2.2)
-  done Replay (Form p w) e v f g = absurd (broken source (e.2.0) p w v e.2.1 e.2.2)
-  done Render TooLarge e v f g = absurd (too_large source v e.3)
-  done Render NotJson e v f g = absurd (unreadable source (e.2.0) v e.2.1 e.2.2)
-  done Render (Form p w) e v f g = absurd (broken source (e.2.0) p w v e.2.1 e.2.2)
-  done (Storm seed boxes edits) TooLarge e v f g = absurd e.0
-  done (Storm seed boxes edits) NotJson e v f g = absurd e.0
-  done (Storm seed boxes edits) (Form p w) e v f g = absurd e.0
+  done Replay s e v f g = script_done Replay s (λ bytes r. r) (λ w. w) e v f g
+  done Render s e v f g = script_done Render s (λ bytes r. r) (λ w. w) e v f g
+  done Wire s e v f g = script_done Wire s (λ bytes r. r) (λ w. w) e v f g
+  done Compose s e v f g = wire_done s e v f g
+  done (Storm seed boxes edits) s e v f g = storm_done seed boxes edits s e g
 
   pub completes : (words : Option WordsForm) (s : Status) → Ends unread untouched source out made looks words s → Completes words source out s
   completes None s e = λ form w v f g. absurd (let no : None ≡ Some form = w in cc)

@@ -15,5 +15,7 @@ pub mod Going
 pub mod Runs
 pub mod Planted
 pub mod Finishing
+pub mod Wiring
+pub mod PictureRows
 pub mod Counted
 pub mod Slots

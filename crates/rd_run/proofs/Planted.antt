@@ -2,6 +2,10 @@
 use Rattle.std.proofs.Common.{◌≡◌, ◌⊎◌, ℕ, ◌+◌, ◌≤◌, Bool, false, refl, ap, ◌∙◌, sym, subst, Option, None, List, [], ◌∷◌, inl, inr, arith}
 use Rattle.std.specs.Prelude.{Result, Err, IsErrOf}
 use Rattle.rd_geom.specs.Canvas.{IsCanvas}
+use Rattle.rd_item.specs.Items.{Made}
+use Rattle.rd_list.specs.Wrappers.{Wrapper}
+use Rattle.rd_list.specs.Entries.{Entries}
+use Rattle.rd_list.specs.Unordered.{unordered}
 use Rattle.rd_tree.specs.Document.{Document}
 use Rattle.rd_tree.specs.Changes.{insertion}
 use Rattle.rd_engine.specs.Painted.{IsAllTouched}
@@ -15,14 +19,15 @@ use Rattle.rd_scene.specs.Planting.{Plants, Grows, Adds, AddsAll, item_of}
 use Rattle.rd_scene.proofs.Keyed.{planted_well}
 use Rattle.rd_scene.proofs.Changing.{edited_canvas}
 use Rattle.rd_scene.proofs.Touched.{planted_touched}
-use Rattle.rd_run.specs.Endings.{Stream, Counter, stream, counter, HasFailed, IsFaultless, IsScriptAnswer, IsScriptPicture, IsStormSummary, totals_of}
+use Rattle.rd_wire.specs.Wires.{spelled}
+use Rattle.rd_run.specs.Endings.{Stream, Counter, stream, counter, HasFailed, IsFaultless, IsScriptAnswer, IsScriptPicture, IsScriptWire, IsStormSummary, totals_of}
 use Rattle.rd_run.specs.Machine.{State, Counts, start, Run, PaintsIf, Finishes}
 use Rattle.rd_run.specs.Pictures.{picture}
 use Rattle.rd_run.specs.Internal.Answered.{AnswersAll, AnswersPart, AnswersAs, AnsweredAll, AnsweredPart, Performs, MayPerform, Finished, MayFinish, Writes}
 use Rattle.rd_run.specs.Internal.Lasts.{IsWellFormed}
 use Rattle.rd_run.specs.Internal.Session.{SessionState, Shows, Does, MayGoOn}
 use Rattle.rd_run.specs.declared.status.Status.{Status}
-use Rattle.rd_run.specs.declared.status.Status.TheVariants.{Done, Usage, NotJson, Form, ReadFault, WriteFault, NoMemory, TooLarge}
+use Rattle.rd_run.specs.declared.status.Status.TheVariants.{Done, Usage, NotJson, Form, ReadFault, WriteFault, NoMemory, TooLarge, BadWire}
 use Rattle.rd_run.proofs.Going.{paints_if_goes}
 use Rattle.rd_run.proofs.Runs.{gains_none, stays, counted_on, within_on, within_more}
 
@@ -161,6 +166,7 @@ module _ (untouched : Type 0) (is_answer : List ℕ → Counts → Type 0) (m n 
   ends_written o q f f' text counts (Form p v) a x y w = absurd w
   ends_written o q f f' text counts ReadFault a x y w = absurd w
   ends_written o q f f' text counts TooLarge a x y w = absurd w
+  ends_written o q f f' text counts BadWire a x y w = absurd w
 
 module _ (untouched : Type 0) (m n l k : ℕ) where
   -- without memory, where the commands could be done
@@ -169,6 +175,13 @@ module _ (untouched : Type 0) (m n l k : ℕ) where
   picture_unwritten script o f a =
       let c = a.2 in let x = c.items in let y = c.taken in
       inr (refl, (picture (a.0).tree, (a.0).counts, (a.0, a.1, refl, refl), gains_none o o [] (picture (a.0).tree) (stays o), omega (arith, x), omega (arith, y)))
+
+  pub wire_unwritten : (script : Script) (o : Option (List ℕ)) (f : ℕ) → MayFinish (counter m n) (counter l k) script
+      → AnswersAs untouched (IsScriptWire script) (stream o o f f) (counter m n) (counter l k) NoMemory
+  wire_unwritten script o f a =
+      let c = a.2 in let x = c.items in let y = c.taken in
+      let text : List ℕ = spelled (record { size = (a.0).tree.canvas; list = (a.0).kept }) in
+      inr (refl, (text, (a.0).counts, (a.0, a.1, refl, refl), gains_none o o [] text (stays o), omega (arith, x), omega (arith, y)))
 
   pub storm_unwritten : (seed boxes edits : ℕ) (script : Script) (o : Option (List ℕ)) (f : ℕ) → script ≡ generated_script seed boxes edits
       → MayFinish (counter m n) (counter l k) script
@@ -202,6 +215,16 @@ module _ (untouched : Type 0) (m n l k : ℕ) (o q : Option (List ℕ)) (f f' : 
       let c = a.2 in let x = c.items in let y = c.taken in
       ends_written untouched (IsScriptPicture script) m n l k o q f f' bytes (a.0).counts s
       (a.0, a.1, e ∙ ap picture (sym a.3.tree), refl) (omega (arith, x)) (omega (arith, y)) w
+
+  pub wire_written : (script : Script) (now : SessionState) (bytes : List ℕ) (s : Status) → Finished (counter m n) (counter l k) script now
+      → bytes ≡ spelled (record { size = now.engine.tree.canvas; list = unordered now.engine.kept.entries }) → Writes (stream o q f f') bytes s
+      → AnswersAs untouched (IsScriptWire script) (stream o q f f') (counter m n) (counter l k) s
+  wire_written script now bytes s a e w =
+      let c = a.2 in let x = c.items in let y = c.taken in
+      let told : bytes ≡ spelled (record { size = (a.0).tree.canvas; list = (a.0).kept }) =
+      e ∙ ap (λ (d : Document). spelled (record { size = d.canvas; list = unordered now.engine.kept.entries })) (sym a.3.tree)
+      ∙ ap (λ (kept : Entries Wrapper Made). spelled (record { size = (a.0).tree.canvas; list = kept })) (sym a.3.kept) in
+      ends_written untouched (IsScriptWire script) m n l k o q f f' bytes (a.0).counts s (a.0, a.1, told, refl) (omega (arith, x)) (omega (arith, y)) w
 
   pub storm_written : (seed boxes edits : ℕ) (script : Script) (now : SessionState) (text : List ℕ) (s : Status) → script ≡ generated_script seed boxes edits
       → Finished (counter m n) (counter l k) script now

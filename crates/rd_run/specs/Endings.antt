@@ -12,13 +12,15 @@ use Rattle.rd_scene.specs.declared.fault.Why.TheVariants as why
 use Rattle.rd_gen.specs.Generated.{generated_script}
 use Rattle.rd_report.specs.Summaries.{summary_lines}
 use Rattle.rd_report.specs.declared.summary.Totals.{Totals}
-use Rattle.rd_run.specs.Machine.{State, Counts, Answers, Finishes}
-use Rattle.rd_run.specs.Pictures.{picture}
+use Rattle.rd_run.specs.Machine.{State, Counts, Answers, Finishes, no_counts}
+use Rattle.rd_run.specs.Pictures.{picture, wire_picture}
 use Rattle.rd_run.specs.Figures.{most_bytes}
+use Rattle.rd_wire.specs.Wires.{spelled, IsWire}
+use Rattle.rd_wire.specs.declared.wire.Wire as wires
 use Rattle.rd_run.specs.declared.status.Status.{Status}
-use Rattle.rd_run.specs.declared.status.Status.TheVariants.{Done, Usage, NotJson, Form, ReadFault, WriteFault, NoMemory, TooLarge}
+use Rattle.rd_run.specs.declared.status.Status.TheVariants.{Done, Usage, NotJson, Form, ReadFault, WriteFault, NoMemory, TooLarge, BadWire}
 use Rattle.rd_run.specs.declared.words.WordsForm.{WordsForm}
-use Rattle.rd_run.specs.declared.words.WordsForm.TheVariants.{Replay, Render, Storm}
+use Rattle.rd_run.specs.declared.words.WordsForm.TheVariants.{Replay, Render, Wire, Compose, Storm}
 
 -- the exit status
 abbrev pub number : Status → ℕ
@@ -30,6 +32,7 @@ number ReadFault = 4
 number WriteFault = 5
 number NoMemory = 6
 number TooLarge = 7
+number BadWire = 8
 
 -- where a rule of the format is broken
 abbrev pub place_text : Place → List ℕ
@@ -54,13 +57,14 @@ why_text why.Command = codes "Command"
 -- the line on standard error
 abbrev pub line_of : Status → List ℕ
 line_of Done = []
-line_of Usage = codes "usage: rd_cli replay | rd_cli render | rd_cli storm --seed N --boxes N --edits N\n"
+line_of Usage = codes "usage: rd_cli replay | rd_cli render | rd_cli storm --seed N --boxes N --edits N | rd_cli wire | rd_cli compose\n"
 line_of NotJson = codes "not json\n"
 line_of (Form p w) = codes "form: " ++ (place_text p ++ (codes ": " ++ (why_text w ++ codes "\n")))
 line_of ReadFault = codes "read fault\n"
 line_of WriteFault = codes "write fault\n"
 line_of NoMemory = codes "out of memory\n"
 line_of TooLarge = codes "input too large\n"
+line_of BadWire = codes "bad wire\n"
 
 -- What is known of a stream before and after a run: its bytes where it tells them (of a source those that are left, of a
 -- sink those that were written), and its count of faults.
@@ -97,17 +101,25 @@ pub record HasRead (source : Stream) (bytes : List ℕ) : Type 0 where
   pub within : length bytes ≤ most_bytes
   pub faultless : IsFaultless source
 
--- What words of a form read: a script, or nothing.
+-- What words of a form read: a script, a wire, or nothing.
 abbrev pub ReadsInput : WordsForm → Type 0
-ReadsInput Replay = Unit {0}
-ReadsInput Render = Unit {0}
 ReadsInput (Storm seed boxes edits) = ⊥
+ReadsInput form = Unit {0}
+
+-- words of a form that read a script
+abbrev pub ReadsScript : WordsForm → Type 0
+ReadsScript Compose = ⊥
+ReadsScript form = ReadsInput form
+
+-- words of a form that read a wire
+abbrev pub ReadsWire : WordsForm → Type 0
+ReadsWire Compose = Unit {0}
+ReadsWire form = ⊥
 
 -- these bytes are the input that a form of words takes; 'unread' says that the source is the one of before
 abbrev pub IsInput : Type 0 → WordsForm → Stream → List ℕ → Type 0
-IsInput unread Replay source bytes = HasRead source bytes
-IsInput unread Render source bytes = HasRead source bytes
 IsInput unread (Storm seed boxes edits) source bytes = unread × (bytes ≡ [])
+IsInput unread form source bytes = HasRead source bytes
 
 -- what a storm tells of itself at its end
 abbrev pub totals_of : ℕ → ℕ → ℕ → State → Totals
@@ -131,6 +143,24 @@ IsScriptAnswer s text counts = (end : State) × Answers s text end × (counts �
 abbrev pub IsScriptPicture : Script → List ℕ → Counts → Type 0
 IsScriptPicture s text counts = (end : State) × Finishes s end × (text ≡ picture end.tree) × (counts ≡ end.counts)
 
+-- the spelling of the list that is kept at the end of a script, with its canvas
+abbrev pub IsScriptWire : Script → List ℕ → Counts → Type 0
+IsScriptWire s text counts =
+    (end : State) × Finishes s end × (text ≡ spelled (record { size = end.tree.canvas; list = end.kept }))
+    × (counts ≡ end.counts)
+
+-- these bytes are the spelling of a wire
+abbrev pub IsWireText : List ℕ → wires.Wire → Type 0
+IsWireText bytes w = IsWire w × (bytes ≡ spelled w)
+
+-- these bytes are the spelling of no wire
+abbrev pub IsNoWireText : List ℕ → Type 0
+IsNoWireText bytes = (w : wires.Wire) → ¬ IsWireText bytes w
+
+-- the picture of a wire, for which nothing is counted
+abbrev pub IsWirePicture : wires.Wire → List ℕ → Counts → Type 0
+IsWirePicture w text counts = (text ≡ wire_picture w) × (counts ≡ no_counts)
+
 -- the summary of a generated script
 abbrev pub IsStormSummary : ℕ → ℕ → ℕ → List ℕ → Counts → Type 0
 IsStormSummary seed boxes edits text counts =
@@ -141,6 +171,8 @@ IsStormSummary seed boxes edits text counts =
 abbrev pub IsAnswer : WordsForm → List ℕ → List ℕ → Counts → Type 0
 IsAnswer Replay bytes text counts = (s : Script) × IsScriptText bytes s × IsScriptAnswer s text counts
 IsAnswer Render bytes text counts = (s : Script) × IsScriptText bytes s × IsScriptPicture s text counts
+IsAnswer Wire bytes text counts = (s : Script) × IsScriptText bytes s × IsScriptWire s text counts
+IsAnswer Compose bytes text counts = (w : wires.Wire) × IsWireText bytes w × IsWirePicture w text counts
 IsAnswer (Storm seed boxes edits) bytes text counts = IsStormSummary seed boxes edits text counts
 
 module _ (out : Stream) (made looks : Counter) where
@@ -172,9 +204,11 @@ module _ (unread untouched : Type 0) (source out : Stream) (made looks : Counter
   EndsAs form TooLarge =
       ReadsInput form × untouched × IsFaultless source × Takes source.bytes source.bytes_now (most_bytes + 1)
   EndsAs form NotJson =
-      ReadsInput form × untouched × ((bytes : List ℕ) × IsInput unread form source bytes × HasNoReading bytes)
+      ReadsScript form × untouched × ((bytes : List ℕ) × IsInput unread form source bytes × HasNoReading bytes)
   EndsAs form (Form p w) =
-      ReadsInput form × untouched × ((bytes : List ℕ) × IsInput unread form source bytes × IsOffForm bytes p w)
+      ReadsScript form × untouched × ((bytes : List ℕ) × IsInput unread form source bytes × IsOffForm bytes p w)
+  EndsAs form BadWire =
+      ReadsWire form × untouched × ((bytes : List ℕ) × IsInput unread form source bytes × IsNoWireText bytes)
   EndsAs form WriteFault =
       HasFailed out × ((bytes : List ℕ) × IsInput unread form source bytes × WritesPart out made looks form bytes)
   EndsAs form NoMemory =
@@ -193,6 +227,8 @@ module _ (unread untouched : Type 0) (source out : Stream) (made looks : Counter
 -- The source has an input within the limit, which words of the form can answer.
 abbrev pub HasAnswer : WordsForm → Stream → Type 0
 HasAnswer (Storm seed boxes edits) source = Unit {0}
+HasAnswer Compose source =
+    (bytes : List ℕ) × (w : wires.Wire) × (source.bytes ≡ Some bytes) × (length bytes ≤ most_bytes) × IsWireText bytes w
 HasAnswer form source =
     (bytes : List ℕ) × (script : Script) × (source.bytes ≡ Some bytes) × (length bytes ≤ most_bytes)
     × IsScriptText bytes script

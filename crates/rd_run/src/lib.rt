@@ -4,6 +4,7 @@
 #![tactic(auto)]
 
 mod answers;
+mod composing;
 mod input;
 pub mod laws;
 mod performing;

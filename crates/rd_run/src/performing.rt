@@ -5,7 +5,7 @@ ghost use Rattle.rd_gen.specs.Figures.{max_edits};
 ghost use Rattle.rd_tree.specs.Figures.{max_boxes};
 ghost use Rattle.rd_report.specs.Summaries.{summary_lines};
 ghost use Rattle.rd_scene.specs.Figures.{max_commands};
-ghost use Rattle.rd_run.specs.Endings.{counter, stream, totals_of, IsScriptPicture, IsStormSummary};
+ghost use Rattle.rd_run.specs.Endings.{counter, stream, totals_of, IsScriptPicture, IsStormSummary, IsScriptWire};
 ghost use Rattle.rd_run.specs.Internal.Answered.{AnswersAs, Performs, MayPerform, Finished, MayFinish, Writes};
 ghost use Rattle.rd_run.specs.Internal.Session.{Shows, IsFew};
 ghost use Rattle.rd_run.specs.Machine.{State};
@@ -62,7 +62,7 @@ fn performed<A: Ledger, B: Ledger>(
 }
 
 /// Writes bytes.
-fn write<O: Sink>(out: &mut O, bytes: &[u8]) -> Status
+pub(crate) fn write<O: Sink>(out: &mut O, bytes: &[u8]) -> Status
     ensures { Writes (stream (O.written out.old) (O.written out.new) (O.faults out.old) (O.faults out.new))
         bytes.now result }
 {
@@ -91,6 +91,29 @@ pub(crate) fn render<O: Sink, A: Ledger, B: Ledger>(
     };
     match session.picture(alloc) {
         Ok(picture) => write(out, &picture),
+        Err(_) => Status::NoMemory,
+    }
+}
+
+/// Does the commands of a script, and writes the list of what is painted at its end, in the wire form.
+pub(crate) fn wire<O: Sink, A: Ledger, B: Ledger>(
+    alloc: Global,
+    script: &Script,
+    out: &mut O,
+    made: &mut Steps<A>,
+    looks: &mut Steps<B>,
+) -> Status
+    ensures { AnswersAs ((out.new ≡ out.old) × (made.new ≡ made.old) × (looks.new ≡ looks.old))
+        (IsScriptWire script.now)
+        (stream (O.written out.old) (O.written out.new) (O.faults out.old) (O.faults out.new))
+        (counter made.old made.new) (counter looks.old looks.new) result }
+{
+    let session = match performed(alloc, script, made, looks) {
+        Ok(session) => session,
+        Err(_) => return Status::NoMemory,
+    };
+    match session.wire(alloc) {
+        Ok(bytes) => write(out, &bytes),
         Err(_) => Status::NoMemory,
     }
 }

@@ -4,10 +4,12 @@ ghost use Rattle.std.specs.Prelude.{◌≡◌, Some, map, string_bytes};
 ghost use Rattle.rd_run.specs.Endings.{counter, stream, Ends, EndsAs, Runs};
 ghost use Rattle.rd_run.specs.Words.{words_form};
 ghost use Rattle.rd_run.specs.Internal.Limits.{IsWithinLimits};
+ghost use Rattle.rd_run.specs.declared.words.WordsForm.TheVariants.{Replay, Render, Wire};
 
 use crate::answers::answer;
+use crate::composing::compose;
 use crate::input::input;
-use crate::performing::{render, storm};
+use crate::performing::{render, storm, wire};
 use crate::status::Status;
 use crate::telling::tell;
 use crate::words::{WordsForm, read_words};
@@ -15,6 +17,63 @@ use rd_geom::Steps;
 use rd_io::{Sink, Source};
 use std::alloc::Global;
 use std::sync::ledger::Ledger;
+
+/// Reads a script, and answers its commands.
+fn serve_replay<S: Source, O: Sink, A: Ledger, B: Ledger>(
+    alloc: Global,
+    source: &mut S,
+    out: &mut O,
+    made: &mut Steps<A>,
+    looks: &mut Steps<B>,
+) -> Status
+    ensures { EndsAs (source.new ≡ source.old) ((out.new ≡ out.old) × (made.new ≡ made.old) × (looks.new ≡ looks.old))
+        (stream (S.left source.old) (S.left source.new) (S.faults source.old) (S.faults source.new))
+        (stream (O.written out.old) (O.written out.new) (O.faults out.old) (O.faults out.new))
+        (counter made.old made.new) (counter looks.old looks.new) Replay result }
+{
+    match input(alloc, source) {
+        Ok(script) => answer(alloc, &script, out, made, looks),
+        Err(status) => status,
+    }
+}
+
+/// Reads a script, does its commands, and writes the picture.
+fn serve_render<S: Source, O: Sink, A: Ledger, B: Ledger>(
+    alloc: Global,
+    source: &mut S,
+    out: &mut O,
+    made: &mut Steps<A>,
+    looks: &mut Steps<B>,
+) -> Status
+    ensures { EndsAs (source.new ≡ source.old) ((out.new ≡ out.old) × (made.new ≡ made.old) × (looks.new ≡ looks.old))
+        (stream (S.left source.old) (S.left source.new) (S.faults source.old) (S.faults source.new))
+        (stream (O.written out.old) (O.written out.new) (O.faults out.old) (O.faults out.new))
+        (counter made.old made.new) (counter looks.old looks.new) Render result }
+{
+    match input(alloc, source) {
+        Ok(script) => render(alloc, &script, out, made, looks),
+        Err(status) => status,
+    }
+}
+
+/// Reads a script, does its commands, and writes the list.
+fn serve_wire<S: Source, O: Sink, A: Ledger, B: Ledger>(
+    alloc: Global,
+    source: &mut S,
+    out: &mut O,
+    made: &mut Steps<A>,
+    looks: &mut Steps<B>,
+) -> Status
+    ensures { EndsAs (source.new ≡ source.old) ((out.new ≡ out.old) × (made.new ≡ made.old) × (looks.new ≡ looks.old))
+        (stream (S.left source.old) (S.left source.new) (S.faults source.old) (S.faults source.new))
+        (stream (O.written out.old) (O.written out.new) (O.faults out.old) (O.faults out.new))
+        (counter made.old made.new) (counter looks.old looks.new) Wire result }
+{
+    match input(alloc, source) {
+        Ok(script) => wire(alloc, &script, out, made, looks),
+        Err(status) => status,
+    }
+}
 
 /// Does what words of a form ask for.
 fn serve_form<S: Source, O: Sink, A: Ledger, B: Ledger>(
@@ -32,14 +91,10 @@ fn serve_form<S: Source, O: Sink, A: Ledger, B: Ledger>(
         (counter made.old made.new) (counter looks.old looks.new) form result }
 {
     match form {
-        WordsForm::Replay => match input(alloc, source) {
-            Ok(script) => answer(alloc, &script, out, made, looks),
-            Err(status) => status,
-        },
-        WordsForm::Render => match input(alloc, source) {
-            Ok(script) => render(alloc, &script, out, made, looks),
-            Err(status) => status,
-        },
+        WordsForm::Replay => serve_replay(alloc, source, out, made, looks),
+        WordsForm::Render => serve_render(alloc, source, out, made, looks),
+        WordsForm::Wire => serve_wire(alloc, source, out, made, looks),
+        WordsForm::Compose => compose(alloc, source, out),
         WordsForm::Storm { seed, boxes, edits } => {
             storm(alloc, seed, boxes, edits, out, made, looks)
         }
@@ -70,8 +125,10 @@ fn serve<S: Source, O: Sink, A: Ledger, B: Ledger>(
 /// Does all that the program does, and gives its exit status. The words are those after the program's name. Under the
 /// word `replay` it reads a script from `source` and writes to `out` the lines that answer its commands; under `render`
 /// it reads one, does its commands, and writes the picture of what is painted at its end (Netpbm P6); under `storm` it
-/// does the commands of a generated script, and writes a summary of four lines. The line that goes with another status
-/// than 0 goes to `err`. `made` counts the items that paints make, and `looks` the looks at boxes.
+/// does the commands of a generated script, and writes a summary of four lines; under `wire` it does what it does under
+/// `render`, and writes the list that is kept at its end in the wire form; under `compose` it reads such a list, and writes
+/// its picture. The line that goes with another status than 0 goes to `err`. `made` counts the items that paints make, and
+/// `looks` the looks at boxes.
 pub fn run<S: Source, O: Sink, E: Sink, A: Ledger, B: Ledger>(
     alloc: Global,
     words: &[String],

@@ -10,6 +10,8 @@ ghost use Rattle.rd_report.specs.Words.{id_text};
 ghost use Rattle.rd_scene.specs.declared.script.Command.TheVariants.{Change};
 ghost use Rattle.rd_run.specs.Endings.{counter};
 ghost use Rattle.rd_run.specs.Machine.{State, Step, Asks, Paints, PaintsIf, start};
+ghost use Rattle.rd_list.specs.Unordered.{unordered};
+ghost use Rattle.rd_wire.specs.Wires.{spelled};
 ghost use Rattle.rd_run.specs.Pictures.{picture};
 ghost use Rattle.rd_run.specs.Internal.Lasts.{IsWellFormed};
 ghost use Rattle.rd_run.specs.Internal.Session.{Shows, IsFew, Advances, Does, Tells, MayGoOn};
@@ -21,6 +23,7 @@ use rd_geom::{NoMemory, Steps};
 use rd_report::{Answer, digest, p6, push_dump, push_line};
 use rd_scene::Command;
 use rd_tree::{Id, Tree};
+use rd_wire::encode;
 use std::alloc::{AllocError, Global};
 use std::marker::Model;
 use std::sync::ledger::Ledger;
@@ -333,5 +336,18 @@ impl<A: Ledger, B: Ledger> Session<A, B> {
         let canvas = self.engine.canvas();
         let _pixels = canvas.pixels();
         p6(alloc, canvas)
+    }
+
+    /// The spelling of the list of what is painted. No paint is pending.
+    pub(crate) fn wire(&self, alloc: Global) -> Result<Vec<u8>, NoMemory>
+        requires { self.now.engine.pending ≡ false }
+        ensures { IfOk result (λ bytes. bytes.items
+            ≡ spelled (record { size = self.now.engine.tree.canvas; list = unordered self.now.engine.kept.entries })) }
+    {
+        let tree = self.engine.tree();
+        let _root = tree.root();
+        let size = tree.canvas();
+        let list = self.engine.view();
+        encode(alloc, list, size)
     }
 }

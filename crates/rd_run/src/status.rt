@@ -24,6 +24,8 @@ pub enum Status {
     NoMemory,
     /// The input is longer than the limit.
     TooLarge,
+    /// The input is the spelling of no wire.
+    BadWire,
 }
 
 impl Status {
@@ -40,6 +42,7 @@ impl Status {
             Status::WriteFault => 5,
             Status::NoMemory => 6,
             Status::TooLarge => 7,
+            Status::BadWire => 8,
         }
     }
 }

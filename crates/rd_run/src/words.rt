@@ -20,6 +20,10 @@ pub enum WordsForm {
     Replay,
     /// To do the commands of a script, and to write the picture of what is painted at its end.
     Render,
+    /// To do the commands of a script, and to write the list of what is painted at its end, in the wire form.
+    Wire,
+    /// To write the picture of a list in the wire form.
+    Compose,
     /// To do the commands of a generated script, and to write a summary.
     Storm { seed: u64, boxes: u32, edits: u32 },
 }
@@ -89,6 +93,10 @@ fn plain(mode: &str) -> Option<WordsForm>
         Some(WordsForm::Replay)
     } else if mode == "render" {
         Some(WordsForm::Render)
+    } else if mode == "wire" {
+        Some(WordsForm::Wire)
+    } else if mode == "compose" {
+        Some(WordsForm::Compose)
     } else {
         None
     }

@@ -45,7 +45,15 @@ const LEVELS: &str = r##",
 "style":{"position":"relative","z-index":-2147483648,"background":"#000000"}}"##;
 
 const USAGE: &str =
-    "usage: rd_cli replay | rd_cli render | rd_cli storm --seed N --boxes N --edits N\n";
+    "usage: rd_cli replay | rd_cli render | rd_cli storm --seed N --boxes N --edits N \
+| rd_cli wire | rd_cli compose\n";
+
+/// The list of one white pixel, in the wire form.
+const ONE_WIRE: [u8; 83] = [
+    0x52, 0x44, 0x4c, 0x31, 0, 1, 0, 1, 0, 0, 0, 1, 1, 0, 0, 0, 0, 0, 0, 0, 0, 0, 0, 0, 0, 0, 0, 0,
+    0, 0, 0, 0, 0, 1, 0, 0, 0, 1, 0, 0, 0, 0, 0, 0, 0, 0, 0, 0, 0, 1, 0, 0, 0, 1, 0, 0, 0, 0, 0, 0,
+    0, 0, 0, 0, 0, 0, 0, 0, 0, 0, 0xff, 0xff, 0xff, 0xff, 1, 0, 0, 0, 0, 0, 0, 0, 1,
+];
 
 /// How a run over memory ended: its status, and what the sinks hold.
 #[derive(Drop)]
@@ -408,6 +416,18 @@ fn a_picture_is_written(rt: HostRuntime) {
     let text = script(&rt, alloc, ONE, "", "");
     let picture = over_bytes(&rt, alloc, "render", text.as_bytes());
     is_end(&rt, &picture, 0, 0, WHITE_PIXEL, "");
+}
+
+#[test]
+fn a_list_is_handed_on(rt: HostRuntime) {
+    let alloc = rt.alloc();
+    let text = script(&rt, alloc, ONE, "", "");
+    let wire = over_bytes(&rt, alloc, "wire", text.as_bytes());
+    is_end(&rt, &wire, 0, 0, ONE_WIRE.as_slice(), "");
+    let picture = over_bytes(&rt, alloc, "compose", ONE_WIRE.as_slice());
+    is_end(&rt, &picture, 1, 0, WHITE_PIXEL, "");
+    let none = over_bytes(&rt, alloc, "compose", &ONE_WIRE[1..]);
+    is_end(&rt, &none, 2, 8, &[], "bad wire\n");
 }
 
 #[test]

@@ -6,12 +6,12 @@ use Rattle.rd_scene.specs.Reading.{IsOffForm, HasNoReading}
 use Rattle.rd_scene.specs.Scripts.{Script}
 use Rattle.rd_scene.specs.declared.script.Command.{Command}
 use Rattle.rd_run.specs.Machine.{State, Counts, no_counts, Run, Finishes}
-use Rattle.rd_run.specs.Endings.{Stream, Counter, HasFailed, IsFaultless, HasRead}
+use Rattle.rd_run.specs.Endings.{Stream, Counter, HasFailed, IsFaultless, HasRead, IsNoWireText}
 use Rattle.rd_run.specs.Internal.Session.{SessionState, AreCounted, AreWithin, Shows}
 use Rattle.rd_run.specs.Internal.Lasts.{IsWellFormed}
 use Rattle.rd_run.specs.Figures.{most_bytes}
 use Rattle.rd_run.specs.declared.status.Status.{Status}
-use Rattle.rd_run.specs.declared.status.Status.TheVariants.{Done, NotJson, Form, ReadFault, WriteFault, NoMemory, TooLarge}
+use Rattle.rd_run.specs.declared.status.Status.TheVariants.{Done, NotJson, Form, ReadFault, WriteFault, NoMemory, TooLarge, BadWire}
 
 -- a state in which nothing was counted
 abbrev start_of : State → State
@@ -76,6 +76,14 @@ RefusesInput source NotJson = (bytes : List ℕ) × HasRead source bytes × HasN
 RefusesInput source (Form p w) = (bytes : List ℕ) × HasRead source bytes × IsOffForm bytes p w
 RefusesInput source NoMemory = IsFaultless source
 RefusesInput source _ = ⊥
+
+-- why no wire was read
+abbrev pub RefusesWire : Stream → Status → Type 0
+RefusesWire source ReadFault = HasFailed source
+RefusesWire source TooLarge = IsFaultless source × Takes source.bytes source.bytes_now (most_bytes + 1)
+RefusesWire source BadWire = (bytes : List ℕ) × HasRead source bytes × IsNoWireText bytes
+RefusesWire source NoMemory = IsFaultless source
+RefusesWire source _ = ⊥
 
 -- all of a text was written, or a front of it before a fault
 abbrev pub Writes : Stream → List ℕ → Status → Type 0
