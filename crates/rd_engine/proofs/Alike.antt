@@ -13,7 +13,7 @@ use Rattle.rd_list.specs.GroupDepth.{group_depth}
 use Rattle.rd_list.specs.Kept.{Ordered}
 use Rattle.rd_list.specs.Lists.{StandsFor}
 use Rattle.rd_list.specs.Views.{larger, deeper, levels}
-use Rattle.rd_list.proofs.Routing.{Routed, routed_same, three_true}
+use Rattle.rd_list.proofs.Merges.Routing.{Routed, routed_same, three_true}
 use Rattle.rd_tree.specs.Forest.{height}
 use Rattle.rd_tree.specs.Document.{Document}
 use Rattle.rd_stack.specs.Fresh.{fresh_list}

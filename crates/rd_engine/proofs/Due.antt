@@ -8,13 +8,13 @@ use Rattle.rd_geom.specs.Areas.{Region, in_area, meets_area, count_of}
 use Rattle.rd_geom.proofs.Areas.{meets_area-same, shares-meets_area}
 use Rattle.rd_geom.proofs.Pixels.{left_of}
 use Rattle.rd_keys.specs.Keys.{same_key}
-use Rattle.rd_graph.proofs.Listing.{Has, has_from}
+use Rattle.rd_graph.proofs.Lists.Listing.{Has, has_from}
 use Rattle.rd_item.specs.declared.leaf.Leaf.{Leaf}
 use Rattle.rd_list.specs.Entries.{flat, only}
 use Rattle.rd_list.specs.EntryNames.{entry_names, kept_leaves}
 use Rattle.rd_list.specs.Laws.{IsCovered}
 use Rattle.rd_list.specs.Lists.{meeting, leaves_meet}
-use Rattle.rd_list.proofs.Naming.{covering}
+use Rattle.rd_list.proofs.Merges.Naming.{covering}
 use Rattle.rd_tree.specs.Forest.{IsApart}
 use Rattle.rd_tree.specs.declared.node.Item.{Item}
 use Rattle.rd_tree.specs.Document.{BoxForest, is_touched}

@@ -17,7 +17,7 @@ use Rattle.rd_list.specs.Entries.{nil}
 use Rattle.rd_list.specs.EntryNames.{kept_leaves}
 use Rattle.rd_list.specs.Kept.{KeptList}
 use Rattle.rd_list.specs.Lists.{pixel, hit}
-use Rattle.rd_list.proofs.Naming.{groups_apart}
+use Rattle.rd_list.proofs.Merges.Naming.{groups_apart}
 use Rattle.rd_tree.specs.Forest.{IsApart}
 use Rattle.rd_tree.specs.Document.{Document}
 use Rattle.rd_tree.specs.Changes.{Change, insertion, removal, moving, styling, placing, shifting}

@@ -5,7 +5,7 @@ use Rattle.rd_item.specs.declared.leaf.Leaf.{Leaf}
 use Rattle.rd_list.specs.Lists.{leaves_meet, without_touched}
 use Rattle.rd_list.specs.Kept.{KeptReady, bare}
 use Rattle.rd_list.specs.EntryNames.{entry_names}
-use Rattle.rd_list.proofs.Naming.{display_editing, display_merging, groups_apart}
+use Rattle.rd_list.proofs.Merges.Naming.{display_editing, display_merging, groups_apart}
 use Rattle.rd_tree.specs.Forest.{map_where}
 use Rattle.rd_tree.specs.Touching.{settled}
 use Rattle.rd_tree.specs.Document.{Document, is_touched}

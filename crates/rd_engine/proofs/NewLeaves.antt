@@ -10,7 +10,7 @@ use Rattle.rd_list.specs.NewView.{new_entries, in_runs}
 use Rattle.rd_list.specs.declared.fresh.NewEntry.{NewEntry}
 use Rattle.rd_list.specs.declared.fresh.NewEntry.TheVariants.{Leaf, Group}
 use Rattle.rd_engine.specs.Internal.Counting.{AreLeaves}
-use Rattle.rd_list.proofs.Levelling.{flat-join}
+use Rattle.rd_list.proofs.Merges.Levelling.{flat-join}
 use Rattle.rd_list.proofs.News.{new-append, runs-append, runs_next}
 
 abbrev count : Entries Wrapper Made → ℕ

@@ -16,7 +16,7 @@ use Rattle.rd_list.specs.Joining.{Among, IsSound}
 use Rattle.rd_list.specs.Levels as levels
 use Rattle.rd_list.specs.Levels.{level_at, held}
 use Rattle.rd_list.specs.Lists.{StandsFor, leaves_meet, without_touched}
-use Rattle.rd_list.proofs.Naming.{display_beginning}
+use Rattle.rd_list.proofs.Merges.Naming.{display_beginning}
 use Rattle.rd_tree.specs.Forest.{empty, tree, AllItems, IsApart, has, starting_at, top}
 use Rattle.rd_tree.specs.declared.node.Item.{Item}
 use Rattle.rd_tree.specs.Document.{BoxForest, Document, IsRooted, is_touched}

@@ -10,7 +10,7 @@ use Rattle.rd_geom.specs.Colors.{white}
 use Rattle.rd_geom.specs.declared.rect.Size.{Size}
 use Rattle.rd_keys.specs.Keys.{same_key}
 use Rattle.rd_keys.specs.declared.entry.EntryKey.{EntryKey}
-use Rattle.rd_graph.proofs.Listing.{Has, has_from, contains_from, has_map, map_has}
+use Rattle.rd_graph.proofs.Lists.Listing.{Has, has_from, contains_from, has_map, map_has}
 use Rattle.rd_item.specs.declared.leaf.Leaf.{Leaf}
 use Rattle.rd_item.specs.Leaves.{covers}
 use Rattle.rd_item.specs.Items.{Made}
@@ -22,8 +22,8 @@ use Rattle.rd_list.specs.Display.{Numbers}
 use Rattle.rd_list.specs.GroupDepth.{group_depth}
 use Rattle.rd_list.specs.Lists.{StandsFor, pixel}
 use Rattle.rd_list.specs.Views.{levels}
-use Rattle.rd_list.proofs.Naming.{groups_apart}
-use Rattle.rd_list.proofs.Numbered.{numbering}
+use Rattle.rd_list.proofs.Merges.Naming.{groups_apart}
+use Rattle.rd_list.proofs.Merges.Numbered.{numbering}
 use Rattle.rd_tree.specs.Forest.{IsApart, height, size}
 use Rattle.rd_stack.specs.Fresh.{fresh_list}
 use Rattle.rd_stack.specs.Laws.{IsOnCanvas}

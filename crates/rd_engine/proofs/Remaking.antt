@@ -2,7 +2,7 @@
 use Rattle.std.proofs.Common.{◌≡◌, refl, ap, ◌∙◌, sym, ℕ, ◌+◌, ◌≤◌, length, arith, inl, inr}
 use Rattle.rd_geom.specs.Areas.{meets_area}
 use Rattle.rd_keys.specs.Keys.{same_key}
-use Rattle.rd_graph.proofs.Listing.{Has, has_either}
+use Rattle.rd_graph.proofs.Lists.Listing.{Has, has_either}
 use Rattle.rd_item.specs.declared.leaf.Leaf.{Leaf}
 use Rattle.rd_item.specs.Items.{Made}
 use Rattle.rd_list.specs.Wrappers.{Wrapper}

@@ -12,7 +12,7 @@ use Rattle.rd_list.specs.Kept.{KeptList, IsMerged}
 use Rattle.rd_list.specs.Laws.{IsCovered}
 use Rattle.rd_list.specs.Lists.{StandsFor, leaves_meet}
 use Rattle.rd_list.specs.Views.{levels}
-use Rattle.rd_list.proofs.Naming.{display_merging}
+use Rattle.rd_list.proofs.Merges.Naming.{display_merging}
 use Rattle.rd_tree.specs.Forest.{IsApart, height}
 use Rattle.rd_tree.specs.Document.{Document}
 use Rattle.rd_stack.specs.Fresh.{fresh_list}

@@ -8,7 +8,7 @@ use Rattle.rd_item.specs.Leaves.{covers}
 use Rattle.rd_list.specs.Wrappers.{Wrapper}
 use Rattle.rd_list.specs.Entries.{Entries, nil, leaf, group, flat, only}
 use Rattle.rd_list.specs.Lists.{composed}
-use Rattle.rd_list.proofs.Narrowing.{only_only}
+use Rattle.rd_list.proofs.Merges.Narrowing.{only_only}
 use Rattle.rd_stack.proofs.Leafwise.{EachLeaf, only_where}
 use Rattle.rd_stack.proofs.Orders.Covered.{composed-only}
 

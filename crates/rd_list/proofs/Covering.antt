@@ -15,7 +15,7 @@ use Rattle.rd_list.specs.Kept.{Ordered}
 use Rattle.rd_list.specs.Wrappers.{Wrapper}
 use Rattle.rd_list.specs.KeptView.{kept_entries}
 use Rattle.rd_list.specs.declared.kept.Group.{Group as GroupOf}
-use Rattle.rd_list.proofs.Levelling.{flat-join}
+use Rattle.rd_list.proofs.Merges.Levelling.{flat-join}
 use Rattle.rd_list.proofs.News.{kept-append}
 use Rattle.rd_list.specs.declared.blocks.Block.{Block}
 use Rattle.rd_list.specs.declared.told.Told.{Told}

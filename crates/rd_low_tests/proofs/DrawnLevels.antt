@@ -7,8 +7,8 @@ use Rattle.std.proofs.lemmas.List.Elements.{filter-append}
 use Rattle.std.proofs.lemmas.List.Sorted.{IsPermutation-refl}
 use Rattle.rd_geom.specs.declared.color.Color.{Color}
 use Rattle.rd_graph.specs.Names.{is_in}
-use Rattle.rd_graph.proofs.Listing.{Has, cases, has_either, has_from, contains_from}
-use Rattle.rd_graph.proofs.Marks.{take_whole}
+use Rattle.rd_graph.proofs.Lists.Listing.{Has, cases, has_either, has_from, contains_from}
+use Rattle.rd_graph.proofs.Patches.Marks.{take_whole}
 use Rattle.rd_keys.specs.Keys.{BoxKey, same_key}
 use Rattle.rd_keys.specs.declared.entry.EntryKey.{EntryKey}
 use Rattle.rd_item.specs.declared.leaf.Leaf.{Leaf}
@@ -20,13 +20,13 @@ use Rattle.rd_list.specs.Kept.{KeptList, KeptReady}
 use Rattle.rd_list.specs.Lists as lists
 use Rattle.rd_list.specs.Lists.{leaves_meet, same_leaf}
 use Rattle.rd_list.specs.Laws.{IsCovered}
-use Rattle.rd_list.proofs.Naming.{display_merging, display_editing, images_of_pairs}
+use Rattle.rd_list.proofs.Merges.Naming.{display_merging, display_editing, images_of_pairs}
 use Rattle.rd_list.specs.NewView.{new_entries}
 use Rattle.rd_list.specs.declared.fresh.NewEntry.{NewEntry}
 use Rattle.rd_list.proofs.Piling.{new_entries-append}
 use Rattle.rd_keys.specs.declared.entry.Part.TheVariants.{Back}
 use Rattle.rd_low_tests.specs.SampleLists.{one_item}
-use Rattle.rd_list.proofs.Starting.{display_starting}
+use Rattle.rd_list.proofs.Merges.Starting.{display_starting}
 use Rattle.rd_merge.specs.Going.{is_untouched}
 use Rattle.rd_merge.specs.Merging.{CanBeMerged, MergedInto}
 use Rattle.rd_low_tests.specs.DrawnLevels.{AreApart, IsCovering, IsHeld, IsSpotCovered, Spot, is_not_of, is_of, line, spot_leaf}

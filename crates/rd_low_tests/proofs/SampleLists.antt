@@ -4,8 +4,8 @@ use Rattle.std.proofs.lemmas.List.Sorted.{IsPermutation-refl}
 use Rattle.rd_geom.specs.Plane.{Rectangle}
 use Rattle.rd_geom.specs.declared.color.Color.{Color}
 use Rattle.rd_graph.specs.Names.{same_entry, same_part}
-use Rattle.rd_graph.proofs.Entries.{same_entry-sound, same_entry-refl}
-use Rattle.rd_graph.proofs.Listing.{Once, never, pairs_map}
+use Rattle.rd_graph.proofs.Lists.Entries.{same_entry-sound, same_entry-refl}
+use Rattle.rd_graph.proofs.Lists.Listing.{Once, never, pairs_map}
 use Rattle.rd_keys.specs.Keys.{BoxKey, same_key}
 use Rattle.rd_keys.proofs.Keys.{same_key-refl}
 use Rattle.rd_keys.specs.declared.entry.EntryKey.{EntryKey}
@@ -21,8 +21,8 @@ use Rattle.rd_list.specs.Kept.{KeptList, KeptReady}
 use Rattle.rd_list.specs.Lists as lists
 use Rattle.rd_list.specs.Lists.{leaves_meet}
 use Rattle.rd_list.specs.Laws.{IsCovered}
-use Rattle.rd_list.proofs.Naming.{display_merging, display_editing}
-use Rattle.rd_list.proofs.Starting.{display_starting}
+use Rattle.rd_list.proofs.Merges.Naming.{display_merging, display_editing}
+use Rattle.rd_list.proofs.Merges.Starting.{display_starting}
 use Rattle.rd_merge.specs.Going.{is_untouched}
 use Rattle.rd_merge.specs.Merging.{CanBeMerged, MergedInto}
 use Rattle.rd_low_tests.specs.SampleLists.{IsFirst, late_list, less_list, more_list, part_list, whole_list}

@@ -5,11 +5,11 @@ use Rattle.rd_keys.specs.declared.entry.EntryKey.{EntryKey}
 use Rattle.rd_keys.specs.declared.entry.EntryKey.TheVariants as key
 use Rattle.rd_graph.specs.Orders as spec
 use Rattle.rd_graph.specs.Names.{place_of, same_entry}
-use Rattle.rd_graph.proofs.Calls.{once_of}
-use Rattle.rd_graph.proofs.ChainPlaces.{get_left}
-use Rattle.rd_graph.proofs.Entries.{place_has, place_some, same_entry-sound, same_entry-refl}
-use Rattle.rd_graph.proofs.Listing.{cases, never}
-use Rattle.rd_graph.proofs.ListsAt.{get_same, same_place, other_place, place_is}
+use Rattle.rd_graph.proofs.Reaching.Calls.{once_of}
+use Rattle.rd_graph.proofs.LinedUp.ChainPlaces.{get_left}
+use Rattle.rd_graph.proofs.Lists.Entries.{place_has, place_some, same_entry-sound, same_entry-refl}
+use Rattle.rd_graph.proofs.Lists.Listing.{cases, never}
+use Rattle.rd_graph.proofs.Patches.ListsAt.{get_same, same_place, other_place, place_is}
 use Rattle.rd_merge.specs.Internal.Sought.{AreChained, last_at, mark_count, mark_of, marks_of}
 
 pub mark_small : (wide : Bool) (k : EntryKey) → mark_of wide k < mark_count wide

@@ -4,9 +4,9 @@ use Rattle.std.specs.Prelude.{Option, Some, None, map}
 use Rattle.rd_graph.specs.Gathered.{gathered, arranged}
 use Rattle.rd_graph.specs.Names.{same_entry, place_of, next_place}
 use Rattle.rd_graph.specs.Patches.{not_found}
-use Rattle.rd_graph.proofs.Entries.{same_entry-sound, same_entry-refl, place_some}
-use Rattle.rd_graph.proofs.Listing.{Has, Once, cases, never, has_map, has_either}
-use Rattle.rd_graph.proofs.PutInPlace.{gathered_map}
+use Rattle.rd_graph.proofs.Lists.Entries.{same_entry-sound, same_entry-refl, place_some}
+use Rattle.rd_graph.proofs.Lists.Listing.{Has, Once, cases, never, has_map, has_either}
+use Rattle.rd_graph.proofs.Patches.PutInPlace.{gathered_map}
 use Rattle.rd_keys.specs.declared.entry.EntryKey.{EntryKey}
 use Rattle.rd_item.specs.declared.leaf.Leaf.{Leaf}
 use Rattle.rd_item.specs.Items.{Made}
@@ -16,12 +16,12 @@ use Rattle.rd_list.specs.EntryNames.{entry_names, made_leaf, kept_leaves, new_na
 use Rattle.rd_list.specs.Internal.Fits.{Fits, is_group, within_new}
 use Rattle.rd_list.specs.Kept.{Ordered, KeptList, within}
 use Rattle.rd_list.specs.Levels.{keys, name, inside}
-use Rattle.rd_list.proofs.Fitting.{fits_inside, new_inside}
-use Rattle.rd_list.proofs.Naming.{entry_names_are}
-use Rattle.rd_list.proofs.Narrowing.{key_head}
-use Rattle.rd_list.proofs.Picking.{same_head}
-use Rattle.rd_list.proofs.Routing.{only_head}
-use Rattle.rd_graph.proofs.Calls.{once_of}
+use Rattle.rd_list.proofs.Merges.Fitting.{fits_inside, new_inside}
+use Rattle.rd_list.proofs.Merges.Naming.{entry_names_are}
+use Rattle.rd_list.proofs.Merges.Narrowing.{key_head}
+use Rattle.rd_list.proofs.Merges.Picking.{same_head}
+use Rattle.rd_list.proofs.Merges.Routing.{only_head}
+use Rattle.rd_graph.proofs.Reaching.Calls.{once_of}
 use Rattle.rd_merge.specs.Internal.Fitting.{FitsFor}
 use Rattle.rd_merge.specs.Looking.{kept_names}
 use Rattle.rd_merge.specs.Plans.{entry_at, gathered_entries, arranged_entries, old_list, IsGroupPlace}

@@ -10,7 +10,7 @@ use Rattle.rd_list.proofs.Admitting.{read_any}
 use Rattle.rd_graph.specs.Gathered.{gathered, arranged}
 use Rattle.rd_graph.specs.Internal.Taking.{KeepsOthers}
 use Rattle.rd_graph.specs.Runs.{up_from}
-use Rattle.rd_graph.proofs.AllMade.{only_made}
+use Rattle.rd_graph.proofs.LinedUp.AllMade.{only_made}
 use Rattle.rd_item.specs.Items.{Made}
 use Rattle.rd_keys.specs.declared.entry.EntryKey.{EntryKey}
 use Rattle.rd_list.specs.Wrappers.{Wrapper, wrapper}

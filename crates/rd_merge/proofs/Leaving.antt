@@ -2,7 +2,7 @@
 use Rattle.std.proofs.Common.{◌≡◌, refl, ap, ◌∙◌, sym, ℕ, zero, suc, ◌+◌, ◌<◌, ◌==◌, Bool, true, false, cond, List, [], ◌∷◌, ◌++◌, length, take, get_or, arith, rules, inl, inr}
 use Rattle.std.proofs.lemmas.List.{take_more}
 use Rattle.rd_keys.specs.Keys.{BoxKey}
-use Rattle.rd_graph.proofs.Listing.{cases}
+use Rattle.rd_graph.proofs.Lists.Listing.{cases}
 use Rattle.rd_list.specs.EntryNames.{kept_leaves}
 use Rattle.rd_list.specs.Entries.{is_empty}
 use Rattle.rd_list.specs.KeptView.{kept_entries}

@@ -7,9 +7,9 @@ use Rattle.rd_keys.specs.declared.entry.EntryKey.{EntryKey}
 use Rattle.rd_keys.specs.declared.entry.EntryKey.TheVariants as key
 use Rattle.rd_graph.specs.Orders as spec
 use Rattle.rd_graph.specs.Names.{is_in, next_place, place_of, same_entry}
-use Rattle.rd_graph.proofs.Listing.{Has, Once, cases}
-use Rattle.rd_graph.proofs.Entries.{place_next, place_some, same_entry-sound, same_entry-refl}
-use Rattle.rd_graph.proofs.Calls.{once_of}
+use Rattle.rd_graph.proofs.Lists.Listing.{Has, Once, cases}
+use Rattle.rd_graph.proofs.Lists.Entries.{place_next, place_some, same_entry-sound, same_entry-refl}
+use Rattle.rd_graph.proofs.Reaching.Calls.{once_of}
 use Rattle.rd_list.specs.EntryNames.{entry_names, kept_leaves}
 use Rattle.rd_list.specs.KeptView.{kept_entries}
 use Rattle.rd_list.specs.Levels.{keys}

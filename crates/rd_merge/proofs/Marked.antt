@@ -4,9 +4,9 @@ use Rattle.std.proofs.lemmas.List.{get_or-set_same, get_or-set_other, get_or-map
 use Rattle.rd_keys.specs.Keys.{BoxKey}
 use Rattle.rd_keys.specs.declared.entry.EntryKey.{EntryKey}
 use Rattle.rd_graph.specs.Names.{place_of, same_entry}
-use Rattle.rd_graph.proofs.Entries.{place_some, same_entry-sound, same_entry-refl}
-use Rattle.rd_graph.proofs.Listing.{cases, never}
-use Rattle.rd_graph.proofs.ListsAt.{same_place, other_place}
+use Rattle.rd_graph.proofs.Lists.Entries.{place_some, same_entry-sound, same_entry-refl}
+use Rattle.rd_graph.proofs.Lists.Listing.{cases, never}
+use Rattle.rd_graph.proofs.Patches.ListsAt.{same_place, other_place}
 use Rattle.rd_merge.specs.Internal.Marks.{AreMarkedBy, box_mark, box_marks, box_of, name_marks, run_mark}
 
 pub mark_small : (wide : Bool) (k : BoxKey) → box_mark wide k < box_marks wide

@@ -4,8 +4,8 @@ use Rattle.std.specs.Prelude.{Option, Some, None, map, is_some, unwrap_or}
 use Rattle.rd_graph.specs.Gathered.{gathered}
 use Rattle.rd_graph.specs.Names.{same_entry, place_of}
 use Rattle.rd_graph.specs.Patches.{not_found}
-use Rattle.rd_graph.proofs.Entries.{same_entry-sound, same_entry-refl, place_some}
-use Rattle.rd_graph.proofs.Listing.{Has}
+use Rattle.rd_graph.proofs.Lists.Entries.{same_entry-sound, same_entry-refl, place_some}
+use Rattle.rd_graph.proofs.Lists.Listing.{Has}
 use Rattle.rd_keys.specs.Keys.{BoxKey}
 use Rattle.rd_keys.specs.declared.entry.EntryKey.{EntryKey}
 use Rattle.rd_item.specs.Items.{Made}

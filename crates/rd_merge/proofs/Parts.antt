@@ -4,8 +4,8 @@ use Rattle.std.proofs.lemmas.List.{length-append, length-take-le, length-drop, a
 use Rattle.rd_graph.specs.Gathered.{gathered, ArePlaces}
 use Rattle.rd_graph.specs.Runs.{places_of, up_from}
 use Rattle.rd_graph.specs.declared.runs.Run.{Run}
-use Rattle.rd_graph.proofs.RunLines.{further, gathered_up, gathered_append, places_more, places-append}
-use Rattle.rd_graph.proofs.RunGathering.{run_within}
+use Rattle.rd_graph.proofs.LinedUp.RunLines.{further, gathered_up, gathered_append, places_more, places-append}
+use Rattle.rd_graph.proofs.LinedUp.RunGathering.{run_within}
 use Rattle.rd_list.specs.Blocks.{Tells, Covers, CoversAll}
 use Rattle.rd_list.specs.declared.blocks.Block.{Block}
 use Rattle.rd_list.specs.declared.kept.Entry.{Entry}

@@ -4,7 +4,7 @@ use Rattle.std.specs.Prelude.{map, if◌then◌else◌}
 use Rattle.rd_graph.specs.Gathered.{gathered}
 use Rattle.rd_graph.specs.Names.{is_in}
 use Rattle.rd_graph.specs.Patches.{AreRising}
-use Rattle.rd_graph.proofs.Listing.{Has, Once, cases}
+use Rattle.rd_graph.proofs.Lists.Listing.{Has, Once, cases}
 use Rattle.rd_list.specs.Entries.{Entries, nil, leaf, group}
 use Rattle.rd_list.specs.Levels.{Names, keys}
 use Rattle.rd_merge.specs.Going.{any_stays, gone_keys}

@@ -6,9 +6,9 @@ use Rattle.std.specs.declared.vec.Vec.{Vec}
 use Rattle.rd_graph.specs.Graphs.{Graph}
 use Rattle.rd_graph.specs.Names.{is_in, same_entry}
 use Rattle.rd_graph.specs.Patches.{PatchOf, CanBePatched, IsPatched}
-use Rattle.rd_graph.proofs.Calls.{once_of}
-use Rattle.rd_graph.proofs.Entries.{same_entry-refl, has_in}
-use Rattle.rd_graph.proofs.Listing.{Has, cases, never, map_has}
+use Rattle.rd_graph.proofs.Reaching.Calls.{once_of}
+use Rattle.rd_graph.proofs.Lists.Entries.{same_entry-refl, has_in}
+use Rattle.rd_graph.proofs.Lists.Listing.{Has, cases, never, map_has}
 use Rattle.rd_keys.specs.Keys.{BoxKey}
 use Rattle.rd_keys.specs.declared.entry.EntryKey.{EntryKey}
 use Rattle.rd_item.specs.declared.leaf.Leaf.{Leaf}

@@ -5,11 +5,11 @@ use Rattle.rd_graph.specs.Gathered.{gathered, arranged, IsLine}
 use Rattle.rd_graph.specs.Graphs.{Graph, nodes}
 use Rattle.rd_graph.specs.Names.{is_in, same_entry, place_of}
 use Rattle.rd_graph.specs.Patches.{PatchOf, lists_of, made_of, line_of, with_lists, not_found, AreRising, is_gone, FitsPatch, CanBePatched, IsPatched, IsStill}
-use Rattle.rd_graph.proofs.Calls.{once_of}
-use Rattle.rd_graph.proofs.Entries.{same_entry-sound, same_entry-refl, in_has, has_in, place_none}
-use Rattle.rd_graph.proofs.Lines.{ordered}
-use Rattle.rd_graph.proofs.Listing.{Has, Once, cases, never, has_from, contains_from, has_left, has_right, has_either, has_map, once_join}
-use Rattle.rd_graph.proofs.Merged.{with_lists_names}
+use Rattle.rd_graph.proofs.Reaching.Calls.{once_of}
+use Rattle.rd_graph.proofs.Lists.Entries.{same_entry-sound, same_entry-refl, in_has, has_in, place_none}
+use Rattle.rd_graph.proofs.Reaching.Lines.{ordered}
+use Rattle.rd_graph.proofs.Lists.Listing.{Has, Once, cases, never, has_from, contains_from, has_left, has_right, has_either, has_map, once_join}
+use Rattle.rd_graph.proofs.Patches.Merged.{with_lists_names}
 use Rattle.rd_keys.specs.Keys.{BoxKey}
 use Rattle.rd_keys.specs.declared.entry.EntryKey.{EntryKey}
 use Rattle.rd_item.specs.declared.leaf.Leaf.{Leaf}
@@ -20,10 +20,10 @@ use Rattle.rd_list.specs.EntryNames.{entry_names, made_leaf, kept_leaves, new_le
 use Rattle.rd_list.specs.Internal.Fits.{TellsGone, MakesLevel, is_group, within_new}
 use Rattle.rd_list.specs.Kept.{Ordered, KeptList, within, IsMerged}
 use Rattle.rd_list.specs.Levels.{keys}
-use Rattle.rd_list.proofs.Fitting.{going_together}
-use Rattle.rd_list.proofs.Levelling.{has_only}
-use Rattle.rd_list.proofs.Naming.{entry_names_are}
-use Rattle.rd_list.proofs.Picking.{picking, kept_leaf}
+use Rattle.rd_list.proofs.Merges.Fitting.{going_together}
+use Rattle.rd_list.proofs.Merges.Levelling.{has_only}
+use Rattle.rd_list.proofs.Merges.Naming.{entry_names_are}
+use Rattle.rd_list.proofs.Merges.Picking.{picking, kept_leaf}
 use Rattle.rd_merge.specs.Going.{any_stays, gone_keys, is_untouched}
 use Rattle.rd_merge.specs.Internal.Fitting.{FitsFor}
 use Rattle.rd_merge.specs.Looking.{any_goes, gone_places, kept_names, IsLooked}

@@ -3,8 +3,8 @@ use Rattle.std.proofs.Common.{◌≡◌, refl, ap, ◌∙◌, sym, subst, ℕ, z
 use Rattle.std.specs.Prelude.{Option, Some, None, map}
 use Rattle.rd_graph.specs.Names.{same_entry, place_of, next_place}
 use Rattle.rd_graph.specs.Patches.{not_found}
-use Rattle.rd_graph.proofs.Entries.{same_entry-sound, same_entry-refl}
-use Rattle.rd_graph.proofs.Listing.{Has, Once, cases, never, has_either, has_map, once_join}
+use Rattle.rd_graph.proofs.Lists.Entries.{same_entry-sound, same_entry-refl}
+use Rattle.rd_graph.proofs.Lists.Listing.{Has, Once, cases, never, has_either, has_map, once_join}
 use Rattle.rd_keys.specs.declared.entry.EntryKey.{EntryKey}
 
 -- ---- lists by their places

@@ -1,7 +1,7 @@
 -- A level after the steps of a plan, as a list of its entries.
 use Rattle.std.proofs.Common.{◌≡◌, refl, ap, ◌∙◌, sym, subst, ℕ, zero, suc, ◌<◌, ◌≤◌, Bool, true, false, List, [], ◌∷◌, ◌++◌, length, arith, inl, inr, ◌⊎◌}
 use Rattle.std.specs.Prelude.{Option, Some, None, map, is_some, unwrap_or}
-use Rattle.rd_graph.proofs.Listing.{Has, Once}
+use Rattle.rd_graph.proofs.Lists.Listing.{Has, Once}
 use Rattle.rd_keys.specs.declared.entry.EntryKey.{EntryKey}
 use Rattle.rd_item.specs.Items.{Made}
 use Rattle.rd_list.specs.Wrappers.{Wrapper}

@@ -3,16 +3,16 @@ use Rattle.std.proofs.Common.{◌≡◌, refl, ap, ◌∙◌, sym, subst, Bool, 
 use Rattle.rd_graph.specs.Graphs.{Precedes}
 use Rattle.rd_graph.specs.Orders.{Before, Chain}
 use Rattle.rd_graph.specs.Orders as order
-use Rattle.rd_graph.proofs.Calls.{once_of}
-use Rattle.rd_graph.proofs.Chains.{chain_of}
-use Rattle.rd_graph.proofs.Listing.{Has, before_from, before_to, cases, contains_from, has_either, has_from, has_left, has_right, pairs_from}
+use Rattle.rd_graph.proofs.Reaching.Calls.{once_of}
+use Rattle.rd_graph.proofs.Reaching.Chains.{chain_of}
+use Rattle.rd_graph.proofs.Lists.Listing.{Has, before_from, before_to, cases, contains_from, has_either, has_from, has_left, has_right, pairs_from}
 use Rattle.rd_list.specs.Entries.{Entries, nil, leaf, group, flat, only, grouped_if_any, is_empty}
 use Rattle.rd_list.specs.Internal.Fits.{Fits}
 use Rattle.rd_list.specs.Joining.{Among, IsJoinedAt, Step}
 use Rattle.rd_list.specs.Kept.{Ordered, KeptList, bare, kept_at, reach_of, IsMerged}
 use Rattle.rd_list.specs.Levels.{Names, keys, level_at}
-use Rattle.rd_list.proofs.Assembling.{level_nil}
-use Rattle.rd_list.proofs.Named.{AreNames}
+use Rattle.rd_list.proofs.Merges.Assembling.{level_nil}
+use Rattle.rd_list.proofs.Merges.Named.{AreNames}
 use Rattle.rd_merge.specs.Looking.{any_goes}
 
 module _ {E G L : Type 0} (n : Names E G L) (stays : L → Bool) where

@@ -8,8 +8,8 @@ use Rattle.rd_list.specs.Entries.{Entries}
 use Rattle.rd_list.specs.EntryNames.{entry_names, made_leaf}
 use Rattle.rd_list.specs.Kept.{KeptList}
 use Rattle.rd_list.specs.Lists.{leaves_meet}
-use Rattle.rd_list.proofs.Naming.{entry_names_are, display_merging}
-use Rattle.rd_list.proofs.Fitting.{ready_fits}
+use Rattle.rd_list.proofs.Merges.Naming.{entry_names_are, display_merging}
+use Rattle.rd_list.proofs.Merges.Fitting.{ready_fits}
 use Rattle.rd_merge.specs.Going.{is_untouched}
 use Rattle.rd_merge.specs.Internal.Fitting.{FitsFor}
 use Rattle.rd_merge.specs.Merging.{CanBeMerged, MergedInto, StandsAfter}

@@ -22,8 +22,8 @@ use Rattle.rd_partial.specs.Internal.Given.{gives}
 use Rattle.rd_partial.specs.Internal.Work.{passes, cost, boxed, own_cost}
 use Rattle.rd_partial.specs.Internal.Counting.{visits, given}
 use Rattle.rd_partial.specs.Internal.Looked.{Onward}
-use Rattle.rd_partial.proofs.Pruned.{GiveNone, pass-none, no_box}
-use Rattle.rd_partial.proofs.Reach.{give_none, none_of, hull_left, hull_right}
+use Rattle.rd_partial.proofs.Pass.Pruned.{GiveNone, pass-none, no_box}
+use Rattle.rd_partial.proofs.Pass.Reach.{give_none, none_of, hull_left, hull_right}
 use Rattle.rd_partial.specs.Looks.{hull_at}
 
 none_given : (wants : Rectangle → Bool) (n : ℕ) (s : Standing) (f : BoxForest) → GiveNone below (gives wants n) s f → given below (gives wants n) s f ≡ 0

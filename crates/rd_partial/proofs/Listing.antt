@@ -12,7 +12,7 @@ use Rattle.rd_list.specs.Kept.{Ordered}
 use Rattle.rd_list.specs.EntryNames.{kept_leaves}
 use Rattle.rd_list.specs.KeptView.{kept_entries}
 use Rattle.rd_list.specs.declared.kept.Entry.{Entry}
-use Rattle.rd_list.proofs.Levelling.{flat-join}
+use Rattle.rd_list.proofs.Merges.Levelling.{flat-join}
 use Rattle.rd_list.proofs.News.{kept-append}
 use Rattle.rd_tree.specs.Document.{Document, is_touched}
 use Rattle.rd_partial.specs.Invalid.{any_shows, shows_touched}

@@ -14,7 +14,7 @@ use Rattle.rd_item.specs.declared.leaf.Shape.{Shape}
 use Rattle.rd_item.specs.Items.{Made}
 use Rattle.rd_list.specs.Wrappers.{Wrapper}
 use Rattle.rd_list.specs.Entries.{Entries, nil, ◌▷◌, option_entry, flat, only}
-use Rattle.rd_list.proofs.Levelling.{flat-only}
+use Rattle.rd_list.proofs.Merges.Levelling.{flat-only}
 use Rattle.rd_tree.specs.Forest.{empty, tree, has, IsApart}
 use Rattle.rd_tree.specs.declared.node.Item.{Item}
 use Rattle.rd_tree.specs.Document.{BoxForest, Document, IsRooted, is_touched}
@@ -28,13 +28,13 @@ use Rattle.rd_partial.specs.Internal.Pass.{whole, is_one}
 use Rattle.rd_partial.specs.Internal.Picking.{picked, made_if}
 use Rattle.rd_partial.specs.Internal.Standing.{Standing, standing_below, at_root, below, clip_in, leaf_in}
 use Rattle.rd_partial.specs.Internal.Touched.{leaf_shows, box_shows, touched_shows}
-use Rattle.rd_partial.proofs.Count.{count-root}
-use Rattle.rd_partial.proofs.Fields.{enter, give}
-use Rattle.rd_partial.proofs.Only.{only_is, numbered_leaves}
-use Rattle.rd_partial.proofs.Picked.{on-whole, give_on}
-use Rattle.rd_partial.proofs.Steps.{fresh_is}
-use Rattle.rd_partial.proofs.Stood.{down}
-use Rattle.rd_partial.proofs.Top.{same_leaf}
+use Rattle.rd_partial.proofs.Pass.Count.{count-root}
+use Rattle.rd_partial.proofs.Pass.Fields.{enter, give}
+use Rattle.rd_partial.proofs.Pass.Only.{only_is, numbered_leaves}
+use Rattle.rd_partial.proofs.Pass.Picked.{on-whole, give_on}
+use Rattle.rd_partial.proofs.Pass.Steps.{fresh_is}
+use Rattle.rd_partial.proofs.Pass.Stood.{down}
+use Rattle.rd_partial.proofs.Pass.Top.{same_leaf}
 
 -- each box of a forest is touched as its item says
 abbrev Marks : (BoxKey → Bool) → BoxForest → Type 0

@@ -18,7 +18,7 @@ use std::sync::ledger::Ledger;
 
 /// Puts the item of a part of a box on top, which has this shape and this colour, where it shows and is wanted.
 #[inline(always)]
-#[tactic(auto, using(crate::proofs::Joining::joins))]
+#[tactic(auto, using(crate::proofs::Pass::Joining::joins))]
 fn show<A: Ledger, W: Wanted>(
     out: &mut Pieces<A>,
     wanted: &W,
@@ -53,7 +53,7 @@ fn show<A: Ledger, W: Wanted>(
 
 /// Puts the item of the background of a box on top, where it shows and is wanted.
 #[inline(always)]
-#[tactic(auto, using(crate::proofs::Joining::joins))]
+#[tactic(auto, using(crate::proofs::Pass::Joining::joins))]
 pub fn give_back<A: Ledger, W: Wanted>(
     out: &mut Pieces<A>,
     wanted: &W,
@@ -84,7 +84,7 @@ pub fn give_back<A: Ledger, W: Wanted>(
 
 /// Puts the item of the border of a box on top, where it has one that shows and is wanted.
 #[inline(always)]
-#[tactic(auto, using(crate::proofs::Joining::joins))]
+#[tactic(auto, using(crate::proofs::Pass::Joining::joins))]
 pub fn give_border<A: Ledger, W: Wanted>(
     out: &mut Pieces<A>,
     wanted: &W,
@@ -107,7 +107,7 @@ pub fn give_border<A: Ledger, W: Wanted>(
 
 /// Puts the item of the content of a box on top, where it has one that shows and is wanted.
 #[inline(always)]
-#[tactic(auto, using(crate::proofs::Joining::joins))]
+#[tactic(auto, using(crate::proofs::Pass::Joining::joins))]
 pub fn give_content<A: Ledger, W: Wanted>(
     out: &mut Pieces<A>,
     wanted: &W,
@@ -140,7 +140,7 @@ pub fn give_content<A: Ledger, W: Wanted>(
 
 /// Puts the item of the outline of a box on top, where it has one that shows and is wanted.
 #[inline(always)]
-#[tactic(auto, using(crate::proofs::Joining::joins))]
+#[tactic(auto, using(crate::proofs::Pass::Joining::joins))]
 pub fn give_outline<A: Ledger, W: Wanted>(
     out: &mut Pieces<A>,
     wanted: &W,

@@ -23,7 +23,7 @@ use std::sync::ledger::Ledger;
 
 /// The background, and the border on top of it (CSS 2.2 Appendix E.2).
 #[inline(always)]
-#[tactic(auto, using(crate::proofs::Joining::joins))]
+#[tactic(auto, using(crate::proofs::Pass::Joining::joins))]
 pub fn back_border<A: Ledger, W: Wanted>(
     out: &mut Pieces<A>,
     wanted: &W,
@@ -50,7 +50,7 @@ pub struct Begun<A: Ledger> {
 }
 
 /// The background and the border of a box, under its layers where it is laid out as a block and else in its line; then its content and its outline.
-#[tactic(auto, using(crate::proofs::Joining::joins))]
+#[tactic(auto, using(crate::proofs::Pass::Joining::joins))]
 pub fn begin<A: Ledger, W: Wanted>(
     alloc: Global,
     wanted: &W,
@@ -113,7 +113,7 @@ fn in_order<A: Ledger>(layers: &mut Vec<Stacked<A>>) -> Result<(), NoMemory>
 }
 
 /// The lists of layers, the lowest level first and those of one level as they stood (CSS 2.2 section 9.9.1).
-#[tactic(auto, using(crate::proofs::Joining::joins))]
+#[tactic(auto, using(crate::proofs::Pass::Joining::joins))]
 fn join_by_level<A: Ledger>(out: &mut Pieces<A>, layers: Vec<Stacked<A>>) -> Result<(), NoMemory>
     ensures { OnOk result (laid_out out.new ≡ laid_out out.old ▷ each (λ y. y.order) (by_level
         (map held_stack layers.items))) }
@@ -124,7 +124,7 @@ fn join_by_level<A: Ledger>(out: &mut Pieces<A>, layers: Vec<Stacked<A>>) -> Res
 }
 
 /// What a box paints that is no layer and no outline, one on top of another. The outlines.
-#[tactic(auto, using(crate::proofs::Joining::joins))]
+#[tactic(auto, using(crate::proofs::Pass::Joining::joins))]
 fn join_local<A: Ledger>(out: &mut Pieces<A>, local: Local<A>) -> Result<Pieces<A>, NoMemory>
     ensures list { OnOk result (laid_out out.new ≡ laid_out out.old ▷ laid_out local.backgrounds
         ▷ laid_out local.floats ▷ laid_out local.line ▷ laid_out local.contents) }
@@ -138,7 +138,7 @@ fn join_local<A: Ledger>(out: &mut Pieces<A>, local: Local<A>) -> Result<Pieces<
 }
 
 /// All lists of a box, one on top of another (CSS 2.2 Appendix E.2).
-#[tactic(auto, using(crate::proofs::Joining::joins))]
+#[tactic(auto, using(crate::proofs::Pass::Joining::joins))]
 pub fn finish<A: Ledger>(
     out: Pieces<A>,
     local: Local<A>,
@@ -172,7 +172,7 @@ fn is_composed(s: &Style, root: bool, blend_below: bool) -> bool
 }
 
 /// A stacking context is put as one group where that is so, and where it paints anything.
-#[tactic(auto, using(crate::proofs::Joining::joins))]
+#[tactic(auto, using(crate::proofs::Pass::Joining::joins))]
 pub fn as_group<A: Ledger>(
     alloc: Global,
     root: bool,

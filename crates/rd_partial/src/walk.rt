@@ -381,7 +381,7 @@ fn stacked<A: Ledger>(b: &BoxData, order: Pieces<A>) -> Stacked<A>
 }
 
 /// Puts a layer among those of its stacking context, if it paints anything.
-#[tactic(auto, using(crate::proofs::Joining::joins))]
+#[tactic(auto, using(crate::proofs::Pass::Joining::joins))]
 fn stack<A: Ledger>(layers: &mut Layers<A>, b: &BoxData, order: Pieces<A>) -> Result<(), NoMemory>
     ensures { OnOk result (held_layers layers.new ≡ held_layers layers.old
         ⊕ layer_bands (pass.level_in b.now) (laid_out order)) }

@@ -8,7 +8,7 @@ use Rattle.rd_geom.specs.Canvas.{canvas_of}
 use Rattle.rd_keys.specs.Keys.{BoxKey, same_key}
 use Rattle.rd_keys.specs.declared.entry.Part.{Part}
 use Rattle.rd_keys.proofs.Keys.{same_key-refl}
-use Rattle.rd_graph.proofs.Listing.{Has, has_either, has_from, contains_from, filter_has}
+use Rattle.rd_graph.proofs.Lists.Listing.{Has, has_either, has_from, contains_from, filter_has}
 use Rattle.rd_item.specs.declared.leaf.Leaf.{Leaf}
 use Rattle.rd_item.specs.declared.leaf.Shape.{Shape}
 use Rattle.rd_list.specs.Entries.{flat}

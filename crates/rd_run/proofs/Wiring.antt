@@ -12,7 +12,7 @@ use Rattle.rd_keys.specs.declared.entry.Part.TheVariants.{Back, Border, Content,
 use Rattle.rd_item.specs.Items.{Made}
 use Rattle.rd_item.specs.declared.leaf.Leaf as item
 use Rattle.rd_item.specs.declared.leaf.Shape.{Shape}
-use Rattle.rd_graph.proofs.Listing.{Has, has_from, contains_from, has_map, map_has, has_left, has_right, has_either}
+use Rattle.rd_graph.proofs.Lists.Listing.{Has, has_from, contains_from, has_map, map_has, has_left, has_right, has_either}
 use Rattle.rd_list.specs.Wrappers.{Wrapper}
 use Rattle.rd_list.specs.Entries.{Entries, nil, leaf, group, flat}
 use Rattle.rd_list.specs.EntryNames.{kept_leaves}
@@ -20,7 +20,7 @@ use Rattle.rd_list.specs.Kept.{Ordered}
 use Rattle.rd_list.specs.Lists.{StandsFor}
 use Rattle.rd_list.specs.Unordered.{unordered}
 use Rattle.rd_list.specs.Views.{levels}
-use Rattle.rd_list.proofs.Naming.{groups_apart}
+use Rattle.rd_list.proofs.Merges.Naming.{groups_apart}
 use Rattle.rd_tree.specs.Forest.{IsApart}
 use Rattle.rd_tree.specs.Document.{Document, IsRooted}
 use Rattle.rd_stack.specs.Paths.{BoxData, is_root}

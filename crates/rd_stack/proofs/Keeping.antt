@@ -9,14 +9,14 @@ use Rattle.rd_keys.specs.Keys.{BoxKey, same_key}
 use Rattle.rd_geom.specs.Colors.{white}
 use Rattle.rd_item.specs.declared.leaf.Leaf.{Leaf}
 use Rattle.rd_item.specs.Leaves.{covers}
-use Rattle.rd_graph.proofs.Listing.{Has, has_from, contains_from, has_left, has_right, has_filter, filter_has}
+use Rattle.rd_graph.proofs.Lists.Listing.{Has, has_from, contains_from, has_left, has_right, has_filter, filter_has}
 use Rattle.rd_list.specs.Wrappers.{Wrapper}
 use Rattle.rd_list.specs.Entries.{Entries, nil, leaf, group, flat, routes, only, grouped_if_any}
-use Rattle.rd_list.proofs.Naming.{groups_apart, wrappers_apart}
+use Rattle.rd_list.proofs.Merges.Naming.{groups_apart, wrappers_apart}
 use Rattle.rd_list.specs.Lists.{StandsFor, groups, pair_in_order, same_leaf, leaves_meet, without_touched, composed, is_hit, is_outline, last}
-use Rattle.rd_list.proofs.Levelling.{flat-only}
-use Rattle.rd_list.proofs.Routing.{only_filled}
-use Rattle.rd_list.proofs.Narrowing.{only_only, filter_swap}
+use Rattle.rd_list.proofs.Merges.Levelling.{flat-only}
+use Rattle.rd_list.proofs.Merges.Routing.{only_filled}
+use Rattle.rd_list.proofs.Merges.Narrowing.{only_only, filter_swap}
 use Rattle.rd_stack.specs.Keeping.{LeavingLaw, StayingLaw, IsClear, OutsideLaw}
 use Rattle.rd_stack.proofs.Walk.Filters.{filter_both}
 use Rattle.rd_stack.proofs.Orders.Orders.{same, same_leaf-refl}

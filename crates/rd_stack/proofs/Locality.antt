@@ -10,13 +10,13 @@ use Rattle.rd_keys.specs.declared.entry.Part.TheVariants.{Back, Border, Content,
 use Rattle.rd_geom.specs.Colors.{white}
 use Rattle.rd_item.specs.declared.leaf.Leaf.{Leaf}
 use Rattle.rd_item.specs.Leaves.{covers}
-use Rattle.rd_graph.proofs.Listing.{Has, has_from, contains_from, has_filter, filter_has, has_map}
+use Rattle.rd_graph.proofs.Lists.Listing.{Has, has_from, contains_from, has_filter, filter_has, has_map}
 use Rattle.rd_list.specs.Wrappers.{Wrapper}
 use Rattle.rd_list.specs.Entries.{Entries, flat, routes, only}
-use Rattle.rd_list.proofs.Naming.{groups_apart}
+use Rattle.rd_list.proofs.Merges.Naming.{groups_apart}
 use Rattle.rd_list.specs.Lists.{StandsFor, groups, pair_in_order, same_leaf, is_outline, is_hit, last, composed}
 use Rattle.rd_graph.specs.Names.{same_part}
-use Rattle.rd_list.proofs.Narrowing.{filter_swap}
+use Rattle.rd_list.proofs.Merges.Narrowing.{filter_swap}
 use Rattle.rd_stack.specs.Locality.{LocalityLaw}
 use Rattle.rd_stack.proofs.Walk.Filters.{filter_both}
 use Rattle.rd_stack.proofs.Orders.Members.{filter-map}

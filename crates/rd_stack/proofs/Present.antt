@@ -15,7 +15,7 @@ use Rattle.rd_keys.proofs.Keys.{same_key-refl}
 use Rattle.rd_keys.specs.declared.entry.Part.{Part}
 use Rattle.rd_keys.specs.declared.entry.Part.TheVariants.{Back, Border, Content, Outline}
 use Rattle.rd_item.specs.declared.leaf.Leaf.{Leaf}
-use Rattle.rd_graph.proofs.Listing.{Has, has_from, contains_from, has_left, has_right, has_either, has_filter}
+use Rattle.rd_graph.proofs.Lists.Listing.{Has, has_from, contains_from, has_left, has_right, has_either, has_filter}
 use Rattle.rd_list.specs.Wrappers.{Wrapper}
 use Rattle.rd_list.specs.Entries.{Entries, nil, leaf, group, ◌▷◌, each, option_entry, flat, has_leaf}
 use Rattle.rd_tree.specs.Forest.{empty, tree}

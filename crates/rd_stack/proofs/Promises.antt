@@ -6,7 +6,7 @@ use Rattle.rd_keys.specs.Keys.{same_key}
 use Rattle.rd_keys.proofs.Keys.{same_key-refl}
 use Rattle.rd_list.specs.Entries.{flat, routes}
 use Rattle.rd_list.specs.Lists.{same_leaf, groups}
-use Rattle.rd_list.proofs.Naming.{wrappers_apart}
+use Rattle.rd_list.proofs.Merges.Naming.{wrappers_apart}
 use Rattle.rd_stack.specs.Fresh.{fresh_list}
 use Rattle.rd_stack.proofs.Counting.Counted.{pairs_apart, leaf_once, group_once, none_empty, filled}
 use Rattle.rd_stack.proofs.Counting.Counted.{none_fails}

@@ -13,7 +13,7 @@ use Rattle.rd_item.specs.declared.leaf.Leaf.{Leaf}
 use Rattle.rd_list.specs.Wrappers.{Wrapper}
 use Rattle.rd_list.specs.Entries.{Entries, nil}
 use Rattle.rd_list.specs.Lists.{without_touched}
-use Rattle.rd_list.proofs.Narrowing.{only_only}
+use Rattle.rd_list.proofs.Merges.Narrowing.{only_only}
 use Rattle.rd_tree.specs.Forest.{empty, tree, ◌▷◌, has, item_of, children, with_children, insert_among, branch, map_where, at_box, at_subtree, in_subtree, IsApart}
 use Rattle.rd_tree.specs.Forest as forest
 use Rattle.rd_tree.specs.declared.node.Item.{Item}

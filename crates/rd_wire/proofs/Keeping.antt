@@ -8,9 +8,9 @@ use Rattle.rd_keys.specs.Keys.{BoxKey, same_key}
 use Rattle.rd_keys.specs.declared.entry.EntryKey.{EntryKey}
 use Rattle.rd_keys.specs.declared.entry.EntryKey.TheVariants as key
 use Rattle.rd_graph.specs.Names.{same_entry}
-use Rattle.rd_graph.proofs.Calls.{once_to}
-use Rattle.rd_graph.proofs.Entries.{same_entry-refl}
-use Rattle.rd_graph.proofs.Listing.{Has, Once, has_left, has_right, has_either, contains_from}
+use Rattle.rd_graph.proofs.Reaching.Calls.{once_to}
+use Rattle.rd_graph.proofs.Lists.Entries.{same_entry-refl}
+use Rattle.rd_graph.proofs.Lists.Listing.{Has, Once, has_left, has_right, has_either, contains_from}
 use Rattle.rd_list.specs.Wrappers.{Wrapper}
 use Rattle.rd_list.specs.Entries.{Entries, nil, leaf, group, flat, is_empty, no_group_is_empty}
 use Rattle.rd_list.specs.EntryNames.{kept_leaves, new_leaves}

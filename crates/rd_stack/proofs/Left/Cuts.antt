@@ -3,7 +3,7 @@ use Rattle.std.proofs.Common.{◌≡◌, refl, ap, ◌∙◌, sym, subst, Bool, 
 use Rattle.std.specs.Prelude.{Option, Some, None}
 use Rattle.rd_keys.specs.Keys.{BoxKey, same_key}
 use Rattle.rd_keys.proofs.Keys.{same_key-sound, same_key-refl}
-use Rattle.rd_list.proofs.Routing.{both_true}
+use Rattle.rd_list.proofs.Merges.Routing.{both_true}
 use Rattle.rd_tree.specs.Forest.{empty, tree, ◌▷◌, has, starting_at, children, with_children, insert_among, insert_before, without_branch, branch, without_siblings, map_where, in_subtree, IsApart}
 use Rattle.rd_tree.specs.declared.node.Item.{Item}
 use Rattle.rd_tree.specs.Document.{BoxForest, is_touched}

@@ -8,7 +8,7 @@ use Rattle.rd_geom.specs.Plane.{Rectangle}
 use Rattle.rd_keys.specs.Keys.{BoxKey}
 use Rattle.rd_list.specs.Entries.{nil}
 use Rattle.rd_list.specs.Lists.{without_touched}
-use Rattle.rd_list.proofs.Routing.{both_true}
+use Rattle.rd_list.proofs.Merges.Routing.{both_true}
 use Rattle.rd_tree.specs.Forest.{empty, tree}
 use Rattle.rd_tree.specs.declared.node.Item.{Item}
 use Rattle.rd_tree.specs.Document.{BoxForest}

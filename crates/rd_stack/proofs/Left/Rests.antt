@@ -8,7 +8,7 @@ use Rattle.rd_item.specs.declared.leaf.Leaf.{Leaf}
 use Rattle.rd_list.specs.Wrappers.{Wrapper}
 use Rattle.rd_list.specs.Entries.{Entries, nil, ◌▷◌, each}
 use Rattle.rd_list.specs.Lists.{without_touched}
-use Rattle.rd_list.proofs.Levelling.{only-join}
+use Rattle.rd_list.proofs.Merges.Levelling.{only-join}
 use Rattle.rd_tree.proofs.Linking.Standing.{cases}
 use Rattle.rd_stack.specs.Painting.{Painted, by_level, insert_by_level, paint_if, level_of, stack_level, is_negative, is_positive, is_zero}
 use Rattle.rd_stack.proofs.Left.Bared.{bare_path, level-bare}

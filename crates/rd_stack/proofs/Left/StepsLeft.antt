@@ -15,8 +15,8 @@ use Rattle.rd_item.specs.declared.leaf.Shape.{Shape}
 use Rattle.rd_list.specs.Wrappers.{Wrapper}
 use Rattle.rd_list.specs.Entries.{Entries, nil, group, ◌▷◌, each, option_entry}
 use Rattle.rd_list.specs.Lists.{without_touched}
-use Rattle.rd_list.proofs.Levelling.{only-join}
-use Rattle.rd_list.proofs.Routing.{both_true}
+use Rattle.rd_list.proofs.Merges.Levelling.{only-join}
+use Rattle.rd_list.proofs.Merges.Routing.{both_true}
 use Rattle.rd_tree.proofs.Linking.Standing.{cases}
 use Rattle.rd_stack.specs.Paths.{BoxData, BoxPath, has_class, is_root, is_context, is_local, is_layer, is_in_line, is_inline_level, is_below, is_all_inline}
 use Rattle.rd_stack.specs.Clips.{clip_of}

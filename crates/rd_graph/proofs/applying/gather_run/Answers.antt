@@ -1,6 +1,6 @@
 use Rattle.std.proofs.Common.{◌+◌, ◌++◌, ◌∙◌, arith, inr}
 use Rattle.std.proofs.lemmas.List.{length-append}
-use Rattle.rd_graph.proofs.RunGathering.{run_more, outside_more}
+use Rattle.rd_graph.proofs.LinedUp.RunGathering.{run_more, outside_more}
 use Rattle.rd_graph.proofs.applying.gather_run.Goals as goal
 
 pub loop-i-preserved : goal.loop-i-preserved

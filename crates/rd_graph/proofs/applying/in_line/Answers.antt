@@ -1,6 +1,6 @@
 use Rattle.std.proofs.Common.{arith}
-use Rattle.rd_graph.proofs.AllMade.{made_alone}
-use Rattle.rd_graph.proofs.PutInPlace.{placed}
+use Rattle.rd_graph.proofs.LinedUp.AllMade.{made_alone}
+use Rattle.rd_graph.proofs.Patches.PutInPlace.{placed}
 use Rattle.rd_graph.proofs.applying.in_line.Goals as goal
 
 pub returns-then-is_all_made : goal.returns-then-is_all_made

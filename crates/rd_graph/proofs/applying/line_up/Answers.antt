@@ -3,8 +3,8 @@ use Rattle.std.proofs.lemmas.List.{length-append}
 use Rattle.std.specs.Prelude.{vec_len}
 use Rattle.rd_graph.specs.Gathered.{gathered}
 use Rattle.rd_graph.specs.Runs.{places_aside}
-use Rattle.rd_graph.proofs.RunGathering.{woven_is}
-use Rattle.rd_graph.proofs.RunLines.{none_long}
+use Rattle.rd_graph.proofs.LinedUp.RunGathering.{woven_is}
+use Rattle.rd_graph.proofs.LinedUp.RunLines.{none_long}
 use Rattle.rd_graph.proofs.applying.line_up.Goals as goal
 
 pub returns-then-has_room_aside : goal.returns-then-has_room_aside

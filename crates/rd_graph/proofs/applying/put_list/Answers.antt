@@ -1,5 +1,5 @@
 use Rattle.std.proofs.Common.{refl, arith}
-use Rattle.rd_graph.proofs.PutInPlace.{list_put}
+use Rattle.rd_graph.proofs.Patches.PutInPlace.{list_put}
 use Rattle.rd_graph.proofs.applying.put_list.Goals as goal
 
 pub returns : goal.returns

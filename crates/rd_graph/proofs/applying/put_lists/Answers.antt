@@ -1,5 +1,5 @@
 use Rattle.std.proofs.Common.{arith}
-use Rattle.rd_graph.proofs.PutInPlace.{list_within, lists_put, lists_left}
+use Rattle.rd_graph.proofs.Patches.PutInPlace.{list_within, lists_put, lists_left}
 use Rattle.rd_graph.proofs.applying.put_lists.Goals as goal
 
 pub put_list-requires : goal.put_list-requires

@@ -4,9 +4,9 @@ use Rattle.std.proofs.lemmas.List.{length-append}
 use Rattle.rd_graph.specs.Gathered.{gathered}
 use Rattle.rd_graph.specs.Runs.{places_aside}
 use Rattle.rd_graph.specs.declared.runs.Run.{Run}
-use Rattle.rd_graph.proofs.ListsAt.{get_same}
-use Rattle.rd_graph.proofs.RunLines.{gathered_append}
-use Rattle.rd_graph.proofs.RunGathering.{aside_more, aside_next, aside_within, kept_on, run_within}
+use Rattle.rd_graph.proofs.Patches.ListsAt.{get_same}
+use Rattle.rd_graph.proofs.LinedUp.RunLines.{gathered_append}
+use Rattle.rd_graph.proofs.LinedUp.RunGathering.{aside_more, aside_next, aside_within, kept_on, run_within}
 use Rattle.rd_graph.proofs.applying.set_aside.Goals as goal
 
 pub set_run_aside-requires-clause-places : goal.set_run_aside-requires-clause-places

@@ -1,6 +1,6 @@
 use Rattle.std.proofs.Common.{◌++◌, ◌∙◌, ap, arith, sym}
 use Rattle.rd_graph.specs.Gathered.{gathered}
-use Rattle.rd_graph.proofs.RunGathering.{aside_one, kept_outside, one_long}
+use Rattle.rd_graph.proofs.LinedUp.RunGathering.{aside_one, kept_outside, one_long}
 use Rattle.rd_graph.proofs.applying.set_run_aside.Goals as goal
 
 pub gather_run-requires-clause-room : goal.gather_run-requires-clause-room

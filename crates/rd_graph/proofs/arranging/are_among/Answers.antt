@@ -1,4 +1,4 @@
-use Rattle.rd_graph.proofs.Countings.{yes_if, no_if, met_next, ahead_next, met_all, met_not}
+use Rattle.rd_graph.proofs.Lists.Countings.{yes_if, no_if, met_next, ahead_next, met_all, met_not}
 use Rattle.rd_graph.proofs.arranging.are_among.Goals as goal
 
 pub loop-place-preserved : goal.loop-place-preserved

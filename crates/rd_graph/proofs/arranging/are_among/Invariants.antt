@@ -1,5 +1,5 @@
 use Rattle.std.proofs.Common.{ℕ, ◌<◌, length, take, get_or}
-use Rattle.rd_graph.proofs.Listing.{Has}
+use Rattle.rd_graph.proofs.Lists.Listing.{Has}
 use Rattle.rd_graph.proofs.arranging.are_among.Given as goal
 
 abbrev pub invariant-loop-place : goal.invariant-loop-place

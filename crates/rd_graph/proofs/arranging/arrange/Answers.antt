@@ -4,8 +4,8 @@ use Rattle.rd_graph.specs.Patches.{CanBePatched, IsArranged}
 use Rattle.rd_graph.specs.Internal.Seen.{seen}
 use Rattle.rd_graph.specs.Runs.{places_of}
 use Rattle.rd_graph.specs.declared.graph.Node.{Node}
-use Rattle.rd_graph.proofs.StandingStill.{still_line}
-use Rattle.rd_graph.proofs.MadeLines.{made_line_of}
+use Rattle.rd_graph.proofs.LinedUp.StandingStill.{still_line}
+use Rattle.rd_graph.proofs.LinedUp.MadeLines.{made_line_of}
 use Rattle.rd_graph.proofs.arranging.arrange.Goals as goal
 
 pub returns-then-not-is_empty : goal.returns-then-not-is_empty

@@ -1,7 +1,7 @@
 use Rattle.std.proofs.Common.{refl, ap, arith, ℕ, List, ◌++◌, length}
 use Rattle.rd_graph.specs.Internal.Walks.{counted}
-use Rattle.rd_graph.proofs.Gatherings.{whole_at_end}
-use Rattle.rd_graph.proofs.Countings.{counted_next, free_few}
+use Rattle.rd_graph.proofs.Lists.Gatherings.{whole_at_end}
+use Rattle.rd_graph.proofs.Lists.Countings.{counted_next, free_few}
 use Rattle.rd_graph.proofs.arranging.counted_places.Goals as goal
 
 pub loop-place-preserved : goal.loop-place-preserved

@@ -1,4 +1,4 @@
-use Rattle.rd_graph.proofs.Countings.{yes_if, no_if, rises_more, rises_least, rises_end, rises_all}
+use Rattle.rd_graph.proofs.Lists.Countings.{yes_if, no_if, rises_more, rises_least, rises_end, rises_all}
 use Rattle.rd_graph.proofs.arranging.rises.Goals as goal
 
 pub loop-place-preserved : goal.loop-place-preserved

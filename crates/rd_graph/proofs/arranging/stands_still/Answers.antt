@@ -1,5 +1,5 @@
 use Rattle.std.proofs.Common.{refl}
-use Rattle.rd_graph.proofs.Countings.{are_rising}
+use Rattle.rd_graph.proofs.Lists.Countings.{are_rising}
 use Rattle.rd_graph.proofs.arranging.stands_still.Goals as goal
 
 pub are_among-requires-clause-places : goal.are_among-requires-clause-places

@@ -2,9 +2,9 @@ use Rattle.std.proofs.Common.{◌∙◌, ap, sym, subst, List}
 use Rattle.std.specs.Prelude.{Contains}
 use Rattle.rd_keys.specs.declared.entry.EntryKey.{EntryKey}
 use Rattle.rd_graph.specs.Internal.Relisting.{mark_of}
-use Rattle.rd_graph.proofs.Listing.{has_from}
-use Rattle.rd_graph.proofs.AskedPlaces.{mark_fits, mark_next}
-use Rattle.rd_graph.proofs.Marks.{take_whole}
+use Rattle.rd_graph.proofs.Lists.Listing.{has_from}
+use Rattle.rd_graph.proofs.Patches.AskedPlaces.{mark_fits, mark_next}
+use Rattle.rd_graph.proofs.Patches.Marks.{take_whole}
 use Rattle.rd_graph.proofs.asking.mark_names.Goals as goal
 
 pub loop-name-init : goal.loop-name-init

@@ -2,8 +2,8 @@ use Rattle.std.proofs.Common.{sym, subst, ℕ, ◌<◌, List, length}
 use Rattle.std.specs.Prelude.{Contains}
 use Rattle.rd_keys.specs.declared.entry.EntryKey.{EntryKey}
 use Rattle.rd_graph.specs.Internal.Trimming.{HasMark}
-use Rattle.rd_graph.proofs.Listing.{has_from, contains_from}
-use Rattle.rd_graph.proofs.AskedPlaces.{lists_next, take_lists}
+use Rattle.rd_graph.proofs.Lists.Listing.{has_from, contains_from}
+use Rattle.rd_graph.proofs.Patches.AskedPlaces.{lists_next, take_lists}
 use Rattle.rd_graph.proofs.asking.marks_asked.Goals as goal
 
 pub loop-list-preserved : goal.loop-list-preserved

@@ -1,5 +1,5 @@
 use Rattle.rd_graph.specs.Internal.Tables.{at}
-use Rattle.rd_graph.proofs.AskedPlaces.{asked_next}
+use Rattle.rd_graph.proofs.Patches.AskedPlaces.{asked_next}
 use Rattle.rd_graph.proofs.asking.places_asked.Goals as goal
 
 pub loop-i-preserved : goal.loop-i-preserved

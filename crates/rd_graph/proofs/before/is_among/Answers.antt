@@ -1,8 +1,8 @@
 use Rattle.std.proofs.Common.{◌∙◌, ap, sym}
 use Rattle.rd_keys.specs.declared.entry.EntryKey.{EntryKey}
 use Rattle.rd_graph.specs.Names.{same_entry}
-use Rattle.rd_graph.proofs.Entries.{same_entry-sound, same_entry-refl}
-use Rattle.rd_graph.proofs.Joining.{in_at, in_next}
+use Rattle.rd_graph.proofs.Lists.Entries.{same_entry-sound, same_entry-refl}
+use Rattle.rd_graph.proofs.Reaching.Joining.{in_at, in_next}
 use Rattle.rd_graph.proofs.before.is_among.Goals as goal
 
 pub returns-then-is_same : goal.returns-then-is_same

@@ -7,7 +7,7 @@ use Rattle.rd_graph.specs.Internal.Seen.{seen, tagged}
 use Rattle.rd_graph.specs.Internal.Tables.{has_it}
 use Rattle.rd_graph.specs.Names.{same_entry}
 use Rattle.rd_graph.specs.declared.graph.Node.{Node}
-use Rattle.rd_graph.proofs.Joined.{joins_all}
+use Rattle.rd_graph.proofs.Reaching.Joined.{joins_all}
 use Rattle.rd_graph.proofs.chain.join_at.Goals as goal
 
 pub returns : goal.returns

@@ -1,7 +1,7 @@
 use Rattle.std.proofs.Common.{◌∙◌, ap, sym}
 use Rattle.rd_keys.specs.declared.entry.EntryKey.{EntryKey}
 use Rattle.rd_graph.specs.Internal.Relisting.{has_mark}
-use Rattle.rd_graph.proofs.Marks.{some_at, some_next}
+use Rattle.rd_graph.proofs.Patches.Marks.{some_at, some_next}
 use Rattle.rd_graph.proofs.changing.any_marked.Goals as goal
 
 pub loop-name-preserved : goal.loop-name-preserved

@@ -2,7 +2,7 @@ use Rattle.std.proofs.lemmas.Result.{IfOk-weaker}
 use Rattle.rd_graph.specs.Internal.Patching.{lists_seen}
 use Rattle.rd_graph.specs.Internal.Seen.{seen}
 use Rattle.rd_graph.specs.Internal.Tables.{has_it}
-use Rattle.rd_graph.proofs.Along.{relisted}
+use Rattle.rd_graph.proofs.Patches.Along.{relisted}
 use Rattle.rd_graph.proofs.changing.changed_by.Goals as goal
 
 pub returns : goal.returns

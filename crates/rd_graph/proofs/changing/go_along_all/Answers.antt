@@ -6,10 +6,10 @@ use Rattle.rd_graph.specs.Internal.Relisting.{GoesAlong}
 use Rattle.rd_graph.specs.Internal.Seen.{seen}
 use Rattle.rd_graph.specs.Internal.Tables.{has_it}
 use Rattle.rd_graph.specs.Internal.Words.{resolved_by}
-use Rattle.rd_graph.proofs.Along.{along_none, along_next, along_no_node}
-use Rattle.rd_graph.proofs.LineFacts.{seen_length}
-use Rattle.rd_graph.proofs.Marks.{take_whole}
-use Rattle.rd_graph.proofs.Rising.{any_of, found_at, found_whole, found_within}
+use Rattle.rd_graph.proofs.Patches.Along.{along_none, along_next, along_no_node}
+use Rattle.rd_graph.proofs.LinedUp.LineFacts.{seen_length}
+use Rattle.rd_graph.proofs.Patches.Marks.{take_whole}
+use Rattle.rd_graph.proofs.Lists.Rising.{any_of, found_at, found_whole, found_within}
 use Rattle.rd_graph.proofs.changing.go_along_all.Goals as goal
 
 pub loop-i-init : goal.loop-i-init

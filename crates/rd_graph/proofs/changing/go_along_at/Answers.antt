@@ -6,7 +6,7 @@ use Rattle.rd_graph.specs.Internal.Relisting.{AddsAlong}
 use Rattle.rd_graph.specs.Internal.Seen.{seen_one}
 use Rattle.rd_graph.specs.Internal.Tables.{has_it}
 use Rattle.rd_graph.specs.Internal.Words.{resolved_by}
-use Rattle.rd_graph.proofs.SeenAt.{seen_at}
+use Rattle.rd_graph.proofs.Patches.SeenAt.{seen_at}
 use Rattle.rd_graph.proofs.changing.go_along_at.Goals as goal
 
 pub returns-in-Some : goal.returns-in-Some

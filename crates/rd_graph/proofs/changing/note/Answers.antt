@@ -2,7 +2,7 @@ use Rattle.std.proofs.Common.{◌∙◌, ap, sym, subst, List, true}
 use Rattle.smallvec.specs.SmallVec.{SmallVec}
 use Rattle.rd_keys.specs.declared.entry.EntryKey.{EntryKey}
 use Rattle.rd_graph.specs.Internal.Words.{NotesBy, resolved_by}
-use Rattle.rd_graph.proofs.Numbers.{noted_at}
+use Rattle.rd_graph.proofs.Patches.Numbers.{noted_at}
 use Rattle.rd_graph.proofs.changing.note.Goals as goal
 
 pub put_note-requires : goal.put_note-requires

@@ -5,11 +5,11 @@ use Rattle.rd_graph.specs.Internal.Relisting.{AreMarked, AreNumbered}
 use Rattle.rd_graph.specs.Internal.Seen.{seen, seen_one}
 use Rattle.rd_graph.specs.Internal.Tables.{has_it}
 use Rattle.rd_graph.specs.Internal.Words.{noted_by}
-use Rattle.rd_graph.proofs.Numbers.{none_noted}
-use Rattle.rd_graph.proofs.Late.{SoFar, so_first, so_next, so_all, notes_all}
-use Rattle.rd_graph.proofs.Quiet.{met_first, met_next, next_after, next_within, quiet_where, so_to, stays_between}
-use Rattle.rd_graph.proofs.Rising.{quiet_before}
-use Rattle.rd_graph.proofs.SeenAt.{seen_at, seen_length, seen_whole}
+use Rattle.rd_graph.proofs.Patches.Numbers.{none_noted}
+use Rattle.rd_graph.proofs.Patches.Late.{SoFar, so_first, so_next, so_all, notes_all}
+use Rattle.rd_graph.proofs.Patches.Quiet.{met_first, met_next, next_after, next_within, quiet_where, so_to, stays_between}
+use Rattle.rd_graph.proofs.Lists.Rising.{quiet_before}
+use Rattle.rd_graph.proofs.Patches.SeenAt.{seen_at, seen_length, seen_whole}
 use Rattle.rd_graph.proofs.changing.pass_all.Goals as goal
 
 pub loop-place-init : goal.loop-place-init

@@ -3,8 +3,8 @@ use Rattle.rd_graph.specs.Internal.Patching.{lists_seen}
 use Rattle.rd_graph.specs.Internal.Seen.{seen}
 use Rattle.rd_graph.specs.Internal.Tables.{has_it}
 use Rattle.rd_graph.specs.Internal.Words.{noted_by}
-use Rattle.rd_graph.proofs.Late.{SoFar}
-use Rattle.rd_graph.proofs.Quiet.{HasMet}
+use Rattle.rd_graph.proofs.Patches.Late.{SoFar}
+use Rattle.rd_graph.proofs.Patches.Quiet.{HasMet}
 use Rattle.rd_graph.proofs.changing.pass_all.Given as goal
 
 abbrev pub decreases-loop-place : goal.decreases-loop-place

@@ -1,8 +1,8 @@
 use Rattle.std.proofs.Common.{arith}
 use Rattle.rd_graph.specs.Internal.Relisting.{has_mark}
 use Rattle.rd_graph.specs.Internal.Seen.{seen, seen_one}
-use Rattle.rd_graph.proofs.Quiet.{quiet_next}
-use Rattle.rd_graph.proofs.SeenAt.{seen_at}
+use Rattle.rd_graph.proofs.Patches.Quiet.{quiet_next}
+use Rattle.rd_graph.proofs.Patches.SeenAt.{seen_at}
 use Rattle.rd_graph.proofs.changing.past_runs.Goals as goal
 
 pub loop-place-preserved : goal.loop-place-preserved

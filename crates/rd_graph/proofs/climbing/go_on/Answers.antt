@@ -1,7 +1,7 @@
 use Rattle.std.specs.Prelude.{Some}
 use Rattle.std.proofs.Common.{◌∙◌, ap}
 use Rattle.rd_graph.specs.Names.{place_of, same_entry}
-use Rattle.rd_graph.proofs.Rising.{found_within}
+use Rattle.rd_graph.proofs.Lists.Rising.{found_within}
 use Rattle.rd_graph.proofs.climbing.go_on.Goals as goal
 
 pub go_on_at-requires-clause-within : goal.go_on_at-requires-clause-within

@@ -3,8 +3,8 @@ use Rattle.rd_graph.specs.Gathered.{gathered}
 use Rattle.rd_graph.specs.Graphs.{nodes}
 use Rattle.rd_graph.specs.Internal.Seen.{seen}
 use Rattle.rd_graph.specs.Names.{same_entry}
-use Rattle.rd_graph.proofs.Listing.{contains_from}
-use Rattle.rd_graph.proofs.Entries.{in_has, same_entry-sound}
+use Rattle.rd_graph.proofs.Lists.Listing.{contains_from}
+use Rattle.rd_graph.proofs.Lists.Entries.{in_has, same_entry-sound}
 use Rattle.rd_graph.proofs.gone.gone_at.Goals as goal
 
 pub returns-clause-marked : goal.returns-clause-marked

@@ -5,8 +5,8 @@ use Rattle.rd_graph.specs.Graphs.{nodes}
 use Rattle.rd_graph.specs.Internal.Seen.{seen}
 use Rattle.rd_graph.specs.Internal.Relisting.{mark_of}
 use Rattle.rd_graph.specs.declared.graph.Node.{Node}
-use Rattle.rd_graph.proofs.Listing.{has_from}
-use Rattle.rd_graph.proofs.Marks.{marked_next, mark_small, take_whole}
+use Rattle.rd_graph.proofs.Lists.Listing.{has_from}
+use Rattle.rd_graph.proofs.Patches.Marks.{marked_next, mark_small, take_whole}
 use Rattle.rd_graph.proofs.gone.marks_at.Goals as goal
 
 pub index_mut-requires : goal.index_mut-requires

@@ -4,7 +4,7 @@ use Rattle.rd_graph.specs.Gathered.{gathered}
 use Rattle.rd_graph.specs.Graphs.{nodes}
 use Rattle.rd_graph.specs.Internal.Seen.{seen}
 use Rattle.rd_graph.specs.Internal.Relisting.{mark_of}
-use Rattle.rd_graph.proofs.Listing.{Has}
+use Rattle.rd_graph.proofs.Lists.Listing.{Has}
 use Rattle.rd_graph.proofs.gone.marks_at.Given as goal
 
 abbrev pub invariant-loop-place : goal.invariant-loop-place

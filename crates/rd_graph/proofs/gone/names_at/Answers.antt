@@ -5,8 +5,8 @@ use Rattle.rd_graph.specs.Internal.Seen.{seen}
 use Rattle.rd_graph.specs.Names.{is_in, same_entry}
 use Rattle.rd_graph.specs.declared.graph.Node.{Node}
 use Rattle.rd_graph.specs.Internal.Tables.{at}
-use Rattle.rd_graph.proofs.Marks.{named_next, take_whole}
-use Rattle.rd_graph.proofs.Numbers.{numbered_next, numbers_apart}
+use Rattle.rd_graph.proofs.Patches.Marks.{named_next, take_whole}
+use Rattle.rd_graph.proofs.Patches.Numbers.{numbered_next, numbers_apart}
 use Rattle.rd_graph.proofs.gone.names_at.Goals as goal
 
 pub loop-i-preserved : goal.loop-i-preserved

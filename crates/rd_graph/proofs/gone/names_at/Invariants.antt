@@ -3,7 +3,7 @@ use Rattle.rd_graph.specs.Gathered.{gathered}
 use Rattle.rd_graph.specs.Graphs.{nodes}
 use Rattle.rd_graph.specs.Internal.Seen.{seen}
 use Rattle.rd_graph.specs.Internal.Tables.{at, fits_list}
-use Rattle.rd_graph.proofs.Numbers.{HaveNumbers}
+use Rattle.rd_graph.proofs.Patches.Numbers.{HaveNumbers}
 use Rattle.rd_graph.proofs.gone.names_at.Given as goal
 
 abbrev pub invariant-loop-i : goal.invariant-loop-i

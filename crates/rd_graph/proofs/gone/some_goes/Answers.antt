@@ -1,7 +1,7 @@
 use Rattle.std.proofs.Common.{◌∙◌, ap, sym}
 use Rattle.rd_keys.specs.declared.entry.EntryKey.{EntryKey}
 use Rattle.rd_graph.specs.Internal.Tables.{has_it}
-use Rattle.rd_graph.proofs.Marks.{some_at, some_next}
+use Rattle.rd_graph.proofs.Patches.Marks.{some_at, some_next}
 use Rattle.rd_graph.proofs.gone.some_goes.Goals as goal
 
 pub loop-key-preserved : goal.loop-key-preserved

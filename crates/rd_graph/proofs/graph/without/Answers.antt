@@ -2,7 +2,7 @@ use Rattle.std.proofs.Common.{refl}
 use Rattle.std.proofs.lemmas.Result.{IfOk-weaker}
 use Rattle.rd_graph.specs.Internal.Seen.{seen}
 use Rattle.rd_graph.specs.Internal.Tables.{has_it}
-use Rattle.rd_graph.proofs.Dropping.{dropped_by}
+use Rattle.rd_graph.proofs.Reaching.Dropping.{dropped_by}
 use Rattle.rd_graph.proofs.graph.without.Goals as goal
 
 pub returns-clause-order : goal.returns-clause-order

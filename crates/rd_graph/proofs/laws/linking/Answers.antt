@@ -1,4 +1,4 @@
-use Rattle.rd_graph.proofs.Calls.{linking}
+use Rattle.rd_graph.proofs.Reaching.Calls.{linking}
 use Rattle.rd_graph.proofs.laws.linking.Goals as goal
 
 pub returns : goal.returns

@@ -1,4 +1,4 @@
-use Rattle.rd_graph.proofs.Calls.{patching}
+use Rattle.rd_graph.proofs.Reaching.Calls.{patching}
 use Rattle.rd_graph.proofs.laws.patching.Goals as goal
 
 pub returns : goal.returns

@@ -1,4 +1,4 @@
-use Rattle.rd_graph.proofs.Calls.{stitching}
+use Rattle.rd_graph.proofs.Reaching.Calls.{stitching}
 use Rattle.rd_graph.proofs.laws.stitching.Goals as goal
 
 pub returns : goal.returns

@@ -4,9 +4,9 @@ use Rattle.std.specs.Prelude.{vec_len}
 use Rattle.std.specs.Vec.Iter.{into_iter_items}
 use Rattle.rd_graph.specs.Runs.{places_aside}
 use Rattle.rd_graph.specs.declared.runs.Run.{Run}
-use Rattle.rd_graph.proofs.ListsAt.{get_same}
-use Rattle.rd_graph.proofs.RunLines.{count_more, count_within, left_of, passed_to, run_of_made, run_of_old, then_aside, then_made, then_old}
-use Rattle.rd_graph.proofs.RunGathering.{aside_more, aside_none, aside_within, one_long, taken_aside, taken_plain, woven_on}
+use Rattle.rd_graph.proofs.Patches.ListsAt.{get_same}
+use Rattle.rd_graph.proofs.LinedUp.RunLines.{count_more, count_within, left_of, passed_to, run_of_made, run_of_old, then_aside, then_made, then_old}
+use Rattle.rd_graph.proofs.LinedUp.RunGathering.{aside_more, aside_none, aside_within, one_long, taken_aside, taken_plain, woven_on}
 use Rattle.rd_graph.proofs.lining_up.gather_rising.Goals as goal
 
 pub move_run-requires-clause-rest : goal.move_run-requires-clause-rest

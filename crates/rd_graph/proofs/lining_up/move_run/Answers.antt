@@ -1,6 +1,6 @@
 use Rattle.std.proofs.Common.{arith}
 use Rattle.std.specs.Vec.Iter.{into_iter_items}
-use Rattle.rd_graph.proofs.RunLines.{dropped_on, taken_on}
+use Rattle.rd_graph.proofs.LinedUp.RunLines.{dropped_on, taken_on}
 use Rattle.rd_graph.proofs.lining_up.move_run.Goals as goal
 
 pub loop-preserved : goal.loop-preserved

@@ -1,7 +1,7 @@
 use Rattle.std.proofs.Common.{◌∙◌, ap, drop, arith}
 use Rattle.std.specs.Vec.Iter.{into_iter_items}
 use Rattle.std.proofs.lemmas.List.{drop-drop}
-use Rattle.rd_graph.proofs.RunLines.{one_passed}
+use Rattle.rd_graph.proofs.LinedUp.RunLines.{one_passed}
 use Rattle.rd_graph.proofs.lining_up.pass_over.Goals as goal
 
 pub loop-preserved : goal.loop-preserved

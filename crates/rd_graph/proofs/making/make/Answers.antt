@@ -1,7 +1,7 @@
 use Rattle.std.proofs.Common.{[], arith}
 use Rattle.rd_graph.specs.Internal.MadeNodes.{made_after}
 use Rattle.rd_graph.specs.Internal.Seen.{seen}
-use Rattle.rd_graph.proofs.MadeNodes.{made_next}
+use Rattle.rd_graph.proofs.Patches.MadeNodes.{made_next}
 use Rattle.rd_graph.proofs.making.make.Goals as goal
 
 pub loop-i-preserved : goal.loop-i-preserved

@@ -2,7 +2,7 @@ use Rattle.std.proofs.Common.{◌∙◌, ap, sym}
 use Rattle.std.proofs.lemmas.Result.{on_ok_weaker}
 use Rattle.rd_graph.specs.Names.{same_entry}
 use Rattle.rd_graph.specs.Internal.Passes.{all_pushed}
-use Rattle.rd_graph.proofs.Numbers.{note_here, note_none}
+use Rattle.rd_graph.proofs.Patches.Numbers.{note_here, note_none}
 use Rattle.rd_graph.proofs.resolving.add_all_noted.Goals as goal
 
 pub returns-then-number-notes-clause-found : goal.returns-then-number-notes-clause-found

@@ -2,7 +2,7 @@ use Rattle.std.proofs.Common.{◌∙◌, ap, sym}
 use Rattle.std.proofs.lemmas.Result.{IfOk-weaker}
 use Rattle.rd_graph.specs.Names.{same_entry}
 use Rattle.rd_graph.specs.Internal.Passes.{all_pushed}
-use Rattle.rd_graph.proofs.Numbers.{in_place_none, in_place_some}
+use Rattle.rd_graph.proofs.Patches.Numbers.{in_place_none, in_place_some}
 use Rattle.rd_graph.proofs.resolving.add_few.Goals as goal
 
 pub returns-in-Some : goal.returns-in-Some

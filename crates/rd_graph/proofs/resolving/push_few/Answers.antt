@@ -2,7 +2,7 @@ use Rattle.std.proofs.Common.{◌∙◌, ap}
 use Rattle.rd_keys.specs.declared.entry.EntryKey.{EntryKey}
 use Rattle.rd_graph.specs.Names.{same_entry}
 use Rattle.rd_graph.specs.Internal.Passes.{pushed}
-use Rattle.rd_graph.proofs.Entries.{pushes_next}
+use Rattle.rd_graph.proofs.Lists.Entries.{pushes_next}
 use Rattle.rd_graph.proofs.resolving.push_few.Goals as goal
 
 pub loop-key-preserved : goal.loop-key-preserved

@@ -4,7 +4,7 @@ use Rattle.rd_graph.specs.Names.{same_entry}
 use Rattle.rd_graph.specs.Internal.Passes.{all_pushed}
 use Rattle.rd_graph.specs.Internal.Words.{in_place_by, noted_by}
 use Rattle.rd_graph.specs.Internal.Tables.{has_it}
-use Rattle.rd_graph.proofs.Stitches.{resolves_next}
+use Rattle.rd_graph.proofs.Reaching.Stitches.{resolves_next}
 use Rattle.rd_graph.proofs.resolving.resolve_few.Goals as goal
 
 pub loop-key-preserved : goal.loop-key-preserved

@@ -1,5 +1,5 @@
 use Rattle.std.proofs.Common.{sym}
-use Rattle.rd_graph.proofs.RunGathering.{one_long}
+use Rattle.rd_graph.proofs.LinedUp.RunGathering.{one_long}
 use Rattle.rd_graph.proofs.runs.aside_of.Goals as goal
 
 pub returns-then-run : goal.returns-then-run

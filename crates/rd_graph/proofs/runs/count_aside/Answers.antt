@@ -2,8 +2,8 @@ use Rattle.std.proofs.Common.{false, ◌∷◌, [], ap, arith, get_or, length, t
 use Rattle.std.proofs.lemmas.List.{length-append}
 use Rattle.rd_graph.specs.Runs.{places_aside}
 use Rattle.rd_graph.specs.declared.runs.Run.{Run}
-use Rattle.rd_graph.proofs.ListsAt.{get_same}
-use Rattle.rd_graph.proofs.RunGathering.{aside_more}
+use Rattle.rd_graph.proofs.Patches.ListsAt.{get_same}
+use Rattle.rd_graph.proofs.LinedUp.RunGathering.{aside_more}
 use Rattle.rd_graph.proofs.runs.count_aside.Goals as goal
 
 pub loop-run-preserved : goal.loop-run-preserved

@@ -1,7 +1,7 @@
 use Rattle.std.proofs.Common.{false, arith, get_or}
 use Rattle.rd_graph.specs.declared.runs.Run.{Run}
-use Rattle.rd_graph.proofs.ListsAt.{get_same}
-use Rattle.rd_graph.proofs.RunLines.{count_more}
+use Rattle.rd_graph.proofs.Patches.ListsAt.{get_same}
+use Rattle.rd_graph.proofs.LinedUp.RunLines.{count_more}
 use Rattle.rd_graph.proofs.runs.count_of.Goals as goal
 
 pub loop-run-preserved : goal.loop-run-preserved

@@ -1,5 +1,5 @@
 use Rattle.std.proofs.Common.{◌≡◌, ◌+◌, ◌-◌, refl, arith, length}
-use Rattle.rd_graph.proofs.RunLines.{lengthened}
+use Rattle.rd_graph.proofs.LinedUp.RunLines.{lengthened}
 use Rattle.rd_graph.proofs.runs.push_place.Goals as goal
 
 pub returns-then-goes_on : goal.returns-then-goes_on

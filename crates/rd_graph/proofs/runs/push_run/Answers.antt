@@ -1,4 +1,4 @@
-use Rattle.rd_graph.proofs.RunLines.{places_put}
+use Rattle.rd_graph.proofs.LinedUp.RunLines.{places_put}
 use Rattle.rd_graph.proofs.runs.push_run.Goals as goal
 
 pub returns : goal.returns

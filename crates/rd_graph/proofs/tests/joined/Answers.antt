@@ -1,6 +1,6 @@
 use Rattle.std.proofs.Common.{rules, [], ◌∷◌, inl, inr}
 use Rattle.rd_graph.specs.Orders.{Before, Once}
-use Rattle.rd_graph.proofs.Listing.{has_from, contains_from}
+use Rattle.rd_graph.proofs.Lists.Listing.{has_from, contains_from}
 use Rattle.rd_keys.specs.Keys.{BoxKey}
 use Rattle.rd_keys.specs.declared.entry.EntryKey.{EntryKey}
 use Rattle.rd_keys.specs.declared.entry.EntryKey.TheVariants as key

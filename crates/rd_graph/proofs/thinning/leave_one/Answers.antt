@@ -1,7 +1,7 @@
 use Rattle.std.proofs.Common.{◌∙◌, sym, refl, inl}
 use Rattle.rd_graph.specs.Names.{same_entry}
-use Rattle.rd_graph.proofs.Entries.{in_has, same_entry-sound}
-use Rattle.rd_graph.proofs.Listing.{contains_from}
+use Rattle.rd_graph.proofs.Lists.Entries.{in_has, same_entry-sound}
+use Rattle.rd_graph.proofs.Lists.Listing.{contains_from}
 use Rattle.rd_graph.proofs.thinning.leave_one.Goals as goal
 
 pub returns-then-is_among : goal.returns-then-is_among

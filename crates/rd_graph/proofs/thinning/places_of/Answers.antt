@@ -1,7 +1,7 @@
 use Rattle.std.proofs.Common.{refl, sym, subst, ◌∙◌}
 use Rattle.rd_graph.specs.Orders.{Once}
 use Rattle.rd_graph.specs.Internal.Seen.{seen}
-use Rattle.rd_graph.proofs.Lines.{order_more, order_all}
+use Rattle.rd_graph.proofs.Reaching.Lines.{order_more, order_all}
 use Rattle.rd_graph.proofs.thinning.places_of.Goals as goal
 
 pub loop-node-preserved : goal.loop-node-preserved

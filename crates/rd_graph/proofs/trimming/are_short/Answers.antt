@@ -2,8 +2,8 @@ use Rattle.std.proofs.Common.{◌<◌, ℕ, List, sym, subst, length, arith}
 use Rattle.std.specs.Prelude.{Contains}
 use Rattle.smallvec.specs.SmallVec.{SmallVec}
 use Rattle.rd_keys.specs.declared.entry.EntryKey.{EntryKey}
-use Rattle.rd_graph.proofs.AskedPlaces.{short_next, take_lists}
-use Rattle.rd_graph.proofs.Listing.{has_from}
+use Rattle.rd_graph.proofs.Patches.AskedPlaces.{short_next, take_lists}
+use Rattle.rd_graph.proofs.Lists.Listing.{has_from}
 use Rattle.rd_graph.proofs.trimming.are_short.Goals as goal
 
 pub loop-list-preserved : goal.loop-list-preserved

@@ -1,5 +1,5 @@
 use Rattle.std.proofs.Common.{◌∙◌, length-set}
-use Rattle.rd_graph.proofs.Markings.{marks_next, marks_all}
+use Rattle.rd_graph.proofs.LinedUp.Markings.{marks_next, marks_all}
 use Rattle.rd_graph.proofs.walking.marks.Goals as goal
 
 pub loop-place-preserved : goal.loop-place-preserved

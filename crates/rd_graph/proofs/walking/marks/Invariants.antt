@@ -1,7 +1,7 @@
 use Rattle.std.proofs.Common.{◌≡◌, ℕ, ◌<◌, length, take}
 use Rattle.std.specs.Prelude.{IsTrue, ◌↔◌}
 use Rattle.rd_graph.specs.Internal.Walks.{stays_at}
-use Rattle.rd_graph.proofs.Listing.{Has}
+use Rattle.rd_graph.proofs.Lists.Listing.{Has}
 use Rattle.rd_graph.proofs.walking.marks.Given as goal
 
 abbrev pub invariant-loop-place : goal.invariant-loop-place

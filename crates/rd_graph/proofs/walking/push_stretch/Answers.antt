@@ -1,8 +1,8 @@
 use Rattle.std.proofs.Common.{◌∙◌, ap, sym, ◌-◌, ◌++◌}
 use Rattle.rd_graph.specs.Internal.Walks.{staying}
 use Rattle.rd_graph.specs.Runs.{places_of, up_from}
-use Rattle.rd_graph.proofs.Gatherings.{joins_on}
-use Rattle.rd_graph.proofs.RunLines.{stretch_run}
+use Rattle.rd_graph.proofs.Lists.Gatherings.{joins_on}
+use Rattle.rd_graph.proofs.LinedUp.RunLines.{stretch_run}
 use Rattle.rd_graph.proofs.walking.push_stretch.Goals as goal
 
 pub loop-place-preserved : goal.loop-place-preserved

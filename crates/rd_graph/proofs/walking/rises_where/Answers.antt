@@ -1,5 +1,5 @@
-use Rattle.rd_graph.proofs.Countings.{yes_if, no_if}
-use Rattle.rd_graph.proofs.Markings.{where_more, where_not, where_all}
+use Rattle.rd_graph.proofs.Lists.Countings.{yes_if, no_if}
+use Rattle.rd_graph.proofs.LinedUp.Markings.{where_more, where_not, where_all}
 use Rattle.rd_graph.proofs.walking.rises_where.Goals as goal
 
 pub loop-place-preserved : goal.loop-place-preserved

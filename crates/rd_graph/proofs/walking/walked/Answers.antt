@@ -1,5 +1,5 @@
 use Rattle.rd_graph.specs.Runs.{places_of}
-use Rattle.rd_graph.proofs.Markings.{walk_next, walk_end}
+use Rattle.rd_graph.proofs.LinedUp.Markings.{walk_next, walk_end}
 use Rattle.rd_graph.proofs.walking.walked.Goals as goal
 
 pub loop-place-preserved : goal.loop-place-preserved

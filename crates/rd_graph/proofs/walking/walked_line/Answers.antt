@@ -1,6 +1,6 @@
 use Rattle.std.proofs.Common.{refl}
 use Rattle.rd_graph.specs.Runs.{places_of}
-use Rattle.rd_graph.proofs.WalkedLines.{walked_by}
+use Rattle.rd_graph.proofs.LinedUp.WalkedLines.{walked_by}
 use Rattle.rd_graph.proofs.walking.walked_line.Goals as goal
 
 pub returns : goal.returns

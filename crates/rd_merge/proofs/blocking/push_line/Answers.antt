@@ -1,6 +1,6 @@
 use Rattle.std.proofs.Common.{false, get_or, arith}
 use Rattle.rd_graph.specs.declared.runs.Run.{Run}
-use Rattle.rd_graph.proofs.ListsAt.{get_same}
+use Rattle.rd_graph.proofs.Patches.ListsAt.{get_same}
 use Rattle.rd_merge.proofs.Parts.{line_next, line_same, line_full, line_part}
 use Rattle.rd_merge.proofs.blocking.push_line.Goals as goal
 use Rattle.rd_merge.proofs.blocking.push_line.Goals.{then-run-gt0+in-Some-push_parts, else-run-gt0}

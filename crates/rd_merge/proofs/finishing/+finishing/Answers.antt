@@ -1,7 +1,7 @@
 use Rattle.std.proofs.Common.{arith, refl, ap, sym, subst, length, ◌∙◌, ◌≡◌, ◌+◌, ◌∷◌, ◌++◌, []}
 use Rattle.std.specs.Prelude.{option_map, vec_len, None, Some}
 use Rattle.rd_graph.specs.Patches.{line_of}
-use Rattle.rd_graph.proofs.PutInPlace.{fits}
+use Rattle.rd_graph.proofs.Patches.PutInPlace.{fits}
 use Rattle.rd_list.specs.Entries.{◌▷◌, list_size}
 use Rattle.rd_list.specs.Blocks.{Covers}
 use Rattle.rd_list.specs.KeptView.{kept_entries}

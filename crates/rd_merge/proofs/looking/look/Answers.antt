@@ -1,6 +1,6 @@
 use Rattle.std.proofs.Common.{◌∙◌, ◌≤◌, ap, sym, subst, map, length, ℕ, arith}
 use Rattle.rd_graph.specs.Names.{place_of, same_entry}
-use Rattle.rd_graph.proofs.Marks.{take_whole}
+use Rattle.rd_graph.proofs.Patches.Marks.{take_whole}
 use Rattle.rd_list.specs.EntryNames.{entry_names, kept_leaves}
 use Rattle.rd_list.specs.KeptView.{kept_entries}
 use Rattle.rd_list.proofs.Covering.{ahead_first}

@@ -4,9 +4,9 @@ use Rattle.std.specs.Prelude.{vec_len}
 use Rattle.rd_graph.specs.Gathered.{gathered}
 use Rattle.rd_graph.specs.Runs.{up_from}
 use Rattle.rd_graph.specs.declared.runs.Run.{Run}
-use Rattle.rd_graph.proofs.ListsAt.{get_same}
-use Rattle.rd_graph.proofs.RunLines.{count_more, count_within, moved_on}
-use Rattle.rd_graph.proofs.RunGathering.{gathered_same, in_rest, later_in_rest, later_outside, run_within}
+use Rattle.rd_graph.proofs.Patches.ListsAt.{get_same}
+use Rattle.rd_graph.proofs.LinedUp.RunLines.{count_more, count_within, moved_on}
+use Rattle.rd_graph.proofs.LinedUp.RunGathering.{gathered_same, in_rest, later_in_rest, later_outside, run_within}
 use Rattle.rd_merge.proofs.moving.gather.Goals as goal
 
 pub gather_run-requires-clause-places : goal.gather_run-requires-clause-places

@@ -2,7 +2,7 @@ use Rattle.std.proofs.Common.{◌≡◌, ◌≤◌, ◌+◌, ◌++◌, get_or, l
 use Rattle.std.specs.Prelude.{vec_len, vec_capacity}
 use Rattle.rd_graph.specs.Gathered.{gathered}
 use Rattle.rd_graph.specs.Runs.{places_of}
-use Rattle.rd_graph.proofs.Listing.{Has}
+use Rattle.rd_graph.proofs.Lists.Listing.{Has}
 use Rattle.rd_merge.proofs.moving.gather.Given as goal
 
 abbrev pub invariant-loop-run : goal.invariant-loop-run

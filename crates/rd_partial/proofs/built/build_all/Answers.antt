@@ -4,7 +4,7 @@ use Rattle.rd_geom.specs.Plane.{meets}
 use Rattle.rd_geom.specs.Canvas.{canvas_of}
 use Rattle.rd_list.specs.Entries.{flat}
 use Rattle.rd_partial.specs.Numbered.{numbered}
-use Rattle.rd_partial.proofs.Everything.{all_wanted}
+use Rattle.rd_partial.proofs.Pass.Everything.{all_wanted}
 use Rattle.rd_partial.proofs.Visits.{root_size}
 use Rattle.rd_partial.proofs.built.build_all.Goals as goal
 

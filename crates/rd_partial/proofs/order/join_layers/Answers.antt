@@ -1,7 +1,7 @@
 use Rattle.std.proofs.Common.{◌∙◌, sym}
 use Rattle.std.specs.Vec.Iter.{into_iter_items}
 use Rattle.rd_list.specs.Nested.{laid_out}
-use Rattle.rd_partial.proofs.Laid.{lay_more, none_left}
+use Rattle.rd_partial.proofs.Pass.Laid.{lay_more, none_left}
 use Rattle.rd_partial.proofs.order.join_layers.Goals as goal
 
 pub loop-layer-preserved : goal.loop-layer-preserved

@@ -18,9 +18,9 @@ use Rattle.rd_partial.specs.Internal.Given.{gives}
 use Rattle.rd_partial.specs.Internal.Held.{held}
 use Rattle.rd_partial.specs.Internal.Looked.{here_of}
 use Rattle.rd_partial.specs.Internal.Work.{blends_from, passes}
-use Rattle.rd_partial.proofs.Arms.{over_known, two_joined, context_order, aside_order, float_arm, atom_arm, inline_arm, block_arm, lone_arm, auto_arm, real_arm}
+use Rattle.rd_partial.proofs.Pass.Arms.{over_known, two_joined, context_order, aside_order, float_arm, atom_arm, inline_arm, block_arm, lone_arm, auto_arm, real_arm}
 use Rattle.rd_partial.proofs.Kids.{kept_one, kept_end, kept_most, live_next, onward_as, passes_none, passes_of_none, cost_none_below, cost_of_none}
-use Rattle.rd_partial.proofs.Filled.{filled}
+use Rattle.rd_partial.proofs.Pass.Filled.{filled}
 use Rattle.rd_partial.proofs.Searching.{kept_over}
 use Rattle.rd_partial.proofs.walk.+build.Goals as goal
 

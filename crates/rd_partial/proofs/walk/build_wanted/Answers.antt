@@ -6,9 +6,9 @@ use Rattle.rd_keys.specs.Keys.{same_key}
 use Rattle.rd_tree.specs.Forest.{from_some}
 use Rattle.rd_partial.specs.Internal.Pass.{is_one, as_group}
 use Rattle.rd_partial.proofs.Kids.{onward_as}
-use Rattle.rd_partial.proofs.Top.{list_of, count_of, looks_of}
+use Rattle.rd_partial.proofs.Pass.Top.{list_of, count_of, looks_of}
 use Rattle.rd_partial.specs.Internal.Standing.{at_root}
-use Rattle.rd_partial.proofs.Filled.{filled}
+use Rattle.rd_partial.proofs.Pass.Filled.{filled}
 use Rattle.rd_partial.proofs.walk.build_wanted.Goals as goal
 
 pub as_group-requires : goal.as_group-requires

@@ -1,7 +1,7 @@
 use Rattle.std.proofs.Common.{refl, ◌∙◌, sym}
 use Rattle.rd_list.specs.Nested.{laid_out}
 use Rattle.rd_partial.specs.Internal.Pass.{level_in}
-use Rattle.rd_partial.proofs.Stacking.{empty_layer, under_layer, over_layer, zero_layer}
+use Rattle.rd_partial.proofs.Pass.Stacking.{empty_layer, under_layer, over_layer, zero_layer}
 use Rattle.rd_partial.proofs.walk.stack.Goals as goal
 
 pub returns-then-is_empty : goal.returns-then-is_empty

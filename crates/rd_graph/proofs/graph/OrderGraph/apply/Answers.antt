@@ -3,7 +3,7 @@ use Rattle.std.specs.Prelude.{option_map}
 use Rattle.rd_graph.specs.Internal.Patching.{lists_seen}
 use Rattle.rd_graph.specs.Internal.Seen.{seen}
 use Rattle.rd_graph.specs.Runs.{places_of}
-use Rattle.rd_graph.proofs.PutInPlace.{fits, line_fits}
+use Rattle.rd_graph.proofs.Patches.PutInPlace.{fits, line_fits}
 use Rattle.rd_graph.proofs.graph.OrderGraph.apply.Goals as goal
 
 pub put_lists-requires : goal.put_lists-requires

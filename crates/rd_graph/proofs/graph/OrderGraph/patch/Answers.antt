@@ -3,7 +3,7 @@ use Rattle.std.specs.Prelude.{option_map}
 use Rattle.rd_graph.specs.Internal.Patching.{lists_seen}
 use Rattle.rd_graph.specs.Internal.Seen.{seen}
 use Rattle.rd_graph.specs.Runs.{places_of}
-use Rattle.rd_graph.proofs.Thinnings.{thin_ordered, thin_can, thin_back}
+use Rattle.rd_graph.proofs.Thinned.Thinnings.{thin_ordered, thin_can, thin_back}
 use Rattle.rd_graph.proofs.graph.OrderGraph.patch.Goals as goal
 
 pub invariant_of-graph : goal.invariant_of-graph

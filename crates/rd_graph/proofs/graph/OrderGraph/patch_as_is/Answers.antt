@@ -6,8 +6,8 @@ use Rattle.rd_graph.specs.declared.graph.Node.{Node}
 use Rattle.rd_graph.specs.Internal.Patching.{lists_seen}
 use Rattle.rd_graph.specs.Internal.Seen.{seen}
 use Rattle.rd_graph.specs.Runs.{places_of}
-use Rattle.rd_graph.proofs.Merged.{patched_by}
-use Rattle.rd_graph.proofs.Trimmings.{short_by}
+use Rattle.rd_graph.proofs.Patches.Merged.{patched_by}
+use Rattle.rd_graph.proofs.Thinned.Trimmings.{short_by}
 use Rattle.rd_graph.proofs.graph.OrderGraph.patch_as_is.Goals as goal
 
 pub returns-clause-fits : goal.returns-clause-fits

@@ -3,7 +3,7 @@ use Rattle.rd_keys.specs.declared.entry.EntryKey.{EntryKey}
 use Rattle.rd_graph.specs.Gathered.{gathered}
 use Rattle.rd_graph.specs.Graphs.{Drops}
 use Rattle.rd_graph.specs.Names.{is_in, same_entry}
-use Rattle.rd_graph.proofs.Checked.{can_drop}
+use Rattle.rd_graph.proofs.Reaching.Checked.{can_drop}
 use Rattle.rd_graph.proofs.tests.checked.can_change.Goals as goal
 
 pub returns : goal.returns

@@ -1,7 +1,7 @@
 use Rattle.std.proofs.Common.{◌∙◌, sym, subst, List}
 use Rattle.rd_keys.specs.declared.entry.EntryKey.{EntryKey}
 use Rattle.rd_graph.specs.Orders.{Once}
-use Rattle.rd_graph.proofs.Checked.{distinct_once}
+use Rattle.rd_graph.proofs.Reaching.Checked.{distinct_once}
 use Rattle.rd_graph.proofs.tests.checked.distinct.Goals as goal
 
 pub returns : goal.returns

@@ -1,4 +1,4 @@
-use Rattle.rd_graph.proofs.Checked.{after_more, after_all}
+use Rattle.rd_graph.proofs.Reaching.Checked.{after_more, after_all}
 use Rattle.rd_graph.proofs.tests.checked.go_forward.Goals as goal
 
 pub loop-node-preserved : goal.loop-node-preserved

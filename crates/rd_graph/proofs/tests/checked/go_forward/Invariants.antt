@@ -1,7 +1,7 @@
 use Rattle.std.proofs.Common.{take}
 use Rattle.rd_graph.specs.declared.graph.Node.{Node}
-use Rattle.rd_graph.proofs.Checked.{IsAfter}
-use Rattle.rd_graph.proofs.Listing.{Has}
+use Rattle.rd_graph.proofs.Reaching.Checked.{IsAfter}
+use Rattle.rd_graph.proofs.Lists.Listing.{Has}
 use Rattle.rd_graph.proofs.tests.checked.go_forward.Given as goal
 
 abbrev pub invariant-loop-node : goal.invariant-loop-node

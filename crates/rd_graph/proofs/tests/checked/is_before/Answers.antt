@@ -1,5 +1,5 @@
 use Rattle.std.proofs.Common.{◌∙◌, sym}
-use Rattle.rd_graph.proofs.Checked.{before_of}
+use Rattle.rd_graph.proofs.Reaching.Checked.{before_of}
 use Rattle.rd_graph.proofs.tests.checked.is_before.Goals as goal
 
 pub returns-in-Some-Some : goal.returns-in-Some-Some

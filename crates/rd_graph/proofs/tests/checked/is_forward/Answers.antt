@@ -1,4 +1,4 @@
-use Rattle.rd_graph.proofs.Checked.{reach_forward}
+use Rattle.rd_graph.proofs.Reaching.Checked.{reach_forward}
 use Rattle.rd_graph.proofs.tests.checked.is_forward.Goals as goal
 
 pub returns : goal.returns

@@ -1,4 +1,4 @@
-use Rattle.rd_graph.proofs.Checked.{gathered_push}
+use Rattle.rd_graph.proofs.Reaching.Checked.{gathered_push}
 use Rattle.rd_graph.proofs.tests.checked.names_at.Goals as goal
 
 pub loop-place-preserved : goal.loop-place-preserved

@@ -1,5 +1,5 @@
 use Rattle.std.proofs.Common.{◌≡◌, take}
-use Rattle.rd_graph.proofs.Checked.{sought}
+use Rattle.rd_graph.proofs.Reaching.Checked.{sought}
 use Rattle.rd_graph.proofs.tests.checked.sought.Given as goal
 
 abbrev pub invariant-loop-key : goal.invariant-loop-key

@@ -1,7 +1,7 @@
 use Rattle.std.proofs.Common.{◌≡◌, true, take}
 use Rattle.std.specs.Prelude.{IsTrue}
 use Rattle.rd_geom.specs.Plane.{meets}
-use Rattle.rd_graph.proofs.Listing.{Has}
+use Rattle.rd_graph.proofs.Lists.Listing.{Has}
 use Rattle.rd_low_tests.specs.DrawnLevels.{Spot, is_of}
 use Rattle.rd_low_tests.proofs.merge.checked.are_lit.Given as goal
 

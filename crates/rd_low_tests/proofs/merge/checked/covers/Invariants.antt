@@ -1,5 +1,5 @@
 use Rattle.std.proofs.Common.{take}
-use Rattle.rd_graph.proofs.Listing.{Has}
+use Rattle.rd_graph.proofs.Lists.Listing.{Has}
 use Rattle.rd_low_tests.specs.DrawnLevels.{IsSpotCovered, Spot}
 use Rattle.rd_low_tests.proofs.merge.checked.covers.Given as goal
 

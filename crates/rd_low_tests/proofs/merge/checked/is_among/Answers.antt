@@ -1,7 +1,7 @@
 use Rattle.std.proofs.Common.{◌∙◌, sym}
 use Rattle.rd_keys.specs.Keys.{same_key}
 use Rattle.rd_keys.proofs.Keys.{same_key-sound, same_key-refl}
-use Rattle.rd_graph.proofs.Joining.{in_at, in_next}
+use Rattle.rd_graph.proofs.Reaching.Joining.{in_at, in_next}
 use Rattle.rd_low_tests.proofs.merge.checked.is_among.Goals as goal
 
 pub returns-then-is : goal.returns-then-is

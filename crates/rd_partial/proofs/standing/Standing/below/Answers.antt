@@ -1,6 +1,6 @@
 use Rattle.std.proofs.Common.{subst, sym}
 use Rattle.rd_partial.specs.Internal.Standing.{Stood}
-use Rattle.rd_partial.proofs.Stood.{stood_below, clips_stood}
+use Rattle.rd_partial.proofs.Pass.Stood.{stood_below, clips_stood}
 use Rattle.rd_partial.proofs.standing.Standing.below.Goals as goal
 
 pub invariant_of-result : goal.invariant_of-result

@@ -1,6 +1,6 @@
 use Rattle.std.proofs.Common.{◌∙◌, ap}
 use Rattle.rd_stack.specs.Parts.{leaf_of}
-use Rattle.rd_partial.proofs.Stood.{clip_stood}
+use Rattle.rd_partial.proofs.Pass.Stood.{clip_stood}
 use Rattle.rd_partial.proofs.standing.Standing.leaf.Goals as goal
 
 pub returns : goal.returns

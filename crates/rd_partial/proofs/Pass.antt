@@ -1,0 +1,22 @@
+-- The one pass down the tree: what each box gives, that the whole is the painting order, and what may be left out.
+pub mod Gather
+pub mod Joined
+pub mod Fields
+pub mod Levels
+pub mod Flows
+pub mod Steps
+pub mod Picked
+pub mod Handed
+pub mod Pruned
+pub mod Count
+pub mod Stood
+pub mod Joining
+pub mod Laid
+pub mod Stacking
+pub mod Arms
+pub mod Reach
+pub mod Same
+pub mod Filled
+pub mod Only
+pub mod Top
+pub mod Everything
