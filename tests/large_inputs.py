@@ -1,10 +1,11 @@
 #!/usr/bin/env python3
 """Makes large inputs, so that they need not be kept.
 
-usage: large_inputs.py cases FOLDER    the stored cases that are made: for each its files as in tests/cases
+usage: large_inputs.py cases FOLDER    the stored cases that are made: for each its folder as in tests/cases/*
        large_inputs.py styles N        a script of one box with N commands 'style', on standard output
 """
 import json
+import os
 import sys
 
 
@@ -44,8 +45,9 @@ def write_cases(folder):
             "stderr": err,
             "status": f"{status}\n",
         }
+        os.makedirs(f"{folder}/{name}")
         for end, text in files.items():
-            with open(f"{folder}/{name}.{end}", "w") as file:
+            with open(f"{folder}/{name}/{end}", "w") as file:
                 file.write(text)
 
 
