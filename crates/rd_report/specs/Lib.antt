@@ -3,3 +3,4 @@ pub mod Answers
 pub mod Dumps
 pub mod Summaries
 pub mod Pictures
+pub mod Tiles

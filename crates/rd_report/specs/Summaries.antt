@@ -20,9 +20,9 @@ paints_line t =
     line (codes "paints" ∷ decimal t.paints ∷ codes "built" ∷ decimal t.built ∷ codes "area" ∷ decimal t.area ∷ [])
 
 -- the digest of the last picture
-abbrev pub final_line : Totals → List ℕ
-final_line t = line (codes "final" ∷ encode_lower t.digest ∷ [])
+abbrev pub final_line : List ℕ → List ℕ
+final_line digest = line (codes "final" ∷ encode_lower digest ∷ [])
 
 -- the four lines of a storm
 abbrev pub summary_lines : Totals → List ℕ
-summary_lines t = storm_line t ++ edits_line t ++ paints_line t ++ final_line t
+summary_lines t = storm_line t ++ edits_line t ++ paints_line t ++ final_line t.digest

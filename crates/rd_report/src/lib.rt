@@ -8,10 +8,12 @@ mod digests;
 mod dump;
 mod picture;
 mod summary;
+mod tiles;
 mod words;
 
 pub use answer::{Answer, push_line};
 pub use digests::digest;
 pub use dump::push_dump;
 pub use picture::{p6, picture_head, push_px};
-pub use summary::{Totals, push_summary};
+pub use summary::{Totals, push_final, push_summary};
+pub use tiles::push_tiles;

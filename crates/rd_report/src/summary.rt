@@ -46,10 +46,11 @@ fn push_paints(out: &mut String, t: &Totals) -> Result<(), AllocError>
     write!(out, "paints {paints} built {built} area {area}\n")
 }
 
-fn push_final(alloc: Global, out: &mut String, t: &Totals) -> Result<(), AllocError>
-    ensures { OnOk result (string_bytes out.new ≡ string_bytes out.old ++ summaries.final_line t.now) }
+/// Puts the line of the digest of a last picture at the end of a text.
+pub fn push_final(alloc: Global, out: &mut String, digest: &[u8; 32]) -> Result<(), AllocError>
+    ensures { OnOk result (string_bytes out.new ≡ string_bytes out.old ++ summaries.final_line digest.now) }
 {
-    let text = hex::encode(alloc, &t.digest)?;
+    let text = hex::encode(alloc, digest)?;
     write!(out, "final {text}\n")
 }
 
@@ -60,7 +61,7 @@ fn push_lines(alloc: Global, out: &mut String, totals: &Totals) -> Result<(), Al
     push_asked(out, totals)?;
     push_edits(out, totals)?;
     push_paints(out, totals)?;
-    push_final(alloc, out, totals)
+    push_final(alloc, out, &totals.digest)
 }
 
 /// Puts the four lines of a storm at the end of a text. After a refusal the text is as it was.

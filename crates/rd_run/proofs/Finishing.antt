@@ -11,10 +11,11 @@ use Rattle.rd_run.specs.Internal.Answered.{AnswersAs, RefusesInput, RefusesWire}
 use Rattle.rd_run.specs.Figures.{most_bytes}
 use Rattle.rd_wire.specs.declared.wire.Wire as wires
 use Rattle.rd_run.specs.Machine.{Counts}
+use Rattle.rd_run.specs.Tiled.{IsScriptTiles}
 use Rattle.rd_run.specs.declared.status.Status.{Status}
 use Rattle.rd_run.specs.declared.status.Status.TheVariants.{Done, Usage, NotJson, Form, ReadFault, WriteFault, NoMemory, TooLarge, BadWire}
 use Rattle.rd_run.specs.declared.words.WordsForm.{WordsForm}
-use Rattle.rd_run.specs.declared.words.WordsForm.TheVariants.{Replay, Render, Wire, Compose, Storm}
+use Rattle.rd_run.specs.declared.words.WordsForm.TheVariants.{Replay, Render, Tiles, Wire, Compose, Storm}
 
 -- an answer is one also where less is known of a run that wrote nothing
 pub untouched_as : (P Q : Type 0) (is_answer : List ℕ → Counts → Type 0) (out : Stream) (made looks : Counter) (s : Status) → (P → Q)
@@ -53,6 +54,10 @@ module _ (unread untouched : Type 0) (source out : Stream) (made looks : Counter
   pub render_ends : (script : Script) (bytes : List ℕ) (s : Status) → IsScriptText bytes script → HasRead source bytes
       → AnswersAs untouched (IsScriptPicture script) out made looks s → EndsAs unread untouched source out made looks Render s
   render_ends script bytes s t r a = answered_ends Render (IsScriptPicture script) bytes s r.faultless r (λ text counts i. (script, t, i)) a
+
+  pub tiles_ends : (script : Script) (bytes : List ℕ) (s : Status) → IsScriptText bytes script → HasRead source bytes
+      → AnswersAs untouched (IsScriptTiles script) out made looks s → EndsAs unread untouched source out made looks Tiles s
+  tiles_ends script bytes s t r a = answered_ends Tiles (IsScriptTiles script) bytes s r.faultless r (λ text counts i. (script, t, i)) a
 
   pub wire_ends : (script : Script) (bytes : List ℕ) (s : Status) → IsScriptText bytes script → HasRead source bytes
       → AnswersAs untouched (IsScriptWire script) out made looks s → EndsAs unread untouched source out made looks Wire s
@@ -197,6 +202,7 @@ module _ (unread untouched : Type 0) (source out : Stream) (made looks : Counter
       → HasAnswer form source → (HasFailed source → ⊥) → (HasFailed out → ⊥) → (s ≡ Done) ⊎ (s ≡ NoMemory)
   done Replay s e v f g = script_done Replay s (λ bytes r. r) (λ w. w) e v f g
   done Render s e v f g = script_done Render s (λ bytes r. r) (λ w. w) e v f g
+  done Tiles s e v f g = script_done Tiles s (λ bytes r. r) (λ w. w) e v f g
   done Wire s e v f g = script_done Wire s (λ bytes r. r) (λ w. w) e v f g
   done Compose s e v f g = wire_done s e v f g
   done (Storm seed boxes edits) s e v f g = storm_done seed boxes edits s e g

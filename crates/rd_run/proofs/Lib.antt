@@ -13,7 +13,10 @@ pub mod Steps
 pub mod Sums
 pub mod Going
 pub mod Runs
+pub mod TiledRuns
+pub mod Following
 pub mod Planted
+pub mod TiledAnswers
 pub mod Finishing
 pub mod Wiring
 pub mod PictureRows

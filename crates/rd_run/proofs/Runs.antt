@@ -38,7 +38,7 @@ step_on a b e xs i d t u h is r s =
     let here : Step (get_or xs i d) b u e = subst (λ (x : Command). Step x b u e) is s in
     rw (take_more xs i d h) (run_more a b e (take i xs) (get_or xs i d) t u r here)
 
-all_of : (xs : List Command) (i : ℕ) → length xs ≤ i → take i xs ≡ xs
+pub all_of : (xs : List Command) (i : ℕ) → length xs ≤ i → take i xs ≡ xs
 all_of xs i h = grind (arith, common_steps)
 
 pub whole_run : (a b : State) (xs : List Command) (i : ℕ) (t : List ℕ) → length xs ≤ i → Run a (take i xs) t b → Run a xs t b

@@ -1,5 +1,5 @@
 -- Steps of the machine, one after another.
-use Rattle.std.proofs.Common.{◌≡◌, ℕ, ◌+◌, ◌*◌, ◌^◌, ◌≤◌, Bool, List, ◌++◌, refl, sym, ◌∙◌, ap, subst, append_assoc, arith}
+use Rattle.std.proofs.Common.{◌≡◌, ℕ, ◌+◌, ◌*◌, ◌^◌, ◌≤◌, Bool, true, List, ◌++◌, refl, sym, ◌∙◌, ap, subst, append_assoc, arith}
 use Rattle.std.specs.Prelude.{Result, Ok, Err, OnErr}
 use Rattle.rd_edits.specs.declared.edit.Edit.{Edit}
 use Rattle.rd_scene.specs.declared.script.Command.{Command}
@@ -14,6 +14,12 @@ module _ (P Q : State → List ℕ → State → Type 0) (made looks : Counter) 
 
   pub may_as : MayGoOn P made looks s → MayGoOn Q made looks s
   may_as m = (m.0, m.1, f m.0 m.1 m.2, m.3, m.4)
+
+-- where a paint is pending, a paint is what is done
+pub advances_if : (b : Bool) (made looks : Counter) (s : State) (text : List ℕ) (now : SessionState) → b ≡ true
+    → Advances Paints made looks s text now → Advances (PaintsIf b) made looks s text now
+advances_if b made looks s text now e =
+    advances_as Paints (PaintsIf b) made looks s (λ line next p. subst (λ (x : Bool). PaintsIf x s line next) (sym e) p) text now
 
 module _ (P : State → List ℕ → State → Type 0) (made looks : Counter) (s : State) where
   -- what was done could be done
@@ -105,3 +111,8 @@ few_next x y n built area f p a r b bm c cm =
       built = rw b (grows x.built built n (2 ^ 34) f.built bm);
       area = rw c (grows x.area area n (2 ^ 24) f.area cm);
     }
+
+-- a paint with its line is a step
+pub paint_tells : (q : Command) → q ≡ Paint → (made looks : Counter) (s : State) (line before after : List ℕ) (now : SessionState)
+    → Advances Paints made looks s line now → after ≡ before ++ line → Tells (Step q) made looks s before after now
+paint_tells q e made looks s line before after now a w = rw e (line, w, a)

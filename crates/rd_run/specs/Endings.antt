@@ -17,10 +17,11 @@ use Rattle.rd_run.specs.Pictures.{picture, wire_picture}
 use Rattle.rd_run.specs.Figures.{most_bytes}
 use Rattle.rd_wire.specs.Wires.{spelled, IsWire}
 use Rattle.rd_wire.specs.declared.wire.Wire as wires
+use Rattle.rd_run.specs.Tiled.{IsScriptTiles}
 use Rattle.rd_run.specs.declared.status.Status.{Status}
 use Rattle.rd_run.specs.declared.status.Status.TheVariants.{Done, Usage, NotJson, Form, ReadFault, WriteFault, NoMemory, TooLarge, BadWire}
 use Rattle.rd_run.specs.declared.words.WordsForm.{WordsForm}
-use Rattle.rd_run.specs.declared.words.WordsForm.TheVariants.{Replay, Render, Wire, Compose, Storm}
+use Rattle.rd_run.specs.declared.words.WordsForm.TheVariants.{Replay, Render, Tiles, Wire, Compose, Storm}
 
 -- the exit status
 abbrev pub number : Status → ℕ
@@ -57,7 +58,7 @@ why_text why.Command = codes "Command"
 -- the line on standard error
 abbrev pub line_of : Status → List ℕ
 line_of Done = []
-line_of Usage = codes "usage: rd_cli replay | rd_cli render | rd_cli storm --seed N --boxes N --edits N | rd_cli wire | rd_cli compose\n"
+line_of Usage = codes "usage: rd_cli replay | rd_cli render | rd_cli storm --seed N --boxes N --edits N | rd_cli tiles | rd_cli wire | rd_cli compose\n"
 line_of NotJson = codes "not json\n"
 line_of (Form p w) = codes "form: " ++ (place_text p ++ (codes ": " ++ (why_text w ++ codes "\n")))
 line_of ReadFault = codes "read fault\n"
@@ -171,6 +172,7 @@ IsStormSummary seed boxes edits text counts =
 abbrev pub IsAnswer : WordsForm → List ℕ → List ℕ → Counts → Type 0
 IsAnswer Replay bytes text counts = (s : Script) × IsScriptText bytes s × IsScriptAnswer s text counts
 IsAnswer Render bytes text counts = (s : Script) × IsScriptText bytes s × IsScriptPicture s text counts
+IsAnswer Tiles bytes text counts = (s : Script) × IsScriptText bytes s × IsScriptTiles s text counts
 IsAnswer Wire bytes text counts = (s : Script) × IsScriptText bytes s × IsScriptWire s text counts
 IsAnswer Compose bytes text counts = (w : wires.Wire) × IsWireText bytes w × IsWirePicture w text counts
 IsAnswer (Storm seed boxes edits) bytes text counts = IsStormSummary seed boxes edits text counts

@@ -5,3 +5,4 @@ pub mod Telling
 pub mod Session
 pub mod SessionCode
 pub mod Answered
+pub mod OnTiles

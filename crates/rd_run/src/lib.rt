@@ -12,6 +12,7 @@ mod program;
 mod session;
 mod status;
 mod telling;
+mod tiling;
 mod words;
 
 pub use input::MOST_BYTES;

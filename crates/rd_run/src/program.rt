@@ -4,7 +4,7 @@ ghost use Rattle.std.specs.Prelude.{◌≡◌, Some, map, string_bytes};
 ghost use Rattle.rd_run.specs.Endings.{counter, stream, Ends, EndsAs, Runs};
 ghost use Rattle.rd_run.specs.Words.{words_form};
 ghost use Rattle.rd_run.specs.Internal.Limits.{IsWithinLimits};
-ghost use Rattle.rd_run.specs.declared.words.WordsForm.TheVariants.{Replay, Render, Wire};
+ghost use Rattle.rd_run.specs.declared.words.WordsForm.TheVariants.{Replay, Render, Tiles, Wire};
 
 use crate::answers::answer;
 use crate::composing::compose;
@@ -12,6 +12,7 @@ use crate::input::input;
 use crate::performing::{render, storm, wire};
 use crate::status::Status;
 use crate::telling::tell;
+use crate::tiling::tiles;
 use crate::words::{WordsForm, read_words};
 use rd_geom::Steps;
 use rd_io::{Sink, Source};
@@ -56,6 +57,25 @@ fn serve_render<S: Source, O: Sink, A: Ledger, B: Ledger>(
     }
 }
 
+/// Reads a script, does its commands on tiles, and writes the lines of its paints.
+fn serve_tiles<S: Source, O: Sink, A: Ledger, B: Ledger>(
+    alloc: Global,
+    source: &mut S,
+    out: &mut O,
+    made: &mut Steps<A>,
+    looks: &mut Steps<B>,
+) -> Status
+    ensures { EndsAs (source.new ≡ source.old) ((out.new ≡ out.old) × (made.new ≡ made.old) × (looks.new ≡ looks.old))
+        (stream (S.left source.old) (S.left source.new) (S.faults source.old) (S.faults source.new))
+        (stream (O.written out.old) (O.written out.new) (O.faults out.old) (O.faults out.new))
+        (counter made.old made.new) (counter looks.old looks.new) Tiles result }
+{
+    match input(alloc, source) {
+        Ok(script) => tiles(alloc, &script, out, made, looks),
+        Err(status) => status,
+    }
+}
+
 /// Reads a script, does its commands, and writes the list.
 fn serve_wire<S: Source, O: Sink, A: Ledger, B: Ledger>(
     alloc: Global,
@@ -93,6 +113,7 @@ fn serve_form<S: Source, O: Sink, A: Ledger, B: Ledger>(
     match form {
         WordsForm::Replay => serve_replay(alloc, source, out, made, looks),
         WordsForm::Render => serve_render(alloc, source, out, made, looks),
+        WordsForm::Tiles => serve_tiles(alloc, source, out, made, looks),
         WordsForm::Wire => serve_wire(alloc, source, out, made, looks),
         WordsForm::Compose => compose(alloc, source, out),
         WordsForm::Storm { seed, boxes, edits } => {

@@ -2,7 +2,8 @@
 
 ghost use Rattle.std.specs.Prelude.{◌≡◌, ◌+◌, ◌^◌, ◌++◌, ℕ, false, IfOk, OnOk, OnErr};
 ghost use Rattle.std.specs.Prelude.{string_bytes, option_map, option_copied};
-ghost use Rattle.rd_engine.specs.Painted.{IsAllTouched};
+ghost use Rattle.rd_engine.specs.Painted.{IsAllTouched, IsBegun};
+ghost use Rattle.rd_engine.specs.State.{IsEngine};
 ghost use Rattle.rd_list.specs.Lists.{hit};
 ghost use Rattle.rd_stack.specs.Fresh.{fresh_list};
 ghost use Rattle.rd_report.specs.Answers.{paint_line};
@@ -15,6 +16,7 @@ ghost use Rattle.rd_wire.specs.Wires.{spelled};
 ghost use Rattle.rd_run.specs.Pictures.{picture};
 ghost use Rattle.rd_run.specs.Internal.Lasts.{IsWellFormed};
 ghost use Rattle.rd_run.specs.Internal.Session.{Shows, IsFew, Advances, Does, Tells, MayGoOn};
+ghost use Rattle.rd_run.specs.Internal.Session.{PaintsOnce, PaintsNot, Watched};
 ghost use Rattle.rd_run.specs.Internal.Session.{line_if, edit_line, reply};
 
 use rd_edits::{Edit, EditFault};
@@ -110,6 +112,7 @@ impl<A: Ledger, B: Ledger> Session<A, B> {
         requires well_formed { IsWellFormed tree }
         ensures shows { IfOk result (λ x. Shows x (start tree)) }
         ensures few { IfOk result (λ x. IsFew x 0) }
+        ensures begun { IfOk result (λ x. IsBegun tree x.engine) }
     {
         let engine = Engine::new(alloc, tree)?;
         Ok(Session {
@@ -119,6 +122,22 @@ impl<A: Ledger, B: Ledger> Session<A, B> {
             built: 0,
             area: 0,
         })
+    }
+
+    /// The engine, lent.
+    pub(crate) fn engine(&self) -> &Engine<A, B>
+        ensures { result.now ≡ self.now.engine }
+    {
+        &self.engine
+    }
+
+    /// How many paints there were.
+    pub(crate) fn paints(&self) -> u64
+        ensures count { result ≡ self.now.engine.paints }
+        ensures state { IsEngine self.now.engine }
+    {
+        let _list = self.engine.view();
+        self.engine.paints()
     }
 
     /// Paints.
@@ -131,6 +150,7 @@ impl<A: Ledger, B: Ledger> Session<A, B> {
         ensures err { OnErr result ((s : State) → Shows self.old s
             → MayGoOn Paints (counter made.old made.new) (counter looks.old looks.new) s) }
         ensures count { (n : ℕ) → IsFew self.old n → IsFew self.new (n + 1) }
+        ensures watched { OnOk result (PaintsOnce self.old.engine self.new.engine) }
     {
         let _list = self.engine.view();
         let note = self.engine.paint(made, looks)?;
@@ -155,6 +175,7 @@ impl<A: Ledger, B: Ledger> Session<A, B> {
         ensures err { OnErr result ((s : State) → Shows self.old s
             → MayGoOn (PaintsIf self.old.engine.pending) (counter made.old made.new) (counter looks.old looks.new) s) }
         ensures count { (n : ℕ) → IsFew self.old n → IsFew self.new (n + 1) }
+        ensures watched { OnOk result (Watched self.old.engine self.new.engine) }
     {
         if self.engine.pending() {
             let note = self.paint(made, looks)?;
@@ -170,6 +191,7 @@ impl<A: Ledger, B: Ledger> Session<A, B> {
         ensures ok { IfOk result (λ refused. (s : State) → Shows self.old s
             → Advances (Step (Change edit.now)) (counter 0 0) (counter 0 0) s (edit_line refused) self.new) }
         ensures count { (n : ℕ) → IsFew self.old n → IsFew self.new (n + 1) }
+        ensures watched { OnOk result (PaintsNot self.old.engine self.new.engine) }
     {
         match self.engine.edit(edit) {
             Ok(()) => {
@@ -291,6 +313,7 @@ impl<A: Ledger, B: Ledger> Session<A, B> {
         ensures err { OnErr result ((s : State) → Shows self.old s
             → MayGoOn (Step command.now) (counter made.old made.new) (counter looks.old looks.new) s) }
         ensures count { (n : ℕ) → IsFew self.old n → IsFew self.new (n + 1) }
+        ensures watched { OnOk result (Watched self.old.engine self.new.engine) }
     {
         match command {
             Command::Change(edit) => {
@@ -321,6 +344,7 @@ impl<A: Ledger, B: Ledger> Session<A, B> {
         ensures done { OnOk result (self.new.engine.pending ≡ false) }
         ensures err { OnErr result ((s : State) → Shows self.old s
             → MayGoOn (PaintsIf self.old.engine.pending) (counter made.old made.new) (counter looks.old looks.new) s) }
+        ensures watched { OnOk result (Watched self.old.engine self.new.engine) }
     {
         let _note = self.paint_if_pending(made, looks)?;
         Ok(())

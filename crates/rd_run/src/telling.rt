@@ -90,7 +90,7 @@ fn write_line<E: Sink>(err: &mut E, status: Status) -> Result<(), Failed>
         Status::Done => Ok(()),
         Status::Usage => write_one(
             err,
-            "usage: rd_cli replay | rd_cli render | rd_cli storm --seed N --boxes N --edits N | rd_cli wire | rd_cli compose\n",
+            "usage: rd_cli replay | rd_cli render | rd_cli storm --seed N --boxes N --edits N | rd_cli tiles | rd_cli wire | rd_cli compose\n",
         ),
         Status::NotJson => write_one(err, "not json\n"),
         Status::Form { place, why } => write_form(err, place, why),

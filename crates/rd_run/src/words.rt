@@ -20,6 +20,8 @@ pub enum WordsForm {
     Replay,
     /// To do the commands of a script, and to write the picture of what is painted at its end.
     Render,
+    /// To do the commands of a script on tiles, and to write a line for each paint, and last the digest of the picture.
+    Tiles,
     /// To do the commands of a script, and to write the list of what is painted at its end, in the wire form.
     Wire,
     /// To write the picture of a list in the wire form.
@@ -93,6 +95,8 @@ fn plain(mode: &str) -> Option<WordsForm>
         Some(WordsForm::Replay)
     } else if mode == "render" {
         Some(WordsForm::Render)
+    } else if mode == "tiles" {
+        Some(WordsForm::Tiles)
     } else if mode == "wire" {
         Some(WordsForm::Wire)
     } else if mode == "compose" {

@@ -46,7 +46,7 @@ const LEVELS: &str = r##",
 
 const USAGE: &str =
     "usage: rd_cli replay | rd_cli render | rd_cli storm --seed N --boxes N --edits N \
-| rd_cli wire | rd_cli compose\n";
+| rd_cli tiles | rd_cli wire | rd_cli compose\n";
 
 /// The list of one white pixel, in the wire form.
 const ONE_WIRE: [u8; 83] = [
@@ -54,6 +54,10 @@ const ONE_WIRE: [u8; 83] = [
     0, 0, 0, 0, 0, 1, 0, 0, 0, 1, 0, 0, 0, 0, 0, 0, 0, 0, 0, 0, 0, 1, 0, 0, 0, 1, 0, 0, 0, 0, 0, 0,
     0, 0, 0, 0, 0, 0, 0, 0, 0, 0, 0xff, 0xff, 0xff, 0xff, 1, 0, 0, 0, 0, 0, 0, 0, 1,
 ];
+
+/// A canvas of 100 by 100 with a white root.
+const HUNDRED: &str = r##"{"version":1,"canvas":{"w":100,"h":100},"boxes":[
+{"id":"root","parent":null,"rect":[0,0,100,100],"style":{"background":"#ffffff"}}"##;
 
 /// How a run over memory ended: its status, and what the sinks hold.
 #[derive(Drop)]
@@ -428,6 +432,20 @@ fn a_list_is_handed_on(rt: HostRuntime) {
     is_end(&rt, &picture, 1, 0, WHITE_PIXEL, "");
     let none = over_bytes(&rt, alloc, "compose", &ONE_WIRE[1..]);
     is_end(&rt, &none, 2, 8, &[], "bad wire\n");
+}
+
+#[test]
+fn paints_are_told_on_tiles(rt: HostRuntime) {
+    let alloc = rt.alloc();
+    let small = r##",
+{"id":"a","parent":"root","rect":[0,0,10,10],"style":{"background":"#ff0000"}}"##;
+    let commands =
+        r##"{"do":"paint"},{"do":"style","id":"a","style":{"background":"#0000ff"}},{"do":"paint"}"##;
+    let text = script(&rt, alloc, HUNDRED, small, commands);
+    let tiles = over_bytes(&rt, alloc, "tiles", text.as_bytes());
+    let lines = "tiles 1 repainted 4 of 4\ntiles 2 repainted 1 of 4\n\
+final 6636949e0bd7771d7f09d3672d2aefc9441fdf920609c4bbeddd9312a88361e4\n";
+    is_end(&rt, &tiles, 0, 0, lines.as_bytes(), "");
 }
 
 #[test]

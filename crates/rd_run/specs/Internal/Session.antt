@@ -1,7 +1,8 @@
 -- Which state of the machine an engine is in, and how it goes on.
-use Rattle.std.specs.Prelude.{◌≡◌, ℕ, ◌+◌, ◌*◌, ◌^◌, ◌≤◌, List, [], ◌++◌, Option, Some, None}
+use Rattle.std.specs.Prelude.{◌≡◌, ◌⊎◌, ℕ, ◌+◌, ◌*◌, ◌^◌, ◌≤◌, List, [], ◌++◌, Option, Some, None}
 use Rattle.rd_list.specs.Unordered.{unordered}
 use Rattle.rd_engine.specs.State.{EngineState}
+use Rattle.rd_engine.specs.Painted.{IsAreaPainted}
 use Rattle.rd_report.specs.Answers.{ok_line, refused_line, paint_line}
 use Rattle.rd_scene.specs.declared.script.Command.{Command}
 use Rattle.rd_scene.specs.declared.script.Command.TheVariants.{Change, Paint, Hit, Pixel, Dump, Shot}
@@ -31,6 +32,20 @@ pub record Shows (x : SessionState) (s : State) : Type 0 where
   pub built : s.counts.built ≡ x.built
   pub area : s.counts.area ≡ x.area
   pub well_formed : IsWellFormed s.tree
+
+-- An engine painted once: its canvas in the area of that paint, which is counted.
+pub record PaintsOnce (old new : EngineState) : Type 0 where
+  pub area : IsAreaPainted old new
+  pub number : new.paints ≡ old.paints + 1
+
+-- An engine did not paint.
+pub record PaintsNot (old new : EngineState) : Type 0 where
+  pub canvas : new.canvas ≡ old.canvas
+  pub paints : new.paints ≡ old.paints
+
+-- An engine painted at most once.
+abbrev pub Watched : EngineState → EngineState → Type 0
+Watched old new = PaintsOnce old new ⊎ PaintsNot old new
 
 -- No count is above what n commands may make of it.
 pub record IsFew (x : SessionState) (n : ℕ) : Type 0 where

@@ -1,8 +1,11 @@
+use Rattle.std.proofs.Common.{◌++◌, ◌∙◌, ap, string_bytes}
 use Rattle.std.proofs.lemmas.Result.{on_ok_weaker, on_err_weaker}
+use Rattle.rd_report.specs.Answers.{answer_line, paint_line}
+use Rattle.rd_run.specs.Endings.{counter}
 use Rattle.rd_run.specs.Machine.{Asks, Step}
 use Rattle.rd_run.specs.Internal.Session.{reply}
 use Rattle.rd_run.proofs.Editing.{all_edit_may, edit_tells}
-use Rattle.rd_run.proofs.Steps.{on_err, may_as, all_paint_may, all_paint_went, tells_as, step_of}
+use Rattle.rd_run.proofs.Steps.{on_err, may_as, all_paint_may, all_paint_went, paint_tells, tells_as, step_of}
 use Rattle.rd_run.proofs.session.Session.answer.Goals as goal
 
 pub returns-in_err-refused-in-Change-clause-err : goal.returns-in_err-refused-in-Change-clause-err
@@ -20,6 +23,15 @@ returns-in_ok-refused-in-Change-clause-ok g c =
 pub returns-in_ok-refused-in-Change-clause-err : goal.returns-in_ok-refused-in-Change-clause-err
 returns-in_ok-refused-in-Change-clause-err g c =
     on_err _ (all_edit_may c.args.self.now c.in-Change.edit c.args.command.now c.args.made.now c.args.looks.now c.in-Change.is)
+
+pub returns-in_ok-note-in-Paint-clause-ok : goal.returns-in_ok-note-in-Paint-clause-ok
+returns-in_ok-note-in-Paint-clause-ok g c =
+    let n = c.in_ok-note-in-Paint.note in
+    on_ok_weaker c.push_line.result
+    (λ w s sh. paint_tells c.args.command.now c.in-Paint.is (counter c.args.made.now c.paint.new.made) (counter c.args.looks.now c.paint.new.looks) s
+    (paint_line n.number n.built n.kept n.area) (string_bytes c.args.text.now) (string_bytes c.push_line.new.out) c.paint.new.self
+    (c.in_ok-note-in-Paint.ensures.ok s sh) (w ∙ ap (λ a. string_bytes c.args.text.now ++ answer_line a) c.painted.ensures))
+    c.push_line.ensures.pushed
 
 pub returns-in_ok-note-in-Paint-clause-err : goal.returns-in_ok-note-in-Paint-clause-err
 returns-in_ok-note-in-Paint-clause-err g c = on_err _ (all_paint_went c.args.self.now _ _ c.args.command.now _ _ c.in-Paint.is c.in_ok-note-in-Paint.ensures.ok)

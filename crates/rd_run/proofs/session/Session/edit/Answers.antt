@@ -5,7 +5,7 @@ use Rattle.rd_report.specs.Answers.{ok_line, refused_line}
 use Rattle.rd_scene.specs.declared.script.Command.TheVariants.{Change}
 use Rattle.rd_run.specs.Endings.{counter}
 use Rattle.rd_run.specs.Machine.{Step}
-use Rattle.rd_run.specs.Internal.Session.{SessionState, Shows, Advances, IsFew}
+use Rattle.rd_run.specs.Internal.Session.{SessionState, Shows, Advances, IsFew, PaintsNot}
 use Rattle.rd_run.proofs.Editing.{edit_done, edit_refused, refused_by}
 use Rattle.rd_run.proofs.Steps.{few_next}
 use Rattle.rd_run.proofs.session.Session.edit.Goals as goal
@@ -34,4 +34,10 @@ returns-in_default g c =
           let f : IsFew x n = subst (λ (y : SessionState). IsFew y n) (sym c.self.view_is) few in
           subst (λ (e : EngineState). IsFew (record { engine = e; accepted = x.accepted; refused = x.refused + 1; built = x.built; area = x.area }) (n + 1)) (sym c.in-Err.ensures.kept)
           (few_next x (record { engine = x.engine; accepted = x.accepted; refused = x.refused + 1; built = x.built; area = x.area }) n 0 0 f (omega arith) (omega arith) (omega arith) (omega arith) (omega arith) (omega arith) (omega arith));
+      watched = rw (← c.self.view_is) (subst (λ (e : EngineState). PaintsNot x.engine e) (sym c.in-Err.ensures.kept) (record { canvas = refl; paints = refl }));
     }
+
+pub returns-in-Ok-clause-watched : goal.returns-in-Ok-clause-watched
+returns-in-Ok-clause-watched g c =
+    let x : SessionState = record { engine = c.self.inside.engine; accepted = c.self.inside.accepted; refused = c.self.inside.refused; built = c.self.inside.built; area = c.self.inside.area } in
+    rw (← c.self.view_is) (subst (λ (e : EngineState). PaintsNot x.engine e) (sym c.in-Ok.ensures.others) (record { canvas = refl; paints = refl }))

@@ -53,3 +53,6 @@ returns-clause-count g c = λ n few.
 
 pub returns-clause-done : goal.returns-clause-done
 returns-clause-done g c = c.in_ok-note.ensures.settled.pending
+
+pub returns-clause-watched : goal.returns-clause-watched
+returns-clause-watched g c = rw (← c.self.view_is) (record { area = c.in_ok-note.ensures.area; number = c.in_ok-note.ensures.settled.paints })

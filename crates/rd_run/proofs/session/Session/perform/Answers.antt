@@ -1,3 +1,4 @@
+use Rattle.std.proofs.Common.{inl, inr}
 use Rattle.std.proofs.lemmas.Result.{err_from_is_err_and}
 use Rattle.rd_run.specs.Machine.{Asks, Step}
 use Rattle.rd_run.specs.Internal.Session.{reply}
@@ -17,6 +18,7 @@ returns-in_err-_note-in_default g c =
       ok = rw (r.1) tt;
       err = rw (r.1) (λ s sh. may_as (Asks (reply c.args.command.now)) (Step c.args.command.now) _ _ s (step_of c.args.command.now c.in_default.not-Change c.in_default.not-Paint s)
           (asks_may s c.args.self.now sh (reply c.args.command.now) _ _ (c.in_err-_note-in_default.ensures.err s sh)));
+      watched = rw (r.1) tt;
       count = c.in_err-_note-in_default.ensures.count;
     }
 
@@ -34,5 +36,12 @@ returns-in_ok-_note-in_default g c =
           let d = asks_does s c.args.self.now sh (reply c.args.command.now) _ _ _ _ (c.in_ok-_note-in_default.ensures.ok s sh) in
           (d.0, advances_as (Asks (reply c.args.command.now)) (Step c.args.command.now) _ _ s (step_of c.args.command.now c.in_default.not-Change c.in_default.not-Paint s) d.0 _ d.1);
       err = tt;
+      watched = c.in_ok-_note-in_default.ensures.watched;
       count = c.in_ok-_note-in_default.ensures.count;
     }
+
+pub returns-in_ok-_refused-in-Change-clause-watched : goal.returns-in_ok-_refused-in-Change-clause-watched
+returns-in_ok-_refused-in-Change-clause-watched g c = inr c.in_ok-_refused-in-Change.ensures.watched
+
+pub returns-in_ok-_note-in-Paint-clause-watched : goal.returns-in_ok-_note-in-Paint-clause-watched
+returns-in_ok-_note-in-Paint-clause-watched g c = inl c.in_ok-_note-in-Paint.ensures.watched
