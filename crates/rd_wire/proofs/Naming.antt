@@ -1,7 +1,7 @@
 -- Names of entries, and whether each stands once.
-use Rattle.std.proofs.Common.{◌≡◌, ℕ, zero, suc, ◌+◌, ◌<◌, ◌≤◌, Bool, true, false, not, ◌||◌, cond, List, [], ◌∷◌, ◌++◌, length, take, get_or, refl, sym, ap, subst, ◌∙◌, append_assoc, append-nil, arith, inl, inr}
+use Rattle.std.proofs.Common.{◌≡◌, ℕ, zero, suc, ◌+◌, ◌<◌, ◌≤◌, Bool, true, false, not, ◌||◌, cond, List, [], ◌∷◌, ◌++◌, length, take, drop, get_or, refl, sym, ap, subst, ◌∙◌, append_assoc, append-nil, arith, inl, inr}
 use Rattle.std.specs.List.{list_any}
-use Rattle.std.proofs.lemmas.List.{take_more}
+use Rattle.std.proofs.lemmas.List.{take_more, take-append-drop}
 use Rattle.rd_item.specs.Items.{Made}
 use Rattle.rd_keys.specs.declared.entry.EntryKey.{EntryKey}
 use Rattle.rd_keys.specs.declared.entry.EntryKey.TheVariants as key
@@ -9,7 +9,7 @@ use Rattle.rd_graph.specs.Names.{same_entry}
 use Rattle.rd_graph.specs.Orders as spec
 use Rattle.rd_graph.proofs.Reaching.Calls.{once_of, once_to}
 use Rattle.rd_graph.proofs.Lists.Entries.{same_entry-sound, same_entry-refl, has_get}
-use Rattle.rd_graph.proofs.Lists.Listing.{Has, Once, cases, has_either}
+use Rattle.rd_graph.proofs.Lists.Listing.{Has, Once, cases, has_either, has_left, has_right}
 use Rattle.rd_list.specs.Wrappers.{Wrapper}
 use Rattle.rd_list.specs.Entries.{Entries, nil, leaf, group, ◌▷◌, list_size}
 use Rattle.rd_wire.specs.Wires.{names}
@@ -72,12 +72,23 @@ once_more (x ∷ xs) k o h = (
   once_more xs k o.1 (λ m. h (inr m)),
 )
 
--- names that are not once so far are not once
-front_once : (xs : List EntryKey) (i : ℕ) (d : EntryKey) → Once xs → i < length xs → Has (take i xs) (get_or xs i d) → ⊥
-front_once [] i d o l h = absurd (omega arith)
-front_once (x ∷ xs) zero d o l h = h
-front_once (x ∷ xs) (suc i) d o l (inl e) = o.0 (subst (λ (z : EntryKey). Has xs z) (sym e) (has_get xs i d (omega arith)))
-front_once (x ∷ xs) (suc i) d o l (inr h) = front_once xs i d o.1 (omega arith) h
+-- a front of names that stand once
+front_once : (xs ys : List EntryKey) → Once (xs ++ ys) → Once xs
+front_once [] ys o = tt
+front_once (x ∷ xs) ys o = ((λ h. o.0 (has_left xs ys x h)), front_once xs ys o.1)
+
+-- a name that stands before does not stand once
+not_again : (xs : List EntryKey) (k : EntryKey) → Has xs k → Once (xs ++ k ∷ []) → ⊥
+not_again [] k h o = h
+not_again (x ∷ xs) k (inl e) o = o.0 (has_right xs (k ∷ []) x (inl (sym e)))
+not_again (x ∷ xs) k (inr h) o = not_again xs k h o.1
+
+pub once_front : (xs ys : List EntryKey) → spec.Once (xs ++ ys) → spec.Once xs
+once_front xs ys o = once_to xs (front_once xs ys (once_of (xs ++ ys) o))
+
+-- a front that ends with one name
+pub group_once : (xs : List EntryKey) (k : EntryKey) (rest : List EntryKey) → spec.Once (xs ++ k ∷ rest) → spec.Once (xs ++ k ∷ [])
+group_once xs k rest o = once_front (xs ++ k ∷ []) rest (subst spec.Once (sym (append_assoc xs (k ∷ []) rest)) o)
 
 is_not : (b r : Bool) → r ≡ not b → r ≡ false → b ≡ true
 is_not true r e h = refl
@@ -90,30 +101,28 @@ is_so false r e h = refl
 clash : (b : Bool) → b ≡ true → b ≡ false → ⊥
 clash b t f = cc
 
--- the loop over names; d stands for a name past the end
-module _ (xs : List EntryKey) (i : ℕ) (d : EntryKey) (seen : List EntryKey) (r : Bool) (l : i < length xs) (was : seen ≡ take i xs) (told : r ≡ not (list_any (same_entry (get_or xs i d)) seen)) where
-  in_front : list_any (same_entry (get_or xs i d)) seen ≡ list_any (same_entry (get_or xs i d)) (take i xs)
-  in_front = ap (λ (ks : List EntryKey). list_any (same_entry (get_or xs i d)) ks) was
+-- a name that was noted
+module _ (k : EntryKey) (seen next : List EntryKey) (r : Bool) (told : r ≡ not (list_any (same_entry k) seen)) where
+  pub noted_new : next ≡ cond (list_any (same_entry k) seen) seen (seen ++ k ∷ []) → r ≡ true → next ≡ seen ++ k ∷ []
+  noted_new is t = is ∙ ap (λ (b : Bool). cond b seen (seen ++ k ∷ [])) (is_so (list_any (same_entry k) seen) r told t)
 
-  pub next_once : (next : List EntryKey) → spec.Once (take i xs) → r ≡ true → next ≡ cond (list_any (same_entry (get_or xs i d)) seen) seen (seen ++ get_or xs i d ∷ [])
-      → (next ≡ take (i + 1) xs) × spec.Once (take (i + 1) xs)
-  next_once next once t is =
-      let fresh = is_so (list_any (same_entry (get_or xs i d)) seen) r told t in
-      let more : take (i + 1) xs ≡ take i xs ++ get_or xs i d ∷ [] = take_more xs i d l in
-      let n : next ≡ seen ++ get_or xs i d ∷ [] = is ∙ ap (λ (b : Bool). cond b seen (seen ++ get_or xs i d ∷ [])) fresh in
-      let new : Has (take i xs) (get_or xs i d) → ⊥ = λ h. clash _ (has_any (take i xs) (get_or xs i d) h) (sym in_front ∙ fresh) in (
-        n ∙ ap (λ ks. ks ++ get_or xs i d ∷ []) was ∙ sym more,
-        subst spec.Once (sym more) (once_to (take i xs ++ get_or xs i d ∷ []) (once_more (take i xs) (get_or xs i d) (once_of (take i xs) once) new)),
-      )
+  pub noted_once : next ≡ cond (list_any (same_entry k) seen) seen (seen ++ k ∷ []) → r ≡ true → spec.Once seen → spec.Once next
+  noted_once is t once =
+      let fresh = is_so (list_any (same_entry k) seen) r told t in
+      subst spec.Once (sym (noted_new is t)) (once_to (seen ++ k ∷ []) (once_more seen k (once_of seen once) (λ h. clash _ (has_any seen k h) fresh)))
 
-  pub twice_there : r ≡ false → spec.Once xs → ⊥
-  twice_there f once =
-      front_once xs i d (once_of xs once) l (any_has (take i xs) (get_or xs i d) (sym in_front ∙ is_not (list_any (same_entry (get_or xs i d)) seen) r told f))
+  pub noted_twice : r ≡ false → spec.Once (seen ++ k ∷ []) → ⊥
+  noted_twice f once = not_again seen k (any_has seen k (is_not (list_any (same_entry k) seen) r told f)) (once_of (seen ++ k ∷ []) once)
 
-pub take_all : (xs : List EntryKey) (i : ℕ) → length xs ≤ i → take i xs ≡ xs
-take_all [] zero h = refl
-take_all [] (suc i) h = refl
-take_all (x ∷ xs) zero h = absurd (omega arith)
-take_all (x ∷ xs) (suc i) h = ap (λ ys. x ∷ ys) (take_all xs i (omega arith))
+-- the names so far and of one more entry, where those of all stand once
+pub once_so_far : (es : List WireEntry) (i : ℕ) (x : WireEntry) (begun before : List EntryKey) → i < length es → x ≡ get_or es i x
+    → before ≡ begun ++ names (listed (take i es)) → spec.Once (begun ++ names (listed es)) → spec.Once (before ++ names (listed (x ∷ [])))
+once_so_far es i x begun before h e p once =
+    let more : begun ++ names (listed (take (i + 1) es)) ≡ before ++ names (listed (x ∷ [])) = sym (names_more es i x begun before (before ++ names (listed (x ∷ []))) h e p refl) in
+    let whole : names (listed es) ≡ names (listed (take (i + 1) es)) ++ names (listed (drop (i + 1) es)) =
+    ap (λ ys. names (listed ys)) (sym (take-append-drop (i + 1) es)) ∙ ap names (listed-append (take (i + 1) es) (drop (i + 1) es)) ∙ names-join (listed (take (i + 1) es)) (listed (drop (i + 1) es)) in
+    let split : begun ++ names (listed es) ≡ (begun ++ names (listed (take (i + 1) es))) ++ names (listed (drop (i + 1) es)) =
+    ap (λ z. begun ++ z) whole ∙ sym (append_assoc begun (names (listed (take (i + 1) es))) (names (listed (drop (i + 1) es)))) in
+    subst spec.Once more (once_front (begun ++ names (listed (take (i + 1) es))) (names (listed (drop (i + 1) es))) (subst spec.Once split once))
 
 pub ruleset naming = (append_assoc, append-nil)

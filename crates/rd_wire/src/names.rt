@@ -11,41 +11,6 @@ use indexmap::IndexSet;
 use rd_keys::EntryKey;
 use std::alloc::{AllocError, Global};
 
-#[cycle(naming)]
-fn push_names(out: &mut Vec<EntryKey>, list: &WireList) -> Result<(), AllocError>
-    ensures { OnOk result (out.new.items ≡ out.old.items ++ names list.now) }
-{
-    push_all(out, &list.entries)
-}
-
-/// The names of entries, from bottom to top, those in a group after its own.
-#[cycle(naming)]
-fn push_all(out: &mut Vec<EntryKey>, entries: &[WireEntry]) -> Result<(), AllocError>
-    ensures { OnOk result (out.new.items ≡ out.old.items ++ names (listed entries.now)) }
-{
-    for entry in entries {
-        push_one(out, entry)?;
-    }
-    Ok(())
-}
-
-#[cycle(naming)]
-#[tactic(auto, using(crate::proofs::Naming::naming))]
-fn push_one(out: &mut Vec<EntryKey>, entry: &WireEntry) -> Result<(), AllocError>
-    ensures { OnOk result (out.new.items ≡ out.old.items ++ names (listed (entry.now ∷ []))) }
-{
-    match entry {
-        WireEntry::Leaf { owner, part, .. } => {
-            out.push(EntryKey::Leaf(*owner, *part))?;
-            Ok(())
-        }
-        WireEntry::Group { key, inner, .. } => {
-            out.push(EntryKey::Group(*key))?;
-            push_names(out, inner)
-        }
-    }
-}
-
 /// Notes a name. Is it new?
 fn note(seen: &mut IndexSet<EntryKey>, name: EntryKey) -> Result<bool, AllocError>
     ensures fresh { IfOk result (λ r. r ≡ not (list_any (same_entry name) seen.old.keys)) }
@@ -56,14 +21,35 @@ fn note(seen: &mut IndexSet<EntryKey>, name: EntryKey) -> Result<bool, AllocErro
     Ok(fresh)
 }
 
-/// Does each name stand once?
-fn stand_once(alloc: Global, names: &[EntryKey]) -> Result<bool, AllocError>
-    ensures once { IfOk result (λ r. IsTrue r → Once names.now) }
-    ensures twice { IfOk result (λ r. IsFalse r → Once names.now → ⊥) }
+/// The same, said of what stands once.
+fn note_once(seen: &mut IndexSet<EntryKey>, name: EntryKey) -> Result<bool, AllocError>
+    ensures noted { IfOk result (λ r. IsTrue r → seen.new.keys ≡ seen.old.keys ++ name ∷ []) }
+    ensures once { IfOk result (λ r. IsTrue r → Once seen.old.keys → Once seen.new.keys) }
+    ensures twice { IfOk result (λ r. IsFalse r → Once (seen.old.keys ++ name ∷ []) → ⊥) }
 {
-    let mut seen = IndexSet::with_capacity(alloc, names.len())?;
-    for name in names {
-        let fresh = note(&mut seen, *name)?;
+    let fresh = note(seen, name)?;
+    Ok(fresh)
+}
+
+/// Notes the names of a list, up to one that is noted already. Is each new?
+#[cycle(noting)]
+fn note_names(seen: &mut IndexSet<EntryKey>, list: &WireList) -> Result<bool, AllocError>
+    ensures noted { IfOk result (λ r. IsTrue r → seen.new.keys ≡ seen.old.keys ++ names list.now) }
+    ensures once { IfOk result (λ r. IsTrue r → Once seen.old.keys → Once seen.new.keys) }
+    ensures twice { IfOk result (λ r. IsFalse r → Once (seen.old.keys ++ names list.now) → ⊥) }
+{
+    note_all(seen, &list.entries)
+}
+
+/// The same of entries, from bottom to top, those in a group after its own name.
+#[cycle(noting)]
+fn note_all(seen: &mut IndexSet<EntryKey>, entries: &[WireEntry]) -> Result<bool, AllocError>
+    ensures noted { IfOk result (λ r. IsTrue r → seen.new.keys ≡ seen.old.keys ++ names (listed entries.now)) }
+    ensures once { IfOk result (λ r. IsTrue r → Once seen.old.keys → Once seen.new.keys) }
+    ensures twice { IfOk result (λ r. IsFalse r → Once (seen.old.keys ++ names (listed entries.now)) → ⊥) }
+{
+    for entry in entries {
+        let fresh = note_entry(seen, entry)?;
         if !fresh {
             return Ok(false);
         }
@@ -71,12 +57,29 @@ fn stand_once(alloc: Global, names: &[EntryKey]) -> Result<bool, AllocError>
     Ok(true)
 }
 
+#[cycle(noting)]
+fn note_entry(seen: &mut IndexSet<EntryKey>, entry: &WireEntry) -> Result<bool, AllocError>
+    ensures noted { IfOk result (λ r. IsTrue r → seen.new.keys ≡ seen.old.keys ++ names (listed (entry.now ∷ []))) }
+    ensures once { IfOk result (λ r. IsTrue r → Once seen.old.keys → Once seen.new.keys) }
+    ensures twice { IfOk result (λ r. IsFalse r → Once (seen.old.keys ++ names (listed (entry.now ∷ []))) → ⊥) }
+{
+    match entry {
+        WireEntry::Leaf { owner, part, .. } => note_once(seen, EntryKey::Leaf(*owner, *part)),
+        WireEntry::Group { key, inner, .. } => {
+            let fresh = note_once(seen, EntryKey::Group(*key))?;
+            if !fresh {
+                return Ok(false);
+            }
+            note_names(seen, inner)
+        }
+    }
+}
+
 /// Does each name of a list stand once?
 pub(crate) fn names_differ(alloc: Global, list: &WireList) -> Result<bool, AllocError>
     ensures once { IfOk result (λ r. IsTrue r → Once (names list.now)) }
     ensures twice { IfOk result (λ r. IsFalse r → Once (names list.now) → ⊥) }
 {
-    let mut names = Vec::new(alloc);
-    push_names(&mut names, list)?;
-    stand_once(alloc, &names)
+    let mut seen = IndexSet::with_capacity(alloc, list.entries.len())?;
+    note_names(&mut seen, list)
 }
