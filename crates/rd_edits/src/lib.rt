@@ -1,6 +1,9 @@
 //! Edits of a tree of boxes.
 //! [`apply`] does an [`Edit`], or says by an [`EditFault`] why not; the first test that holds decides.
 //! A refused edit leaves the tree and its marks as they were.
+//!
+//! Kept: nothing; the tree keeps itself.
+//! Breaks: another refusal, or another order of tests, breaks `rd_engine` and the machine of `rd_run`.
 #![tactic(auto)]
 
 mod applying;

@@ -1,6 +1,9 @@
 //! Scripts drawn from a seed, to try the engine with.
 //! A [`Draw`] draws numbers, and [`script`] makes boxes and edits of them.
 //! The same seed gives the same script.
+//!
+//! Kept: nothing; a draw is its number.
+//! Breaks: another draw changes the script of each seed, and with it the stored cases of storms.
 #![tactic(auto)]
 
 mod boxes;

@@ -1,6 +1,11 @@
 //! Rectangles of pixels, colours of 8 bits a channel, and counters of steps.
 //! What every other crate measures, paints and counts with.
 //! Nothing here takes memory, and no arithmetic wraps.
+//!
+//! Kept: a rectangle's sides lie within 32 bits (`IsPlaced`), and a pixel's channels are at most its opacity
+//! (`IsPremultiplied`).
+//! Breaks: another rounding breaks `rd_paint` and the laws of pixels in `rd_list`; another reach of coordinates, every
+//! crate above.
 #![tactic(auto)]
 
 mod blend;

@@ -1,6 +1,9 @@
 //! What the pointer hits: the box of the topmost leaf under a pixel that takes hits.
 //! A kept list is sought from the top down, and no further than that leaf.
 //! Nothing is copied, and no memory is taken.
+//!
+//! Kept: nothing; a list is lent and read.
+//! Breaks: another rule of what is hit breaks `rd_engine`, whose hits are those of the painting order.
 #![tactic(auto)]
 
 ghost use Rattle.std.specs.Prelude.{◌≡◌, ◌≤◌, ◌<◌, ◌+◌, ◌-◌, ◌∷◌, [], IsTrue, None, drop, false, length};

@@ -103,7 +103,7 @@ pub fn push_block(blocks: &mut Vec<Block>, block: Block) -> bool
 
 /// Puts the blocks of the entries from one place up to another on top of those before them. Where there is no more room, the
 /// rest has none.
-pub fn cover_on<A: Ledger>(
+pub(crate) fn cover_on<A: Ledger>(
     blocks: &mut Vec<Block>,
     entries: &[Entry<A>],
     from: usize,

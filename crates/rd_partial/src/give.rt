@@ -54,7 +54,7 @@ fn show<A: Ledger, W: Wanted>(
 /// Puts the item of the background of a box on top, where it shows and is wanted.
 #[inline(always)]
 #[tactic(auto, using(crate::proofs::Pass::Joining::joins))]
-pub fn give_back<A: Ledger, W: Wanted>(
+pub(crate) fn give_back<A: Ledger, W: Wanted>(
     out: &mut Pieces<A>,
     wanted: &W,
     number: u64,
@@ -85,7 +85,7 @@ pub fn give_back<A: Ledger, W: Wanted>(
 /// Puts the item of the border of a box on top, where it has one that shows and is wanted.
 #[inline(always)]
 #[tactic(auto, using(crate::proofs::Pass::Joining::joins))]
-pub fn give_border<A: Ledger, W: Wanted>(
+pub(crate) fn give_border<A: Ledger, W: Wanted>(
     out: &mut Pieces<A>,
     wanted: &W,
     number: u64,
@@ -108,7 +108,7 @@ pub fn give_border<A: Ledger, W: Wanted>(
 /// Puts the item of the content of a box on top, where it has one that shows and is wanted.
 #[inline(always)]
 #[tactic(auto, using(crate::proofs::Pass::Joining::joins))]
-pub fn give_content<A: Ledger, W: Wanted>(
+pub(crate) fn give_content<A: Ledger, W: Wanted>(
     out: &mut Pieces<A>,
     wanted: &W,
     number: u64,
@@ -141,7 +141,7 @@ pub fn give_content<A: Ledger, W: Wanted>(
 /// Puts the item of the outline of a box on top, where it has one that shows and is wanted.
 #[inline(always)]
 #[tactic(auto, using(crate::proofs::Pass::Joining::joins))]
-pub fn give_outline<A: Ledger, W: Wanted>(
+pub(crate) fn give_outline<A: Ledger, W: Wanted>(
     out: &mut Pieces<A>,
     wanted: &W,
     number: u64,

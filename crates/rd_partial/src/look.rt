@@ -40,7 +40,7 @@ impl<'a> Looked<'a> {
 
     /// How many marks the box itself has: one, if it is touched.
     #[inline(always)]
-    pub fn own_marks(&self) -> u32
+    pub(crate) fn own_marks(&self) -> u32
         ensures { result ≡ (if self.now.touched then 1 else 0) }
     {
         u32::from(self.touched)

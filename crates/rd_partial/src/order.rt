@@ -173,7 +173,7 @@ fn is_composed(s: &Style, root: bool, blend_below: bool) -> bool
 
 /// A stacking context is put as one group where that is so, and where it paints anything.
 #[tactic(auto, using(crate::proofs::Pass::Joining::joins))]
-pub fn as_group<A: Ledger>(
+pub(crate) fn as_group<A: Ledger>(
     alloc: Global,
     root: bool,
     blend_below: bool,

@@ -33,7 +33,7 @@ impl Model for Standing {
 
 impl Standing {
     /// Above the root: nothing clips, and the whole canvas may be seen.
-    pub fn at_root(canvas: Size) -> Standing
+    pub(crate) fn at_root(canvas: Size) -> Standing
         requires { IsCanvas canvas }
         ensures { result ≡ spec.at_root (canvas_of canvas) }
     {

@@ -662,7 +662,7 @@ fn children<A: Ledger, B: Ledger, W: Wanted>(
 }
 
 /// The fresh list of a tree as far as it is wanted, each item made by paint `number` (CSS 2.2 Appendix E).
-pub fn build_wanted<A: Ledger, B: Ledger, W: Wanted>(
+pub(crate) fn build_wanted<A: Ledger, B: Ledger, W: Wanted>(
     alloc: Global,
     tree: &Tree<B>,
     wanted: &W,

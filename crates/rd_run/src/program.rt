@@ -146,9 +146,10 @@ fn serve<S: Source, O: Sink, A: Ledger, B: Ledger>(
 /// Does all that the program does, and gives its exit status. The words are those after the program's name. Under the
 /// word `replay` it reads a script from `source` and writes to `out` the lines that answer its commands; under `render`
 /// it reads one, does its commands, and writes the picture of what is painted at its end (Netpbm P6); under `storm` it
-/// does the commands of a generated script, and writes a summary of four lines; under `wire` it does what it does under
-/// `render`, and writes the list that is kept at its end in the wire form; under `compose` it reads such a list, and writes
-/// its picture. The line that goes with another status than 0 goes to `err`. `made` counts the items that paints make, and
+/// does the commands of a generated script, and writes a summary of four lines; under `tiles` it does what it does under
+/// `render`, on tiles of 64 by 64 pixels, and writes a line for each paint and last the digest of the picture; under `wire` it
+/// writes the list that is kept at the end of a script in the wire form; under `compose` it reads such a list, and writes its
+/// picture. The line that goes with another status than 0 goes to `err`. `made` counts the items that paints make, and
 /// `looks` the looks at boxes.
 pub fn run<S: Source, O: Sink, E: Sink, A: Ledger, B: Ledger>(
     alloc: Global,

@@ -2,6 +2,9 @@
 //! [`read`] takes a script from the bytes of a JSON text, or says that they are none.
 //! [`write_scene`] gives the canonical text of one.
 //! A [`Script`] keeps the rules of the format, so that whoever is handed one need not look again.
+//!
+//! Kept: a [`Script`] keeps every rule of the format (`IsScript`).
+//! Breaks: another rule breaks `rd_gen`, which owes it of what it draws, and `rd_run`.
 #![tactic(auto)]
 
 mod boxes;

@@ -92,7 +92,7 @@ fn line(
 
 /// Paints the content of c, and its line on top.
 #[tactic(auto, using(crate::proofs::Joined::joins))]
-pub fn content_and_line(
+pub(crate) fn content_and_line(
     alloc: Global,
     out: &mut PlainList,
     canvas: &Rect,

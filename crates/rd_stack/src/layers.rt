@@ -81,7 +81,7 @@ fn has_blended_layer(e: &BoxPath, below: &[Painted]) -> bool
 }
 
 /// Is a box put as one group onto what is below it (CSS Compositing 1 section 3.2)?
-pub fn is_grouped(e: &BoxPath, below: &[Painted]) -> bool
+pub(crate) fn is_grouped(e: &BoxPath, below: &[Painted]) -> bool
     ensures { result ≡ grouping e.now below.now }
 {
     is_context(e)
@@ -92,7 +92,7 @@ pub fn is_grouped(e: &BoxPath, below: &[Painted]) -> bool
 
 /// Puts all that a box paints, as a group where it is composed as a whole.
 #[tactic(auto, using(crate::proofs::Joined::joins))]
-pub fn entry_of(alloc: Global, out: &mut PlainList, x: &Painted) -> Result<(), NoMemory>
+pub(crate) fn entry_of(alloc: Global, out: &mut PlainList, x: &Painted) -> Result<(), NoMemory>
     ensures { OnOk result (out.new ≡ out.old ▷ spec.entry_of x.now) }
 {
     if x.grouped && x.order.has_leaf() {
@@ -135,7 +135,7 @@ fn layers_where(
 }
 
 /// Step 3: the layers of negative level.
-pub fn negative_layers(
+pub(crate) fn negative_layers(
     alloc: Global,
     out: &mut PlainList,
     e: &BoxPath,
@@ -147,7 +147,7 @@ pub fn negative_layers(
 }
 
 /// Step 8: the layers of level auto or 0.
-pub fn zero_layers(
+pub(crate) fn zero_layers(
     alloc: Global,
     out: &mut PlainList,
     e: &BoxPath,
@@ -159,7 +159,7 @@ pub fn zero_layers(
 }
 
 /// Step 9: the layers of positive level.
-pub fn positive_layers(
+pub(crate) fn positive_layers(
     alloc: Global,
     out: &mut PlainList,
     e: &BoxPath,

@@ -1,6 +1,9 @@
 //! The painting order of a tree of boxes (CSS 2.2 Appendix E).
 //!
 //! The plain program computes the fresh list of a tree by filters over the boxes below each box; it is slow and stays as what faster ones are compared with.
+//!
+//! Kept: a box whose parts are made has an outline that fits (`OutlineFits`).
+//! Breaks: another rule of painting breaks `rd_partial`, which makes the same in one pass, and by the laws `rd_engine`.
 #![tactic(auto)]
 
 mod clip;
