@@ -398,18 +398,19 @@ COMMANDS = {
     "style": {"id": id_at("id"), "style": change_at},
     "rect": {"id": id_at("id"), "rect": rect_at},
     "shift": {"id": id_at("id"), "dx": number_at("dx", MOST_DISTANCE), "dy": number_at("dy", MOST_DISTANCE)},
+    "scroll": {"id": id_at("id"), "x": number_at("x", MOST_DISTANCE), "y": number_at("y", MOST_DISTANCE)},
     "paint": {},
     "hit": PIXEL,
     "pixel": PIXEL,
     "dump": {},
     "shot": {},
 }
-EDITS = ("insert", "remove", "move", "style", "rect", "shift")
+EDITS = ("insert", "remove", "move", "style", "rect", "shift", "scroll")
 
 
 def command_of(value, version):
     name = string_of(member(object_of(value), "do"))
-    owed(name in COMMANDS, "Command")
+    owed(name in COMMANDS and (version == 2 or name != "scroll"), "Command")
     only_members(value, ("do", *COMMANDS[name]))
     return {"do": name, **{key: read(value, version) for key, read in COMMANDS[name].items()}}
 
@@ -457,6 +458,7 @@ def read_script(script_bytes):
 class Box:
     def __init__(self, name, parent, rect, style):
         self.id, self.parent, self.rect, self.style = name, parent, rect, style
+        self.scroll = (0, 0)
         self.children = []
         self.touched = False
 
@@ -553,6 +555,8 @@ class Tree:
             return 8
         if edit["do"] == "shift" and not all(is_allowed(shifted(b.rect, edit)) for b in box.subtree()):
             return 9
+        if edit["do"] == "scroll" and max(abs(edit["x"]), abs(edit["y"])) > FARTHEST:
+            return 9
         return None
 
     def edit(self, edit):
@@ -602,6 +606,11 @@ class Tree:
         for box in self.find(edit["id"]).subtree():
             touch([box])
             box.rect = shifted(box.rect, edit)
+
+    def scroll(self, edit):
+        box = self.find(edit["id"])
+        box.scroll = edit["x"], edit["y"]
+        touch(box.below() if clips(box) else [])
 
 
 def shifted(r, edit):
@@ -682,18 +691,24 @@ Leaf = collections.namedtuple("Leaf", "owner part visible outer inner color hits
 PARTS = ("back", "border", "content", "outline")
 
 
-def padding_box(box):
-    return inset(box.rect, *box.style["border-width"])
-
-
 def containing_chain(box):
-    """The boxes that clip it where they clip: its containing block, the one of that, and so on."""
+    """Its containing block, the one of that, and so on: the boxes that clip it, and scroll it, where they clip."""
     if box.style["position"] == "fixed" or is_root(box):
         return []
     block = box.parent
     if box.style["position"] == "absolute":
         block = next((b for b in box.above() if is_positioned(b)), None)
     return [] if block is None else [block] + containing_chain(block)
+
+
+def drawn_at(box):
+    """Where its border box is drawn: its rectangle less the scroll offsets of the boxes that clip it."""
+    offsets = [block.scroll for block in containing_chain(box) if clips(block)]
+    return Rect(box.rect.x - sum(x for x, _ in offsets), box.rect.y - sum(y for _, y in offsets), box.rect.w, box.rect.h)
+
+
+def padding_box(box):
+    return inset(drawn_at(box), *box.style["border-width"])
 
 
 def clip_of(box, canvas):
@@ -706,16 +721,16 @@ def clip_of(box, canvas):
 
 def shape_of(box, part, canvas):
     """The outer and the inner rectangle and the colour of a part; None where the box has no such part."""
-    style = box.style
+    style, drawn = box.style, drawn_at(box)
     if part == "back":
-        return (canvas if is_root(box) else box.rect), NO_PIXELS, style["background"]
+        return (canvas if is_root(box) else drawn), NO_PIXELS, style["background"]
     if part == "border" and any(style["border-width"]):
-        return box.rect, padding_box(box), style["border-color"]
+        return drawn, padding_box(box), style["border-color"]
     if part == "content" and style["content"] is not None:
         return padding_box(box), NO_PIXELS, style["content"]
     if part == "outline" and style["outline-width"] > 0:
-        inner = NO_PIXELS if has_none(box.rect) else box.rect
-        return outset(box.rect, style["outline-width"]), inner, style["outline-color"]
+        inner = NO_PIXELS if has_none(drawn) else drawn
+        return outset(drawn, style["outline-width"]), inner, style["outline-color"]
     return None
 
 

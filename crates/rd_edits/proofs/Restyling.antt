@@ -1,5 +1,5 @@
 -- A box keeps to the limits under a change that names widths within them.
-use Rattle.std.proofs.Common.{◌≡◌, ℕ, ◌≤◌, Bool, true, false, ◌&&◌, T, nat_le, Option, Some, None, IfSome, unwrap_or}
+use Rattle.std.proofs.Common.{◌≡◌, ℕ, ◌≤◌, Bool, true, false, ◌&&◌, nat_le, Option, Some, None, IfSome, unwrap_or}
 use Rattle.std.specs.Option.{option_map_or}
 use Rattle.std.proofs.lemmas.Bool.{leb-true}
 use Rattle.rd_geom.specs.declared.rect.Sides.{Sides}
@@ -9,10 +9,11 @@ use Rattle.rd_style.specs.Changes.{changed}
 use Rattle.rd_style.specs.Limits.{Fits}
 use Rattle.rd_style.proofs.Bounds.{WidthBounds, fits-open, fits-close}
 use Rattle.rd_keys.specs.Keys.{same_key}
-use Rattle.rd_tree.specs.Forest.{empty, tree, starting_at, top}
+use Rattle.rd_tree.specs.Forest.{empty, tree, starting_at, top, AllItems}
 use Rattle.rd_tree.specs.Document.{BoxKey, BoxForest, AllFit}
 use Rattle.rd_tree.specs.Changes.{CanRestyle}
-use Rattle.rd_tree.proofs.Nodes.Looking.{fit_from}
+use Rattle.rd_tree.proofs.Laying.Near.{FitsItem, to_items}
+use Rattle.rd_tree.proofs.Forests.All.{all_from}
 use Rattle.rd_edits.specs.Ranges.{fits_sides, fits_change}
 
 both : (a b : Bool) → (a && b) ≡ true → (a ≡ true) × (b ≡ true)
@@ -63,8 +64,8 @@ restyled_fits s c h g =
 
 -- Where all boxes are within the limits, one whose named widths are too stays so.
 pub stays_within : (k : BoxKey) (c : StyleChange) (f : BoxForest) → AllFit f → fits_change c ≡ true → CanRestyle k c f
-stays_within k c f h g = first (starting_at same_key k f) (fit_from k f h)
+stays_within k c f h g = first (starting_at same_key k f) (all_from FitsItem same_key k f (to_items f h))
   where
-    first : (f : BoxForest) → AllFit f → IfSome (top f) (λ d. Fits (changed d.style c))
+    first : (f : BoxForest) → AllItems FitsItem f → IfSome (top f) (λ d. Fits (changed d.style c))
     first empty h = tt
-    first (tree j d below rest) h = restyled_fits d.style c h.1 g
+    first (tree j d below rest) h = restyled_fits d.style c h.0.1 g

@@ -1,10 +1,10 @@
 -- The tree after an edit. It is this project's own choice.
 use Rattle.std.specs.Prelude.{◌≡◌, ℕ, List, Option, Some, option_and_then}
 use Rattle.rd_tree.specs.Document.{Document, BoxKey, BoxForest, IsNext, named}
-use Rattle.rd_tree.specs.Changes.{Change, insertion, removal, moving, styling, placing, shifting, new_item}
+use Rattle.rd_tree.specs.Changes.{Change, insertion, removal, moving, styling, placing, shifting, scrolling, new_item}
 use Rattle.rd_tree.specs.Touching.{edited}
 use Rattle.rd_edits.specs.declared.edit.Edit.{Edit}
-use Rattle.rd_edits.specs.declared.edit.Edit.TheVariants.{Insert, Remove, Move, SetStyle, SetRect, Shift}
+use Rattle.rd_edits.specs.declared.edit.Edit.TheVariants.{Insert, Remove, Move, SetStyle, SetRect, Shift, Scroll}
 
 -- the box to stand before, where one is given
 abbrev pub place_of : Option (List ℕ) → BoxForest → Option BoxKey
@@ -22,6 +22,7 @@ IsNamed (Move i parent before) t c =
 IsNamed (SetStyle i change) t c = (k : BoxKey) × (named i t.boxes ≡ Some k) × (c ≡ styling k change)
 IsNamed (SetRect i rect) t c = (k : BoxKey) × (named i t.boxes ≡ Some k) × (c ≡ placing k rect)
 IsNamed (Shift i dx dy) t c = (k : BoxKey) × (named i t.boxes ≡ Some k) × (c ≡ shifting k dx dy)
+IsNamed (Scroll i x y) t c = (k : BoxKey) × (named i t.boxes ≡ Some k) × (c ≡ scrolling k (record { x = x; y = y }))
 
 -- The new tree is the old one after the change that the edit makes, with what the change touches marked.
 abbrev pub IsEdited : Edit → Document → Document → Type 0
@@ -35,3 +36,4 @@ IsInsert (Move i parent before) = ⊥
 IsInsert (SetStyle i change) = ⊥
 IsInsert (SetRect i rect) = ⊥
 IsInsert (Shift i dx dy) = ⊥
+IsInsert (Scroll i x y) = ⊥

@@ -1,16 +1,17 @@
 -- Which edits are refused. The tests, their numbers and their order are this project's own choice.
-use Rattle.std.specs.Prelude.{◌≡◌, ℕ, ◌+◌, nat_le, nat_lt, Bool, true, false, ◌||◌, not, if◌then◌else◌, List, [], ◌∷◌, Option, Some, None, is_some, is_none}
+use Rattle.std.specs.Prelude.{◌≡◌, ℕ, ◌+◌, nat_le, nat_lt, Bool, false, ◌||◌, not, if◌then◌else◌, List, [], ◌∷◌, Option, Some, None, is_some, is_none}
 use Rattle.std.specs.Option.{option_map_or}
 use Rattle.rd_style.specs.Limits.{fits_rect, fits}
 use Rattle.rd_keys.specs.Keys.{same_key}
 use Rattle.rd_tree.specs.Figures.{max_boxes, max_depth}
 use Rattle.rd_tree.specs.Forest.{children, depth, height, in_subtree, is_among}
 use Rattle.rd_tree.specs.Document.{Document, BoxKey, named, taken}
+use Rattle.rd_tree.specs.Limits.{fits_scroll}
 use Rattle.rd_tree.specs.Changes.{fits_shift}
 use Rattle.rd_edits.specs.Edited.{place_of, IsInsert}
 use Rattle.rd_edits.specs.Ranges.{fits_change}
 use Rattle.rd_edits.specs.declared.edit.Edit.{Edit}
-use Rattle.rd_edits.specs.declared.edit.Edit.TheVariants.{Insert, Remove, Move, SetStyle, SetRect, Shift}
+use Rattle.rd_edits.specs.declared.edit.Edit.TheVariants.{Insert, Remove, Move, SetStyle, SetRect, Shift, Scroll}
 use Rattle.rd_edits.specs.declared.fault.EditFault.{EditFault}
 use Rattle.rd_edits.specs.declared.fault.EditFault.TheVariants.{UnknownId, UnknownParent, IsRoot, IntoItself, NotAChild, DuplicateId, TooDeep, TooMany, OutOfRange, NoMemory}
 
@@ -116,6 +117,7 @@ refusal_of t (Shift i dx dy) =
       is_one (λ k. not (fits_shift dx dy k
           t.boxes)) i t,
     ) ∷ [])
+refusal_of t (Scroll i x y) = first_that ((UnknownId, is_unknown i t) ∷ (OutOfRange, not (fits_scroll (record { x = x; y = y }))) ∷ [])
 
 -- Want of memory comes only where nothing refuses the edit and it makes a box; any other answer is the fault that does.
 abbrev pub IsRefused : Document → Edit → EditFault → Type 0

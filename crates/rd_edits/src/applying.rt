@@ -8,7 +8,7 @@ use crate::edit::Edit;
 use crate::fault::EditFault;
 use crate::insert::insert;
 use crate::moves::{move_to, remove};
-use crate::values::{set_rect, set_style, shift};
+use crate::values::{scroll, set_rect, set_style, shift};
 use rd_tree::Tree;
 use std::sync::ledger::Ledger;
 
@@ -33,5 +33,6 @@ pub fn apply<B: Ledger>(tree: &mut Tree<B>, edit: &Edit) -> Result<(), EditFault
         Edit::SetStyle { id, change } => set_style(tree, id, change),
         Edit::SetRect { id, rect } => set_rect(tree, id, *rect),
         Edit::Shift { id, dx, dy } => shift(tree, id, *dx, *dy),
+        Edit::Scroll { id, x, y } => scroll(tree, id, *x, *y),
     }
 }

@@ -4,6 +4,8 @@ ghost use Rattle.std.specs.Prelude.{◌≡◌, ◌+◌, ◌≤◌, IfSome, OnSom
 ghost use Rattle.rd_keys.specs.Keys.{same_key};
 ghost use Rattle.rd_tree.specs.Document.{contains, HasFreeSlot};
 ghost use Rattle.rd_tree.specs.Forest.{children, depth, IsPlaceIn};
+ghost use Rattle.rd_style.specs.Limits as style_limits;
+ghost use Rattle.rd_tree.specs.Limits as limits;
 ghost use Rattle.rd_edits.specs.Edited as edited;
 ghost use Rattle.rd_edits.specs.Ranges as ranges;
 ghost use Rattle.rd_edits.specs.Refusals as refusals;
@@ -11,7 +13,7 @@ ghost use Rattle.rd_tree.specs.Figures.{max_depth};
 
 use rd_geom::Sides;
 use rd_style::{MAX_LINE_WIDTH, StyleChange};
-use rd_tree::{BoxKey, Id, MAX_BOXES, MAX_DEPTH, Tree};
+use rd_tree::{BoxKey, Id, MAX_BOXES, MAX_DEPTH, MAX_SCROLL, Tree};
 use std::sync::ledger::Ledger;
 
 /// Is each of the four widths within the limits?
@@ -37,6 +39,21 @@ pub(crate) fn fits_change(c: &StyleChange) -> bool
         None => true,
     };
     border && outline
+}
+
+fn is_between(low: i32, v: i32, high: i32) -> bool
+    ensures { result ≡ style_limits.is_between low v high }
+{
+    low <= v && v <= high
+}
+
+/// Is each side of a scroll offset within the limits?
+#[tactic(auto, unfolding(rd_tree::specs::Limits::fits_scroll))]
+pub(crate) fn fits_scroll(x: i32, y: i32) -> bool
+    ensures { result ≡ limits.fits_scroll (record { x = x; y = y }) }
+{
+    let least = -MAX_SCROLL;
+    is_between(least, x, MAX_SCROLL) && is_between(least, y, MAX_SCROLL)
 }
 
 /// Is the box the root?

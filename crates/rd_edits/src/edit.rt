@@ -42,4 +42,10 @@ pub enum Edit {
         dx: i32,
         dy: i32,
     },
+    /// Another scroll offset of a box, in canvas pixels.
+    Scroll {
+        id: Id,
+        x: i32,
+        y: i32,
+    },
 }

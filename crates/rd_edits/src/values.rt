@@ -3,9 +3,9 @@
 ghost use Rattle.std.specs.Prelude.{◌≡◌, IfErr, OnOk, OnErr, None};
 ghost use Rattle.rd_edits.specs.Edited.{IsEdited};
 ghost use Rattle.rd_edits.specs.Refusals.{IsRefused, refusal_of};
-ghost use Rattle.rd_edits.specs.declared.edit.Edit.TheVariants.{SetStyle, SetRect, Shift};
+ghost use Rattle.rd_edits.specs.declared.edit.Edit.TheVariants.{Scroll, SetStyle, SetRect, Shift};
 
-use crate::checks::fits_change;
+use crate::checks::{fits_change, fits_scroll};
 use crate::fault::EditFault;
 use rd_geom::Rect;
 use rd_style::{StyleChange, fits_rect};
@@ -72,5 +72,28 @@ pub(crate) fn shift<B: Ledger>(
         return Err(EditFault::OutOfRange);
     }
     tree.shift(key, dx, dy);
+    Ok(())
+}
+
+/// Gives a box another scroll offset.
+#[tactic(auto, using(rd_tree::proofs::Nodes::Naming::named_there))]
+pub(crate) fn scroll<B: Ledger>(
+    tree: &mut Tree<B>,
+    id: &Id,
+    x: i32,
+    y: i32,
+) -> Result<(), EditFault>
+    ensures refused { IfErr result (λ f. IsRefused tree.old (Scroll id.now x y) f) }
+    ensures accepted { OnOk result (refusal_of tree.old (Scroll id.now x y) ≡ None) }
+    ensures done { OnOk result (IsEdited (Scroll id.now x y) tree.old tree.new) }
+    ensures kept { OnErr result (tree.new ≡ tree.old) }
+{
+    let Some(key) = tree.find(id) else {
+        return Err(EditFault::UnknownId);
+    };
+    if !fits_scroll(x, y) {
+        return Err(EditFault::OutOfRange);
+    }
+    tree.scroll(key, x, y);
     Ok(())
 }

@@ -18,6 +18,7 @@ use Rattle.rd_list.proofs.Merges.Naming.{covering}
 use Rattle.rd_tree.specs.Forest.{IsApart}
 use Rattle.rd_tree.specs.declared.node.Item.{Item}
 use Rattle.rd_tree.specs.Document.{BoxForest, is_touched}
+use Rattle.rd_tree.specs.Drawn.{drawn}
 use Rattle.rd_stack.specs.Fresh.{fresh_list}
 use Rattle.rd_stack.specs.Laws.{IsOnCanvas}
 use Rattle.rd_stack.proofs.Promises.{shows_on_canvas}
@@ -151,8 +152,8 @@ module _ (s : EngineState) (a : Region) (is : IsInvalidArea s a) where
   near : (d : Item) (below : BoxForest) → is_near a d below ≡ true → is_visited (invalid_area s) d below ≡ true
   near d below h = second_of (holds_touched d below) (is_near (invalid_area s) d below) (sym (meets_area-same a (invalid_area s) (hull_at d below) is.pixels) ∙ h)
 
-  pub near_looks : looks_bound (is_near a) s.tree.boxes ≤ looks_bound (is_visited (invalid_area s)) s.tree.boxes
-  near_looks = looks (is_near a) (is_visited (invalid_area s)) near s.tree.boxes
+  pub near_looks : looks_bound (is_near a) (drawn s.tree).boxes ≤ looks_bound (is_visited (invalid_area s)) (drawn s.tree).boxes
+  near_looks = looks (is_near a) (is_visited (invalid_area s)) near (drawn s.tree).boxes
 
-pub touched_looks : (s : EngineState) → looks_bound holds_touched s.tree.boxes ≤ looks_bound (is_visited (invalid_area s)) s.tree.boxes
-touched_looks s = looks holds_touched (is_visited (invalid_area s)) (λ d below h. first_of (holds_touched d below) (is_near (invalid_area s) d below) h) s.tree.boxes
+pub touched_looks : (s : EngineState) → looks_bound holds_touched (drawn s.tree).boxes ≤ looks_bound (is_visited (invalid_area s)) (drawn s.tree).boxes
+touched_looks s = looks holds_touched (is_visited (invalid_area s)) (λ d below h. first_of (holds_touched d below) (is_near (invalid_area s) d below) h) (drawn s.tree).boxes

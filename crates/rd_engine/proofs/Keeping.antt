@@ -20,7 +20,7 @@ use Rattle.rd_list.specs.Lists.{pixel, hit}
 use Rattle.rd_list.proofs.Merges.Naming.{groups_apart}
 use Rattle.rd_tree.specs.Forest.{IsApart}
 use Rattle.rd_tree.specs.Document.{Document}
-use Rattle.rd_tree.specs.Changes.{Change, insertion, removal, moving, styling, placing, shifting}
+use Rattle.rd_tree.specs.Changes.{Change, insertion, removal, moving, styling, placing, shifting, scrolling}
 use Rattle.rd_tree.specs.Touching.{edited}
 use Rattle.rd_edits.specs.Edited.{IsEdited}
 use Rattle.rd_edits.specs.Refusals.{refusal_of}
@@ -45,6 +45,7 @@ same_canvas (moving k p before) t = refl
 same_canvas (styling k c) t = refl
 same_canvas (placing k r) t = refl
 same_canvas (shifting k dx dy) t = refl
+same_canvas (scrolling k v) t = refl
 
 pub edited_engine : (e : Edit) (s : EngineState) (t : Document) → IsEngine s → IsWellMade s.tree → refusal_of s.tree e ≡ None → IsEdited e s.tree t → IsEngine (record s { tree = t; pending = true })
 edited_engine e s t is made accepted did =

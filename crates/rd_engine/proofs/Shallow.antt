@@ -1,5 +1,5 @@
 -- The groups of a painting order stand no deeper than its boxes.
-use Rattle.std.proofs.Common.{Bool, true, false, not, ◌&&◌, cond, List, [], ◌∷◌, ◌++◌, ℕ, ◌+◌, ◌≤◌, max, arith}
+use Rattle.std.proofs.Common.{Bool, true, false, not, ◌&&◌, cond, List, [], ◌∷◌, ◌++◌, ℕ, ◌+◌, ◌≤◌, max, arith, subst}
 use Rattle.std.specs.Prelude.{filter, Option, Some, None}
 use Rattle.rd_geom.specs.Plane.{Rectangle}
 use Rattle.rd_geom.specs.Canvas.{canvas_of}
@@ -11,6 +11,8 @@ use Rattle.rd_list.specs.Entries.{Entries, nil, leaf, group, ◌▷◌, each, op
 use Rattle.rd_list.specs.Views.{levels, deeper}
 use Rattle.rd_tree.specs.Forest.{empty, tree, height}
 use Rattle.rd_tree.specs.Document.{BoxForest, Document}
+use Rattle.rd_tree.specs.Drawn.{drawn}
+use Rattle.rd_tree.proofs.DrawnBoxes.{height-drawn}
 use Rattle.rd_stack.specs.Paths.{BoxData, BoxPath, is_root, is_context, is_local, is_layer, is_in_line}
 use Rattle.rd_stack.specs.Parts.{leaf_at}
 use Rattle.rd_stack.specs.Painting.{Painted, by_level, insert_by_level, is_lower, entry_of, wrapper_of, paint_if, paint, back_border, inline_part, content_and_line, steps, layers_of, line_of, is_negative, is_positive, is_zero, is_blocky}
@@ -163,4 +165,4 @@ module _ (canvas : Rectangle) where
 
 -- A fresh list has at most one level more than its tree.
 pub shallow : (t : Document) → levels (fresh_list t) ≤ height t.boxes + 1
-shallow t = (in_order (canvas_of t.canvas) t.boxes).within
+shallow t = subst (λ n. levels (fresh_list t) ≤ n + 1) (height-drawn [] t.boxes) (in_order (canvas_of t.canvas) (drawn t).boxes).within

@@ -11,6 +11,7 @@ use Rattle.rd_list.specs.Entries.{Entries}
 use Rattle.rd_list.specs.Lists.{meeting}
 use Rattle.rd_list.specs.EntryNames.{kept_leaves}
 use Rattle.rd_tree.specs.Document.{Document}
+use Rattle.rd_tree.specs.Drawn.{drawn}
 use Rattle.rd_stack.specs.Fresh.{fresh_list}
 use Rattle.rd_partial.specs.Invalid.{is_invalid}
 use Rattle.rd_partial.specs.Looks.{looks_bound, is_visited}
@@ -47,7 +48,7 @@ remade_in area t = meeting area (fresh_list t)
 -- how often a paint of this area may look at boxes: twice for each that is the root, is touched, has one below it that is, or
 -- is near the area, and for each of their children
 abbrev pub looks_in : Region → Document → ℕ
-looks_in area t = 2 * looks_bound (is_visited area) t.boxes
+looks_in area t = 2 * looks_bound (is_visited area) (drawn t).boxes
 
 -- the list of an engine's last paint; none before the first
 abbrev pub painted_list : EngineState → Option (Entries Wrapper Leaf)

@@ -14,6 +14,7 @@ use Rattle.rd_list.specs.Kept.{IsMerged}
 use Rattle.rd_list.specs.EntryNames.{entry_names, kept_leaves, made_leaf}
 use Rattle.rd_tree.specs.Forest.{map_where}
 use Rattle.rd_tree.specs.Touching.{settled}
+use Rattle.rd_tree.specs.Drawn.{drawn}
 use Rattle.rd_tree.specs.Document.{Document, is_touched}
 use Rattle.rd_stack.specs.Fresh.{fresh_list}
 use Rattle.rd_partial.specs.Looks.{is_visited, looks_bound}
@@ -81,7 +82,7 @@ pub record AreNumbered (old new : EngineState) : Type 0 where
 -- the boxes that a paint goes to, each with its children: the root, and those that are touched, have a touched one below
 -- them, or are near the area
 abbrev pub half_looks : EngineState → ℕ
-half_looks s = looks_bound (is_visited (invalid_area s)) s.tree.boxes
+half_looks s = looks_bound (is_visited (invalid_area s)) (drawn s.tree).boxes
 
 -- how often a paint may look at boxes: twice at each
 abbrev pub most_looks : EngineState → ℕ

@@ -1,7 +1,7 @@
 -- The hit of a list with another on top.
 use Rattle.std.specs.Prelude.{option_map, filter}
-use Rattle.std.proofs.Common.{◌≡◌, refl, ◌∙◌, sym, ap, subst, zero, suc, ℤ, ℕ, ◌+◌, ◌-◌, ◌≤◌, arith, ◌++◌, ◌<◌, Bool, true, false, not, ◌&&◌, cond, List, [], ◌∷◌, length, take, drop, get_or, Option, Some, None}
-use Rattle.std.proofs.lemmas.List.{take-append-drop, drop-drop, length-drop, take_all}
+use Rattle.std.proofs.Common.{◌≡◌, refl, ◌∙◌, sym, ap, subst, ℤ, ℕ, ◌+◌, ◌-◌, ◌≤◌, arith, ◌++◌, ◌<◌, Bool, true, false, not, ◌&&◌, cond, List, [], ◌∷◌, length, take, drop, get_or, Option, Some, None}
+use Rattle.std.proofs.lemmas.List.{take-append-drop, drop-drop}
 use Rattle.std.specs.Option.{is_some}
 use Rattle.rd_geom.specs.Plane.{Rectangle, IsWithin, holds_pixel}
 use Rattle.rd_keys.specs.Keys.{BoxKey}
@@ -9,7 +9,7 @@ use Rattle.rd_item.specs.declared.leaf.Leaf as item
 use Rattle.rd_list.specs.declared.kept.Entry.{Entry}
 use Rattle.rd_list.specs.Wrappers.{Wrapper}
 use Rattle.rd_list.specs.Displayed.{shown}
-use Rattle.rd_list.specs.Entries.{Entries, nil, leaf, group, ◌▷◌, flat, list_size}
+use Rattle.rd_list.specs.Entries.{Entries, nil, leaf, group, ◌▷◌, flat}
 use Rattle.rd_list.specs.Blocks.{AreHeld, AreWithin, Covers, Tells, total}
 use Rattle.rd_list.specs.EntryNames.{kept_leaves}
 use Rattle.rd_list.specs.Kept.{Ordered}
@@ -17,7 +17,6 @@ use Rattle.rd_list.specs.KeptView.{kept_entries}
 use Rattle.rd_list.proofs.Covering.{held_leaves, total_next}
 use Rattle.rd_list.proofs.Admitting.{found_told}
 use Rattle.rd_list.specs.declared.blocks.Block.{Block}
-use Rattle.rd_list.specs.declared.kept.Entry.TheVariants as kept
 use Rattle.rd_item.specs.Items.{Made}
 use Rattle.rd_keys.specs.declared.entry.EntryKey.{EntryKey}
 use Rattle.rd_list.specs.Lists.{hit, is_hit, is_outline, last}

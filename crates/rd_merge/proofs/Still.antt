@@ -1,7 +1,7 @@
 -- Where nothing goes: what stays of a level is all of it, and a kept list is its own merge with the empty list.
 use Rattle.std.proofs.Common.{◌≡◌, refl, ap, ◌∙◌, sym, subst, Bool, true, false, cond, List, [], inl, inr}
 use Rattle.rd_graph.specs.Graphs.{Precedes}
-use Rattle.rd_graph.specs.Orders.{Before, Chain}
+use Rattle.rd_graph.specs.Orders.{Chain}
 use Rattle.rd_graph.specs.Orders as order
 use Rattle.rd_graph.proofs.Reaching.Calls.{once_of}
 use Rattle.rd_graph.proofs.Reaching.Chains.{chain_of}

@@ -24,7 +24,7 @@ next_told root f k v d below rest is h = let e : Some v ≡ shown root (tree k d
 low_told : (root : BoxKey) (f : BoxForest) (k : BoxKey) (v : Shown) (d : Item) (below rest : BoxForest) → starting_at same_key k f ≡ tree k d below rest → Some v ≡ shown root (starting_at same_key k f) → v.blend_below ≡ blends_in below
 low_told root f k v d below rest is h = let e : Some v ≡ shown root (tree k d below rest) = rw is at h in cc
 
-pub onward : (root : BoxKey) (f : BoxForest) (k : BoxKey) (v : Shown) (here : BoxData) → IsApart same_key f → Some v ≡ shown root (starting_at same_key k f) → here ≡ record { key = v.key; rect = v.rect; style = v.style }
+pub onward : (root : BoxKey) (f : BoxForest) (k : BoxKey) (v : Shown) (here : BoxData) → IsApart same_key f → Some v ≡ shown root (starting_at same_key k f) → here ≡ record { key = v.key; rect = v.at; style = v.style }
     → Onward f k here v.first_child v.next_sibling v.hull
 onward root f k v here a h e =
     let w = going.onward root f k v here a h e in
@@ -33,5 +33,5 @@ onward root f k v here a h e =
 -- whether a blended layer is below it
 pub low_first : (root : BoxKey) (f : BoxForest) (k : BoxKey) (v : Shown) → IsApart same_key f → Some v ≡ shown root (starting_at same_key k f) → v.blend_below ≡ blends_in (from_some same_key v.first_child f)
 low_first root f k v a h =
-    let w = going.onward root f k v (record { key = v.key; rect = v.rect; style = v.style }) a h refl in
+    let w = going.onward root f k v (record { key = v.key; rect = v.at; style = v.style }) a h refl in
     low_told root f k v w.item w.below w.rest w.is h ∙ ap blends_in (sym w.child)

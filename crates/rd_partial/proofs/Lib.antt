@@ -12,3 +12,4 @@ pub mod Searching
 pub mod Framed
 pub mod Marked
 pub mod Invalidating
+pub mod Showing

@@ -21,7 +21,7 @@ use Rattle.rd_tree.specs.Document.{BoxForest, Document, IsRooted, is_touched}
 use Rattle.rd_tree.proofs.Linking.Standing.{from_left, from_right, differs, apart_back}
 use Rattle.rd_stack.specs.Paths.{BoxData, is_none}
 use Rattle.rd_stack.specs.Parts.{leaf_at, leaf_of, shown, shape_of, is_seen, takes_hits}
-use Rattle.rd_stack.specs.Fresh.{box_data, fresh_list}
+use Rattle.rd_stack.specs.Fresh.{box_data, drawn_list}
 use Rattle.rd_partial.specs.Invalid.{shows_touched, any_shows}
 use Rattle.rd_partial.specs.Internal.Counting.{leaves_in, given_of, given}
 use Rattle.rd_partial.specs.Internal.Pass.{whole, is_one}
@@ -167,12 +167,12 @@ module _ (canvas : Rectangle) (T : BoxKey → Bool) (x y : ℤ) where
       no_more n = omega arith
 
 -- so it is of a fresh list
-pub fresh_shows : (t : Document) → IsRooted t → IsApart same_key t.boxes → (x y : ℤ) → any_shows t (fresh_list t) x y ≡ touched_shows (at_root (canvas_of t.canvas)) t.boxes x y
+pub fresh_shows : (t : Document) → IsRooted t → IsApart same_key t.boxes → (x y : ℤ) → any_shows t (drawn_list t) x y ≡ touched_shows (at_root (canvas_of t.canvas)) t.boxes x y
 fresh_shows t r a x y =
     let canvas = canvas_of t.canvas in
     let T : BoxKey → Bool = λ k. is_touched k t.boxes in
     let q : Leaf → Bool = p canvas T x y in
-    let list = fresh_list t in
+    let list = drawn_list t in
     some_filtered q (flat list)
     ∙ ap (λ z. nat_lt 0 (length z)) (sym (flat-only q list))
     ∙ ap (nat_lt 0)

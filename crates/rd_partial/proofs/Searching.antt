@@ -8,7 +8,8 @@ use Rattle.rd_keys.proofs.Keys.{same_key-sound, same_key-refl}
 use Rattle.rd_item.specs.Items.{Made}
 use Rattle.rd_tree.specs.Forest.{empty, tree, head, starting_at, from_some, size, IsApart}
 use Rattle.rd_tree.specs.declared.node.Item.{Item}
-use Rattle.rd_tree.specs.Document.{BoxForest, Document, AllFit}
+use Rattle.rd_tree.specs.Document.{BoxForest, Document}
+use Rattle.rd_tree.specs.Drawn.{AllNear}
 use Rattle.rd_tree.specs.Hulls.{any_touched, touched_in}
 use Rattle.rd_tree.specs.Shown.{Shown, shown, told}
 use Rattle.rd_tree.specs.declared.view.BoxView.{BoxView}
@@ -209,7 +210,7 @@ sought_near wants frame t first looks grows framed apart live =
     (from_some same_key first t.boxes) first looks refl live (wanted_begin wants t first looks)
 
 -- A view of the next box with a mark,
-pub next_marked_is : (t : Document) (first : Option BoxKey) (v : BoxView) (w : Looked) (looks0 looks : ℕ) → IsApart same_key t.boxes → AllFit t.boxes
+pub next_marked_is : (t : Document) (first : Option BoxKey) (v : BoxView) (w : Looked) (looks0 looks : ℕ) → IsApart same_key t.boxes → AllNear t.boxes
     → w ≡ looked_of v → Found (λ o l. PassesMarks t first o looks0 l) t.root t.boxes (told v) looks → IsNextMarked t first w looks0 looks
 next_marked_is t first v w looks0 looks apart fits e f = subst (λ z. IsNextMarked t first z looks0 looks) (sym e) (record {
   key = f.key;
@@ -223,7 +224,7 @@ next_marked_is t first v w looks0 looks apart fits e f = subst (λ z. IsNextMark
 
 -- and of the next one that is near.
 pub next_near_is : (wants : Rectangle → Bool) (t : Document) (first : Option BoxKey) (v : BoxView) (w : Looked) (looks0 looks : ℕ) → IsApart same_key t.boxes
-    → AllFit t.boxes → w ≡ looked_of v → Found (λ o l. PassesWanted wants t first o looks0 l) t.root t.boxes (told v) looks
+    → AllNear t.boxes → w ≡ looked_of v → Found (λ o l. PassesWanted wants t first o looks0 l) t.root t.boxes (told v) looks
     → IsNextNear wants t first w looks0 looks
 next_near_is wants t first v w looks0 looks apart fits e f = subst (λ z. IsNextNear wants t first z looks0 looks) (sym e) (record {
   key = f.key;

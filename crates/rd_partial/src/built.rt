@@ -6,6 +6,7 @@ ghost use Rattle.rd_list.specs.Lists.{meeting};
 ghost use Rattle.rd_stack.specs.Fresh.{fresh_list};
 ghost use Rattle.rd_partial.specs.Numbered.{numbered};
 ghost use Rattle.rd_partial.specs.Looks.{is_near, looks_bound};
+ghost use Rattle.rd_tree.specs.Drawn.{drawn};
 
 use crate::walk::build_wanted;
 use crate::wanted::Within;
@@ -30,7 +31,7 @@ pub fn build<A: Ledger, B: Ledger>(
     ensures list { IfOk result (λ l. l ≡ numbered number (meeting area.now (fresh_list tree.now))) }
     ensures made { OnOk result (made.new ≡ made.old + length (flat (meeting area.now (fresh_list tree.now)))) }
     ensures most { made.new ≤ made.old + length (flat (meeting area.now (fresh_list tree.now))) }
-    ensures looks { looks.new ≤ looks.old + looks_bound (is_near area.now) tree.now.boxes }
+    ensures looks { looks.new ≤ looks.old + looks_bound (is_near area.now) (drawn tree.now).boxes }
 {
     build_wanted(alloc, tree, area, number, made, looks)
 }

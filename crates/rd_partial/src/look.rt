@@ -2,9 +2,11 @@
 ghost use Rattle.std.specs.Prelude.{◌≡◌, ◌+◌, if◌then◌else◌, MatchOption, IfSome};
 ghost use Rattle.rd_keys.specs.Keys.{same_key};
 ghost use Rattle.rd_stack.specs.Paths.{OutlineFits};
-ghost use Rattle.rd_tree.specs.Forest.{empty, starting_at};
+ghost use Rattle.rd_tree.specs.Document.{IsRooted};
+ghost use Rattle.rd_tree.specs.Forest.{empty, starting_at, IsApart};
 ghost use Rattle.rd_partial.specs.Internal.Looked.{Onward, here_of, looked_of};
 ghost use Rattle.rd_partial.specs.Internal.Touched.{HasMarks};
+ghost use Rattle.rd_tree.specs.Drawn.{drawn};
 
 use rd_geom::{Rect, Steps};
 use rd_keys::BoxKey;
@@ -54,7 +56,7 @@ pub(crate) fn looked_of(view: BoxView<'_>) -> Looked<'_>
 {
     Looked {
         key: view.key,
-        rect: view.rect,
+        rect: view.at,
         style: view.style,
         first_child: view.first_child,
         next_sibling: view.next_sibling,
@@ -65,6 +67,15 @@ pub(crate) fn looked_of(view: BoxView<'_>) -> Looked<'_>
     }
 }
 
+/// The root of a tree, and what holds of the tree as it is drawn.
+pub fn root_of<B: Ledger>(tree: &Tree<B>) -> BoxKey
+    ensures root { result ≡ tree.now.root }
+    ensures rooted { IsRooted (drawn tree.now) }
+    ensures apart { IsApart same_key tree.now.boxes }
+{
+    tree.root()
+}
+
 /// Looks at a box: none where no box has the key.
 #[inline(always)]
 pub fn look_at<'a, B: Ledger>(
@@ -72,10 +83,10 @@ pub fn look_at<'a, B: Ledger>(
     key: BoxKey,
     looks: &mut Steps<B>,
 ) -> Option<Looked<'a>>
-    ensures told { MatchOption result (starting_at same_key key tree.now.boxes
-        ≡ empty) (λ s. Onward tree.now.boxes key (here_of s) s.first_child s.next_sibling s.hull) }
+    ensures told { MatchOption result (starting_at same_key key (drawn tree.now).boxes
+        ≡ empty) (λ s. Onward (drawn tree.now).boxes key (here_of s) s.first_child s.next_sibling s.hull) }
     ensures fits { IfSome result (λ s. OutlineFits (here_of s)) }
-    ensures marks { IfSome result (λ s. HasMarks (starting_at same_key key tree.now.boxes) s.touched s.touched_below) }
+    ensures marks { IfSome result (λ s. HasMarks (starting_at same_key key (drawn tree.now).boxes) s.touched s.touched_below) }
     ensures cost { looks.new ≡ looks.old + 1 }
 {
     match tree.look(key, looks) {

@@ -4,6 +4,7 @@ ghost use Rattle.rd_geom.specs.Plane.{Rectangle};
 ghost use Rattle.rd_tree.specs.Seeking.{reaches};
 ghost use Rattle.rd_stack.specs.Internal.Looks.{IsFirst};
 ghost use Rattle.rd_partial.specs.Internal.Seeking.{IsNextMarked, IsNextNear, IsNextWanted, PassesMarks, PassesWanted};
+ghost use Rattle.rd_tree.specs.Drawn.{drawn};
 
 use crate::look::{Looked, looked_of};
 use crate::wanted::Wanted;
@@ -19,9 +20,9 @@ pub(crate) fn next_marked<'a, B: Ledger>(
     first: Option<BoxKey>,
     looks: &mut Steps<B>,
 ) -> Option<Looked<'a>>
-    requires live { IsFirst first tree.now }
-    ensures { MatchOption result (PassesMarks tree.now first None looks.old looks.new)
-        (λ v. IsNextMarked tree.now first v looks.old looks.new) }
+    requires live { IsFirst first (drawn tree.now) }
+    ensures { MatchOption result (PassesMarks (drawn tree.now) first None looks.old looks.new)
+        (λ v. IsNextMarked (drawn tree.now) first v looks.old looks.new) }
 {
     match tree.look_for_marked(first, looks) {
         Some(view) => Some(looked_of(view)),
@@ -38,9 +39,9 @@ fn next_near<'a, B: Ledger, W: Wanted>(
     looks: &mut Steps<B>,
 ) -> Option<Looked<'a>>
     requires frame { (r : Rectangle) → W.wants wanted.now r ≡ true → reaches frame.now r ≡ true }
-    requires live { IsFirst first tree.now }
-    ensures { MatchOption result (PassesWanted (W.wants wanted.now) tree.now first None looks.old looks.new)
-        (λ v. IsNextNear (W.wants wanted.now) tree.now first v looks.old looks.new) }
+    requires live { IsFirst first (drawn tree.now) }
+    ensures { MatchOption result (PassesWanted (W.wants wanted.now) (drawn tree.now) first None looks.old looks.new)
+        (λ v. IsNextNear (W.wants wanted.now) (drawn tree.now) first v looks.old looks.new) }
 {
     match tree.look_on_for_hull(first, frame, looks) {
         Some(view) => Some(looked_of(view)),
@@ -57,9 +58,9 @@ pub(crate) fn next_wanted<'a, B: Ledger, W: Wanted>(
     looks: &mut Steps<B>,
 ) -> Option<Looked<'a>>
     requires frame { (r : Rectangle) → W.wants wanted.now r ≡ true → reaches frame.now r ≡ true }
-    requires live { IsFirst first tree.now }
-    ensures { MatchOption result (PassesWanted (W.wants wanted.now) tree.now first None looks.old looks.new)
-        (λ v. IsNextWanted (W.wants wanted.now) tree.now first v looks.old looks.new) }
+    requires live { IsFirst first (drawn tree.now) }
+    ensures { MatchOption result (PassesWanted (W.wants wanted.now) (drawn tree.now) first None looks.old looks.new)
+        (λ v. IsNextWanted (W.wants wanted.now) (drawn tree.now) first v looks.old looks.new) }
 {
     let mut at = first;
     loop {

@@ -10,9 +10,10 @@ ghost use Rattle.rd_partial.specs.Invalid.{is_invalid};
 ghost use Rattle.rd_partial.specs.Internal.Standing.{leaf_in};
 ghost use Rattle.rd_partial.specs.Internal.Looked.{here_of};
 ghost use Rattle.rd_partial.specs.Internal.Touched.{Joins, leaf_shows, box_shows, own_shows, shows_below, shows_from, marks_from, touched_looks, looks_under};
+ghost use Rattle.rd_tree.specs.Drawn.{drawn};
 
 use crate::listed::add_list;
-use crate::look::{Looked, look_at};
+use crate::look::{Looked, look_at, root_of};
 use crate::seeking::next_marked;
 use crate::standing::Standing;
 use rd_area::Area;
@@ -71,11 +72,11 @@ fn add_below<B: Ledger>(
     looked: &Looked<'_>,
     looks: &mut Steps<B>,
 ) -> Result<(), NoMemory>
-    requires live { IsFirst looked.now.first_child tree.now }
+    requires live { IsFirst looked.now.first_child (drawn tree.now) }
     requires fits { OutlineFits (here_of looked.now) }
-    requires marks { looked.now.touched_below ≡ marks_from looked.now.first_child tree.now }
-    ensures area { OnOk result (Joins (shows_below s.now looked.now tree.now) area.old area.new) }
-    ensures looks { looks.new ≤ looks.old + looks_under looked.now tree.now }
+    requires marks { looked.now.touched_below ≡ marks_from looked.now.first_child (drawn tree.now) }
+    ensures area { OnOk result (Joins (shows_below s.now looked.now (drawn tree.now)) area.old area.new) }
+    ensures looks { looks.new ≤ looks.old + looks_under looked.now (drawn tree.now) }
 {
     if looked.touched_below > 0 {
         add_siblings(
@@ -102,10 +103,10 @@ fn add_siblings<B: Ledger>(
     marks: u32,
     looks: &mut Steps<B>,
 ) -> Result<(), NoMemory>
-    requires live { IsFirst first tree.now }
-    requires marks { marks ≡ marks_from first tree.now }
-    ensures area { OnOk result (Joins (shows_from s.now first tree.now) area.old area.new) }
-    ensures looks { looks.new ≤ looks.old + touched_looks first tree.now }
+    requires live { IsFirst first (drawn tree.now) }
+    requires marks { marks ≡ marks_from first (drawn tree.now) }
+    ensures area { OnOk result (Joins (shows_from s.now first (drawn tree.now)) area.old area.new) }
+    ensures looks { looks.new ≤ looks.old + touched_looks first (drawn tree.now) }
 {
     let mut left = marks;
     let mut at = first;
@@ -131,9 +132,9 @@ fn add_root<B: Ledger>(
     looks: &mut Steps<B>,
 ) -> Result<(), NoMemory>
     requires root { root ≡ tree.now.root }
-    requires rooted { IsRooted tree.now }
-    ensures area { OnOk result (Joins (shows_from s.now (Some root) tree.now) area.old area.new) }
-    ensures looks { looks.new ≤ looks.old + touched_looks (Some root) tree.now }
+    requires rooted { IsRooted (drawn tree.now) }
+    ensures area { OnOk result (Joins (shows_from s.now (Some root) (drawn tree.now)) area.old area.new) }
+    ensures looks { looks.new ≤ looks.old + touched_looks (Some root) (drawn tree.now) }
 {
     let looked = match look_at(tree, root, looks) {
         Some(looked) => looked,
@@ -156,11 +157,11 @@ pub fn touched_area<A: Ledger, B: Ledger>(
     ensures canvas { IfOk result (λ a. a.size ≡ tree.now.canvas) }
     ensures area { IfOk result (λ a. (x y : ℤ) → in_area a x y
         ≡ is_invalid tree.now (kept_leaves list.entry.list.now.entries) x y) }
-    ensures looks { looks.new ≤ looks.old + looks_bound holds_touched tree.now.boxes }
+    ensures looks { looks.new ≤ looks.old + looks_bound holds_touched (drawn tree.now).boxes }
 {
     let mut area = Area::none(alloc, tree.canvas())?;
     add_list(tree, &mut area, list.list())?;
     let s = Standing::at_root(tree.canvas());
-    add_root(tree, &mut area, &s, tree.root(), looks)?;
+    add_root(tree, &mut area, &s, root_of(tree), looks)?;
     Ok(area)
 }

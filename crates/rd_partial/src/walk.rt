@@ -17,10 +17,11 @@ ghost use Rattle.rd_partial.specs.Internal.Held.{held};
 ghost use Rattle.rd_partial.specs.Internal.Given.{gives, gives_back_border};
 ghost use Rattle.rd_partial.specs.Internal.Counting.{leaves_in, root_visits};
 ghost use Rattle.rd_partial.specs.Internal.Work.{blends_from, layer_bands, layers_of, held_layers, own_cost, passes_from, passes_below, paints_from, boxed_from, cost_from, siblings_cost, visits_from};
+ghost use Rattle.rd_tree.specs.Drawn.{drawn};
 
 use crate::bands::{Layers, Local, Stacked};
 use crate::give::{give_content, give_outline};
-use crate::look::look_at;
+use crate::look::{look_at, root_of};
 use crate::order::{Begun, as_group, back_border, begin, finish};
 use crate::seeking::next_wanted;
 use crate::standing::Standing;
@@ -58,12 +59,12 @@ fn context<A: Ledger, B: Ledger, W: Wanted>(
     looks: &mut Steps<B>,
 ) -> Result<Pieces<A>, NoMemory>
     requires real { styles.real b.now.style s.now.root ≡ true }
-    requires live { IsFirst first tree.now }
-    ensures list { IfOk result (λ p. laid_out p ≡ paints_from (W.wants wanted.now) number s.now b.now first tree.now) }
+    requires live { IsFirst first (drawn tree.now) }
+    ensures list { IfOk result (λ p. laid_out p ≡ paints_from (W.wants wanted.now) number s.now b.now first (drawn tree.now)) }
     ensures made { OnOk result (made.new ≡ made.old + cost_from
-        (W.wants wanted.now) number s.now b.now first tree.now) }
-    ensures most { made.new ≤ made.old + cost_from (W.wants wanted.now) number s.now b.now first tree.now }
-    ensures looks { looks.new ≤ looks.old + visits_from (W.wants wanted.now) first tree.now }
+        (W.wants wanted.now) number s.now b.now first (drawn tree.now)) }
+    ensures most { made.new ≤ made.old + cost_from (W.wants wanted.now) number s.now b.now first (drawn tree.now) }
+    ensures looks { looks.new ≤ looks.old + visits_from (W.wants wanted.now) first (drawn tree.now) }
 {
     let Begun {
         out,
@@ -115,14 +116,14 @@ fn aside<A: Ledger, B: Ledger, W: Wanted>(
     looks: &mut Steps<B>,
 ) -> Result<Pieces<A>, NoMemory>
     requires unreal { styles.real b.now.style s.now.root ≡ false }
-    requires live { IsFirst first tree.now }
-    ensures list { IfOk result (λ p. laid_out p ≡ paints_from (W.wants wanted.now) number s.now b.now first tree.now) }
+    requires live { IsFirst first (drawn tree.now) }
+    ensures list { IfOk result (λ p. laid_out p ≡ paints_from (W.wants wanted.now) number s.now b.now first (drawn tree.now)) }
     ensures layers { OnOk result (held_layers layers.new ≡ held_layers layers.old
-        ⊕ layers_of (passes_below (W.wants wanted.now) number s.now b.now first tree.now)) }
+        ⊕ layers_of (passes_below (W.wants wanted.now) number s.now b.now first (drawn tree.now))) }
     ensures made { OnOk result (made.new ≡ made.old + cost_from
-        (W.wants wanted.now) number s.now b.now first tree.now) }
-    ensures most { made.new ≤ made.old + cost_from (W.wants wanted.now) number s.now b.now first tree.now }
-    ensures looks { looks.new ≤ looks.old + visits_from (W.wants wanted.now) first tree.now }
+        (W.wants wanted.now) number s.now b.now first (drawn tree.now)) }
+    ensures most { made.new ≤ made.old + cost_from (W.wants wanted.now) number s.now b.now first (drawn tree.now) }
+    ensures looks { looks.new ≤ looks.old + visits_from (W.wants wanted.now) first (drawn tree.now) }
 {
     let Begun {
         out,
@@ -167,13 +168,13 @@ fn float<A: Ledger, B: Ledger, W: Wanted>(
 ) -> Result<(), NoMemory>
     requires class { styles.class b.now.style false ≡ classes.Float }
     requires root { s.now.root ≡ false }
-    requires live { IsFirst first tree.now }
+    requires live { IsFirst first (drawn tree.now) }
     ensures list { OnOk result (held local.new layers.new ≡ held local.old layers.old
-        ⊕ boxed_from (W.wants wanted.now) number s.now b.now first tree.now) }
+        ⊕ boxed_from (W.wants wanted.now) number s.now b.now first (drawn tree.now)) }
     ensures made { OnOk result (made.new ≡ made.old + cost_from
-        (W.wants wanted.now) number s.now b.now first tree.now) }
-    ensures most { made.new ≤ made.old + cost_from (W.wants wanted.now) number s.now b.now first tree.now }
-    ensures looks { looks.new ≤ looks.old + visits_from (W.wants wanted.now) first tree.now }
+        (W.wants wanted.now) number s.now b.now first (drawn tree.now)) }
+    ensures most { made.new ≤ made.old + cost_from (W.wants wanted.now) number s.now b.now first (drawn tree.now) }
+    ensures looks { looks.new ≤ looks.old + visits_from (W.wants wanted.now) first (drawn tree.now) }
 {
     let order = aside(
         alloc, tree, wanted, number, s, b, first, layers, made, looks,
@@ -200,13 +201,13 @@ fn atom<A: Ledger, B: Ledger, W: Wanted>(
 ) -> Result<(), NoMemory>
     requires class { styles.class b.now.style false ≡ classes.Atom }
     requires root { s.now.root ≡ false }
-    requires live { IsFirst first tree.now }
+    requires live { IsFirst first (drawn tree.now) }
     ensures list { OnOk result (held local.new layers.new ≡ held local.old layers.old
-        ⊕ boxed_from (W.wants wanted.now) number s.now b.now first tree.now) }
+        ⊕ boxed_from (W.wants wanted.now) number s.now b.now first (drawn tree.now)) }
     ensures made { OnOk result (made.new ≡ made.old + cost_from
-        (W.wants wanted.now) number s.now b.now first tree.now) }
-    ensures most { made.new ≤ made.old + cost_from (W.wants wanted.now) number s.now b.now first tree.now }
-    ensures looks { looks.new ≤ looks.old + visits_from (W.wants wanted.now) first tree.now }
+        (W.wants wanted.now) number s.now b.now first (drawn tree.now)) }
+    ensures most { made.new ≤ made.old + cost_from (W.wants wanted.now) number s.now b.now first (drawn tree.now) }
+    ensures looks { looks.new ≤ looks.old + visits_from (W.wants wanted.now) first (drawn tree.now) }
 {
     let order = aside(
         alloc, tree, wanted, number, s, b, first, layers, made, looks,
@@ -233,13 +234,13 @@ fn inline<A: Ledger, B: Ledger, W: Wanted>(
 ) -> Result<(), NoMemory>
     requires class { styles.class b.now.style false ≡ classes.Inline }
     requires root { s.now.root ≡ false }
-    requires live { IsFirst first tree.now }
+    requires live { IsFirst first (drawn tree.now) }
     ensures list { OnOk result (held local.new layers.new ≡ held local.old layers.old
-        ⊕ boxed_from (W.wants wanted.now) number s.now b.now first tree.now) }
+        ⊕ boxed_from (W.wants wanted.now) number s.now b.now first (drawn tree.now)) }
     ensures made { OnOk result (made.new ≡ made.old + cost_from
-        (W.wants wanted.now) number s.now b.now first tree.now) }
-    ensures most { made.new ≤ made.old + cost_from (W.wants wanted.now) number s.now b.now first tree.now }
-    ensures looks { looks.new ≤ looks.old + visits_from (W.wants wanted.now) first tree.now }
+        (W.wants wanted.now) number s.now b.now first (drawn tree.now)) }
+    ensures most { made.new ≤ made.old + cost_from (W.wants wanted.now) number s.now b.now first (drawn tree.now) }
+    ensures looks { looks.new ≤ looks.old + visits_from (W.wants wanted.now) first (drawn tree.now) }
 {
     back_border(&mut local.line, wanted, number, s, b, made)?;
     give_content(&mut local.line, wanted, number, s, b, made)?;
@@ -337,13 +338,13 @@ fn block<A: Ledger, B: Ledger, W: Wanted>(
 ) -> Result<(), NoMemory>
     requires class { styles.class b.now.style false ≡ classes.Block }
     requires root { s.now.root ≡ false }
-    requires live { IsFirst first tree.now }
+    requires live { IsFirst first (drawn tree.now) }
     ensures list { OnOk result (held local.new layers.new ≡ held local.old layers.old
-        ⊕ boxed_from (W.wants wanted.now) number s.now b.now first tree.now) }
+        ⊕ boxed_from (W.wants wanted.now) number s.now b.now first (drawn tree.now)) }
     ensures made { OnOk result (made.new ≡ made.old + cost_from
-        (W.wants wanted.now) number s.now b.now first tree.now) }
-    ensures most { made.new ≤ made.old + cost_from (W.wants wanted.now) number s.now b.now first tree.now }
-    ensures looks { looks.new ≤ looks.old + visits_from (W.wants wanted.now) first tree.now }
+        (W.wants wanted.now) number s.now b.now first (drawn tree.now)) }
+    ensures most { made.new ≤ made.old + cost_from (W.wants wanted.now) number s.now b.now first (drawn tree.now) }
+    ensures looks { looks.new ≤ looks.old + visits_from (W.wants wanted.now) first (drawn tree.now) }
 {
     block_itself(wanted, number, s, b, local, made)?;
     match first {
@@ -420,14 +421,14 @@ fn real_layer<A: Ledger, B: Ledger, W: Wanted>(
     requires class { styles.class b.now.style false ≡ classes.Layer }
     requires real { styles.real b.now.style false ≡ true }
     requires root { s.now.root ≡ false }
-    requires low { blend_below ≡ blends_from first tree.now }
-    requires live { IsFirst first tree.now }
+    requires low { blend_below ≡ blends_from first (drawn tree.now) }
+    requires live { IsFirst first (drawn tree.now) }
     ensures list { OnOk result (held local.new layers.new ≡ held local.old layers.old
-        ⊕ boxed_from (W.wants wanted.now) number s.now b.now first tree.now) }
+        ⊕ boxed_from (W.wants wanted.now) number s.now b.now first (drawn tree.now)) }
     ensures made { OnOk result (made.new ≡ made.old + cost_from
-        (W.wants wanted.now) number s.now b.now first tree.now) }
-    ensures most { made.new ≤ made.old + cost_from (W.wants wanted.now) number s.now b.now first tree.now }
-    ensures looks { looks.new ≤ looks.old + visits_from (W.wants wanted.now) first tree.now }
+        (W.wants wanted.now) number s.now b.now first (drawn tree.now)) }
+    ensures most { made.new ≤ made.old + cost_from (W.wants wanted.now) number s.now b.now first (drawn tree.now) }
+    ensures looks { looks.new ≤ looks.old + visits_from (W.wants wanted.now) first (drawn tree.now) }
 {
     let order = context(alloc, tree, wanted, number, s, b, first, made, looks)?;
     let order = as_group(alloc, false, blend_below, b, order)?;
@@ -453,13 +454,13 @@ fn auto_layer<A: Ledger, B: Ledger, W: Wanted>(
     requires class { styles.class b.now.style false ≡ classes.Layer }
     requires unreal { styles.real b.now.style false ≡ false }
     requires root { s.now.root ≡ false }
-    requires live { IsFirst first tree.now }
+    requires live { IsFirst first (drawn tree.now) }
     ensures list { OnOk result (held local.new layers.new ≡ held local.old layers.old
-        ⊕ boxed_from (W.wants wanted.now) number s.now b.now first tree.now) }
+        ⊕ boxed_from (W.wants wanted.now) number s.now b.now first (drawn tree.now)) }
     ensures made { OnOk result (made.new ≡ made.old + cost_from
-        (W.wants wanted.now) number s.now b.now first tree.now) }
-    ensures most { made.new ≤ made.old + cost_from (W.wants wanted.now) number s.now b.now first tree.now }
-    ensures looks { looks.new ≤ looks.old + visits_from (W.wants wanted.now) first tree.now }
+        (W.wants wanted.now) number s.now b.now first (drawn tree.now)) }
+    ensures most { made.new ≤ made.old + cost_from (W.wants wanted.now) number s.now b.now first (drawn tree.now) }
+    ensures looks { looks.new ≤ looks.old + visits_from (W.wants wanted.now) first (drawn tree.now) }
 {
     let outer = replace(&mut layers.zeros, Pieces::empty(alloc));
     let order = aside(
@@ -488,14 +489,14 @@ fn one<A: Ledger, B: Ledger, W: Wanted>(
     looks: &mut Steps<B>,
 ) -> Result<(), NoMemory>
     requires root { s.now.root ≡ false }
-    requires low { blend_below ≡ blends_from first tree.now }
-    requires live { IsFirst first tree.now }
+    requires low { blend_below ≡ blends_from first (drawn tree.now) }
+    requires live { IsFirst first (drawn tree.now) }
     ensures list { OnOk result (held local.new layers.new ≡ held local.old layers.old
-        ⊕ boxed_from (W.wants wanted.now) number s.now b.now first tree.now) }
+        ⊕ boxed_from (W.wants wanted.now) number s.now b.now first (drawn tree.now)) }
     ensures made { OnOk result (made.new ≡ made.old + cost_from
-        (W.wants wanted.now) number s.now b.now first tree.now) }
-    ensures most { made.new ≤ made.old + cost_from (W.wants wanted.now) number s.now b.now first tree.now }
-    ensures looks { looks.new ≤ looks.old + visits_from (W.wants wanted.now) first tree.now }
+        (W.wants wanted.now) number s.now b.now first (drawn tree.now)) }
+    ensures most { made.new ≤ made.old + cost_from (W.wants wanted.now) number s.now b.now first (drawn tree.now) }
+    ensures looks { looks.new ≤ looks.old + visits_from (W.wants wanted.now) first (drawn tree.now) }
 {
     match class_of(b.style(), false) {
         Class::Layer => layer(
@@ -546,14 +547,14 @@ fn layer<A: Ledger, B: Ledger, W: Wanted>(
 ) -> Result<(), NoMemory>
     requires class { styles.class b.now.style false ≡ classes.Layer }
     requires root { s.now.root ≡ false }
-    requires low { blend_below ≡ blends_from first tree.now }
-    requires live { IsFirst first tree.now }
+    requires low { blend_below ≡ blends_from first (drawn tree.now) }
+    requires live { IsFirst first (drawn tree.now) }
     ensures list { OnOk result (held local.new layers.new ≡ held local.old layers.old
-        ⊕ boxed_from (W.wants wanted.now) number s.now b.now first tree.now) }
+        ⊕ boxed_from (W.wants wanted.now) number s.now b.now first (drawn tree.now)) }
     ensures made { OnOk result (made.new ≡ made.old + cost_from
-        (W.wants wanted.now) number s.now b.now first tree.now) }
-    ensures most { made.new ≤ made.old + cost_from (W.wants wanted.now) number s.now b.now first tree.now }
-    ensures looks { looks.new ≤ looks.old + visits_from (W.wants wanted.now) first tree.now }
+        (W.wants wanted.now) number s.now b.now first (drawn tree.now)) }
+    ensures most { made.new ≤ made.old + cost_from (W.wants wanted.now) number s.now b.now first (drawn tree.now) }
+    ensures looks { looks.new ≤ looks.old + visits_from (W.wants wanted.now) first (drawn tree.now) }
 {
     if real(b.style(), false) {
         real_layer(
@@ -593,14 +594,14 @@ fn those_below<A: Ledger, B: Ledger, W: Wanted>(
     made: &mut Steps<A>,
     looks: &mut Steps<B>,
 ) -> Result<(), NoMemory>
-    requires live { IsFirst first tree.now }
+    requires live { IsFirst first (drawn tree.now) }
     ensures list { OnOk result (held local.new layers.new ≡ held local.old layers.old
-        ⊕ passes_below (W.wants wanted.now) number s.now b.now first tree.now) }
+        ⊕ passes_below (W.wants wanted.now) number s.now b.now first (drawn tree.now)) }
     ensures made { OnOk result (made.new ≡ made.old + siblings_cost
-        (W.wants wanted.now) number (standing.below s.now b.now) first tree.now) }
+        (W.wants wanted.now) number (standing.below s.now b.now) first (drawn tree.now)) }
     ensures most { made.new ≤ made.old + siblings_cost
-        (W.wants wanted.now) number (standing.below s.now b.now) first tree.now }
-    ensures looks { looks.new ≤ looks.old + visits_from (W.wants wanted.now) first tree.now }
+        (W.wants wanted.now) number (standing.below s.now b.now) first (drawn tree.now) }
+    ensures looks { looks.new ≤ looks.old + visits_from (W.wants wanted.now) first (drawn tree.now) }
 {
     match first {
         Some(_) => {
@@ -628,12 +629,12 @@ fn children<A: Ledger, B: Ledger, W: Wanted>(
     looks: &mut Steps<B>,
 ) -> Result<(), NoMemory>
     requires root { s.now.root ≡ false }
-    requires live { IsFirst first tree.now }
+    requires live { IsFirst first (drawn tree.now) }
     ensures list { OnOk result (held local.new layers.new ≡ held local.old layers.old
-        ⊕ passes_from (W.wants wanted.now) number s.now first tree.now) }
-    ensures made { OnOk result (made.new ≡ made.old + siblings_cost (W.wants wanted.now) number s.now first tree.now) }
-    ensures most { made.new ≤ made.old + siblings_cost (W.wants wanted.now) number s.now first tree.now }
-    ensures looks { looks.new ≤ looks.old + visits_from (W.wants wanted.now) first tree.now }
+        ⊕ passes_from (W.wants wanted.now) number s.now first (drawn tree.now)) }
+    ensures made { OnOk result (made.new ≡ made.old + siblings_cost (W.wants wanted.now) number s.now first (drawn tree.now)) }
+    ensures most { made.new ≤ made.old + siblings_cost (W.wants wanted.now) number s.now first (drawn tree.now) }
+    ensures looks { looks.new ≤ looks.old + visits_from (W.wants wanted.now) first (drawn tree.now) }
 {
     let frame = wanted.frame();
     let mut at = first;
@@ -675,11 +676,11 @@ pub(crate) fn build_wanted<A: Ledger, B: Ledger, W: Wanted>(
     ensures made { OnOk result (made.new ≡ made.old + leaves_in (only (λ x. W.wants wanted.now x.visible)
         (fresh_list tree.now))) }
     ensures most { made.new ≤ made.old + leaves_in (only (λ x. W.wants wanted.now x.visible) (fresh_list tree.now)) }
-    ensures looks { looks.new ≤ looks.old + root_visits (W.wants wanted.now) tree.now.boxes }
+    ensures looks { looks.new ≤ looks.old + root_visits (W.wants wanted.now) (drawn tree.now).boxes }
     ensures apart { IsApart same_key tree.now.boxes }
 {
     let s = Standing::at_root(tree.canvas());
-    let looked = match look_at(tree, tree.root(), looks) {
+    let looked = match look_at(tree, root_of(tree), looks) {
         Some(looked) => looked,
         None => return Ok(NewList::empty(alloc)),
     };

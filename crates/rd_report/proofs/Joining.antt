@@ -1,5 +1,5 @@
 -- Texts that are put one after another, and the widths of lists.
-use Rattle.std.proofs.Common.{◌≡◌, ℕ, ◌+◌, List, [], ◌∷◌, length, refl, ap, arith, append_assoc, append-nil}
+use Rattle.std.proofs.Common.{◌≡◌, ℕ, ◌+◌, List, [], ◌∷◌, length, refl, arith, append_assoc, append-nil}
 use Rattle.rd_list.specs.KeptView.{kept_entries}
 use Rattle.rd_list.specs.Unordered.{unordered}
 use Rattle.rd_list.specs.declared.kept.Entry.{Entry}

@@ -6,7 +6,7 @@ use Rattle.rd_keys.specs.Keys.{BoxKey, same_key}
 use Rattle.rd_keys.proofs.Keys.{same_key-sound, same_key-refl}
 use Rattle.rd_tree.specs.Forest.{Forest, empty, tree, keys, size, has, children, with_children, insert_before, insert_among, without_branch, branch, in_subtree, IsApart}
 use Rattle.rd_tree.specs.Document.{Document, BoxForest, Slot, taken, slot_of, with_taken, with_left, with_all_left, contains, IsNext, IsNextOf}
-use Rattle.rd_tree.specs.Changes.{Change, insertion, removal, moving, styling, placing, shifting, after, put_elsewhere, restyle, with_rect, shift_item}
+use Rattle.rd_tree.specs.Changes.{Change, insertion, removal, moving, styling, placing, shifting, scrolling, after, put_elsewhere, restyle, with_rect, with_scroll, shift_item}
 use Rattle.rd_tree.specs.Touching.{edited, touch, touched_by}
 use Rattle.rd_tree.proofs.Linking.Standing.{cases, never, either, from_left, from_right, differs_back, out_of_children}
 use Rattle.rd_tree.proofs.Linking.Cutting.{no_without}
@@ -17,7 +17,7 @@ use Rattle.rd_tree.proofs.Nodes.Naming.{named_there}
 use Rattle.rd_tree.proofs.Changing.NextKeys.{taken-next}
 use Rattle.rd_tree.proofs.Changing.LeftKeys.{taken-removed}
 use Rattle.rd_edits.specs.declared.edit.Edit.{Edit}
-use Rattle.rd_edits.specs.declared.edit.Edit.TheVariants.{Insert, Remove, Move, SetStyle, SetRect, Shift}
+use Rattle.rd_edits.specs.declared.edit.Edit.TheVariants.{Insert, Remove, Move, SetStyle, SetRect, Shift, Scroll}
 use Rattle.rd_edits.specs.declared.fault.EditFault.{EditFault}
 use Rattle.rd_edits.specs.declared.fault.EditFault.TheVariants.{UnknownId, UnknownParent, IsRoot, IntoItself}
 use Rattle.rd_edits.specs.Edited.{IsEdited, IsNamed}
@@ -185,6 +185,7 @@ after_same n (moving k p before) t l h s =
 after_same n (styling k c) t l h s = s.same ∙ sym (size-each (λ j. same_key j k) (restyle c) t.boxes)
 after_same n (placing k r) t l h s = s.same ∙ sym (size-each (λ j. same_key j k) (with_rect r) t.boxes)
 after_same n (shifting k dx dy) t l h s = s.same ∙ sym (size-each (λ j. in_subtree same_key j k t.boxes) (shift_item dx dy) t.boxes)
+after_same n (scrolling k v) t l h s = s.same ∙ sym (size-each (λ j. same_key j k) (with_scroll v) t.boxes)
 
 after_young : (n : ℕ) (c : Change) (t : Document) → IsFor c t → IsCounted n t → IsYoung (n + 1) (after c t).slots
 after_young n (insertion p before k d) t h s = young_more n (with_taken t.slots k) (young_taken n t.slots k h.1 s.young)
@@ -195,6 +196,7 @@ after_young n (moving k p before) t h s = young_more n t.slots s.young
 after_young n (styling k c) t h s = young_more n t.slots s.young
 after_young n (placing k r) t h s = young_more n t.slots s.young
 after_young n (shifting k dx dy) t h s = young_more n t.slots s.young
+after_young n (scrolling k v) t h s = young_more n t.slots s.young
 
 -- one change more, whose marks change neither
 pub change_counted : (n : ℕ) (c : Change) (old new : Document) → n < 4294967295 → IsFor c old → new ≡ edited c old → IsWellFormed new
@@ -226,6 +228,7 @@ is_for (Move i parent before) t c r h =
 is_for (SetStyle i change) t c r h = subst (λ (x : Change). IsFor x t) (sym h.2) tt
 is_for (SetRect i rect) t c r h = subst (λ (x : Change). IsFor x t) (sym h.2) tt
 is_for (Shift i dx dy) t c r h = subst (λ (x : Change). IsFor x t) (sym h.2) tt
+is_for (Scroll i x y) t c r h = subst (λ (z : Change). IsFor z t) (sym h.2) tt
 
 -- one edit more
 pub edit_counted : (n : ℕ) (e : Edit) (old new : Document) → n < 4294967295 → refusal_of old e ≡ None → IsEdited e old new

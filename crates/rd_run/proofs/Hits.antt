@@ -15,6 +15,8 @@ use Rattle.rd_list.specs.Entries.{flat}
 use Rattle.rd_list.specs.Lists.{hit, is_hit, last}
 use Rattle.rd_tree.specs.Forest.{empty, tree, has, IsApart}
 use Rattle.rd_tree.specs.Document.{Document, BoxForest, IsRooted, id_of}
+use Rattle.rd_tree.specs.Drawn.{drawn}
+use Rattle.rd_tree.proofs.Drawing.{has-drawn}
 use Rattle.rd_stack.specs.Fresh.{Subtree, fresh_list, preorder, box_data}
 use Rattle.rd_stack.specs.Parts.{leaf_at, shown, shape_of, is_seen, takes_hits}
 use Rattle.rd_stack.specs.Paths.{BoxData, BoxPath, is_root}
@@ -75,7 +77,9 @@ module _ (t : Document) (apart : IsApart same_key t.boxes) (rooted : IsRooted t)
           let w = ((whole_list t apart rooted).leaves l).1 (contains_from (flat (fresh_list t)) l c.0) in
           let own : l.owner ≡ w.box.at.here.key = owner_at (canvas_of t.canvas) w.box.at w.part l w.is in
           let k_is : l.owner ≡ k = ap (λ (o : Option BoxKey). option_map_or (λ z. z) o l.owner) i in
-          subst (λ (z : BoxKey). has same_key z t.boxes ≡ true) (sym own ∙ k_is) (has_preorder [] t.boxes w.box (has_from (preorder [] t.boxes) w.box w.there))
+          let at : has same_key w.box.at.here.key t.boxes ≡ true =
+          sym (has-drawn [] w.box.at.here.key t.boxes) ∙ has_preorder [] (drawn t).boxes w.box (has_from (preorder [] (drawn t).boxes) w.box w.there) in
+          subst (λ (z : BoxKey). has same_key z t.boxes ≡ true) (sym own ∙ k_is) at
 
   -- the id of the box that is hit
   pub hit_some : (k : BoxKey) → hit (fresh_list t) x y ≡ Some k → id_of k t.boxes ≡ option_map (λ j. id_text j t.boxes) (hit (fresh_list t) x y)

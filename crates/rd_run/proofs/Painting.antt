@@ -14,6 +14,7 @@ use Rattle.rd_tree.specs.Document.{Document}
 use Rattle.rd_tree.specs.Touching.{settled}
 use Rattle.rd_stack.specs.Fresh.{fresh_list}
 use Rattle.rd_stack.proofs.Promises.{stands_for_itself}
+use Rattle.rd_tree.specs.Drawn.{drawn}
 use Rattle.rd_partial.specs.Looks.{looks_bound, is_visited}
 use Rattle.rd_engine.specs.State.{EngineState, IsEngine}
 use Rattle.rd_engine.specs.Invalid as invalid
@@ -88,7 +89,7 @@ module _ (s : State) (x : SessionState) (sh : Shows x s) where
   same_count = ap count_of (area_same s x.engine sh.tree sh.last)
 
   same_looks : most_looks s ≡ engine.most_looks x.engine
-  same_looks = ap₂ (λ (a : Region) (t : Document). 2 * looks_bound (is_visited a) t.boxes) (area_same s x.engine sh.tree sh.last) sh.tree
+  same_looks = ap₂ (λ (a : Region) (t : Document). 2 * looks_bound (is_visited a) (drawn t).boxes) (area_same s x.engine sh.tree sh.last) sh.tree
 
   same_built : length (flat (remade s)) ≡ length (flat (engine.remade x.engine))
   same_built = ap (λ z. length (flat z)) same_remade

@@ -1,5 +1,5 @@
 -- The pixels of a picture, one after another.
-use Rattle.std.proofs.Common.{◌≡◌, ℕ, ℤ, pos, suc, ◌+◌, List, [], ◌∷◌, ◌++◌, ◌∙◌, sym, ap, append_assoc, add-one}
+use Rattle.std.proofs.Common.{◌≡◌, ℕ, ℤ, pos, ◌+◌, List, [], ◌∷◌, ◌++◌, ◌∙◌, sym, ap, append_assoc, add-one}
 use Rattle.rd_geom.specs.Colors.{Premultiplied}
 use Rattle.rd_report.specs.Pictures.{rgb}
 use Rattle.rd_report.proofs.Painted.{rgb-append}

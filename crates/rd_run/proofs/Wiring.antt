@@ -1,5 +1,5 @@
 -- The list of an engine, with its canvas, keeps the rules of a wire.
-use Rattle.std.proofs.Common.{◌≡◌, refl, ap, sym, subst, ◌∙◌, ℕ, ◌+◌, ◌≤◌, Bool, true, false, cond, List, [], ◌∷◌, arith, inl, inr}
+use Rattle.std.proofs.Common.{◌≡◌, refl, ap, sym, subst, ◌∙◌, ℕ, ◌+◌, ◌≤◌, Bool, true, false, cond, [], ◌∷◌, inl, inr}
 use Rattle.std.specs.Prelude.{Option, Some, None, IsTrue, Contains, map, nat_lt, option_map}
 use Rattle.std.proofs.lemmas.List.Sorted.{Contains-permutation}
 use Rattle.rd_geom.specs.Canvas.{IsCanvas, canvas_of}
@@ -22,9 +22,9 @@ use Rattle.rd_list.specs.Unordered.{unordered}
 use Rattle.rd_list.specs.Views.{levels}
 use Rattle.rd_list.proofs.Merges.Naming.{groups_apart}
 use Rattle.rd_tree.specs.Forest.{IsApart}
-use Rattle.rd_tree.specs.Document.{Document, IsRooted}
+use Rattle.rd_tree.specs.Document.{IsRooted}
 use Rattle.rd_stack.specs.Paths.{BoxData, is_root}
-use Rattle.rd_stack.specs.Parts.{frame, solid, has_border, border, outline, shape_of, shown, leaf_of, is_seen, takes_hits, background}
+use Rattle.rd_stack.specs.Parts.{frame, solid, has_border, shape_of, shown, leaf_of, is_seen, takes_hits}
 use Rattle.rd_stack.specs.Clips.{clip_of, padding_box}
 use Rattle.rd_stack.specs.Fresh.{fresh_list}
 use Rattle.rd_stack.specs.Whole.{IsLeafOf}
@@ -35,7 +35,6 @@ use Rattle.rd_partial.proofs.Shows as seen
 use Rattle.rd_engine.specs.State.{EngineState, IsEngine}
 use Rattle.rd_engine.proofs.Alike.{depth_within, kept_levels, kept_depth}
 use Rattle.rd_wire.specs.Leaves.{IsSeen}
-use Rattle.rd_wire.specs.Laws.{Stands}
 use Rattle.rd_wire.specs.Wires.{KeepsRules}
 use Rattle.rd_wire.proofs.Keeping.{keeping}
 

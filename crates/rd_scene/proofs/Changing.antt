@@ -5,8 +5,8 @@ use Rattle.rd_keys.specs.Keys.{BoxKey, same_key}
 use Rattle.rd_keys.proofs.Keys.{same_key-sound, same_key-refl}
 use Rattle.rd_tree.specs.declared.node.Item.{Item}
 use Rattle.rd_tree.specs.Document.{Document, BoxForest, Slot, slot_of, with_left, with_all_left, with_taken, with_child, IsNext, IsKeyed, contains}
-use Rattle.rd_tree.specs.Forest.{empty, tree, keys, has, children, insert_among, insert_before, without_branch, branch, map_where, in_subtree}
-use Rattle.rd_tree.specs.Changes.{Change, insertion, removal, moving, styling, placing, shifting, after, restyle, with_rect, shift_item}
+use Rattle.rd_tree.specs.Forest.{empty, tree, keys, has, children, insert_among, insert_before, without_branch, branch, in_subtree}
+use Rattle.rd_tree.specs.Changes.{Change, insertion, removal, moving, styling, placing, shifting, scrolling, after, restyle, with_rect, with_scroll, shift_item}
 use Rattle.rd_tree.specs.Touching.{edited, touch}
 use Rattle.rd_tree.proofs.Linking.Standing.{cases, either, from_left, from_right, has-join, out_of_children}
 use Rattle.rd_tree.proofs.Forests.Under.{out_of_under}
@@ -14,7 +14,7 @@ use Rattle.rd_tree.proofs.Forests.Without.{out_of_without, in_without, stays_out
 use Rattle.rd_tree.proofs.Changing.NextKeys.{next-absent}
 use Rattle.rd_tree.specs.Document.{named}
 use Rattle.rd_edits.specs.declared.edit.Edit.{Edit}
-use Rattle.rd_edits.specs.declared.edit.Edit.TheVariants.{Insert, Remove, Move, SetStyle, SetRect, Shift}
+use Rattle.rd_edits.specs.declared.edit.Edit.TheVariants.{Insert, Remove, Move, SetStyle, SetRect, Shift, Scroll}
 use Rattle.rd_edits.specs.declared.fault.EditFault.{EditFault}
 use Rattle.rd_edits.specs.declared.fault.EditFault.TheVariants.{UnknownId, UnknownParent}
 use Rattle.rd_edits.specs.Edited.{IsEdited, IsNamed}
@@ -155,6 +155,7 @@ after_well (moving k p before) t n w = record {
 after_well (styling k c) t n w = each_well (λ j. same_key j k) (restyle c) t w
 after_well (placing k r) t n w = each_well (λ j. same_key j k) (with_rect r) t w
 after_well (shifting k dx dy) t n w = each_well (λ j. in_subtree same_key j k t.boxes) (shift_item dx dy) t w
+after_well (scrolling k v) t n w = each_well (λ j. same_key j k) (with_scroll v) t w
 
 pub edited_well : (c : Change) (t : Document) → IsPossible c t → IsWellFormed t → IsWellFormed (edited c t)
 edited_well c t n w = each_well _ touch (after c t) (after_well c t n w)
@@ -168,6 +169,7 @@ edited_canvas (moving k p before) t = refl
 edited_canvas (styling k c) t = refl
 edited_canvas (placing k r) t = refl
 edited_canvas (shifting k dx dy) t = refl
+edited_canvas (scrolling k v) t = refl
 
 possible : (e : Edit) (t : Document) (c : Change) → IsNamed e t c → IsPossible c t
 possible (Insert i parent before rect style) t c h = subst (λ (x : Change). IsPossible x t) (sym h.4) h.3
@@ -176,6 +178,7 @@ possible (Move i parent before) t c h = subst (λ (x : Change). IsPossible x t) 
 possible (SetStyle i change) t c h = subst (λ (x : Change). IsPossible x t) (sym h.2) tt
 possible (SetRect i rect) t c h = subst (λ (x : Change). IsPossible x t) (sym h.2) tt
 possible (Shift i dx dy) t c h = subst (λ (x : Change). IsPossible x t) (sym h.2) tt
+possible (Scroll i x y) t c h = subst (λ (z : Change). IsPossible z t) (sym h.2) tt
 
 -- a tree stays well formed under an edit, on the same canvas
 pub edit_well : (e : Edit) (old new : Document) → IsEdited e old new → IsWellFormed old → IsWellFormed new
@@ -215,5 +218,8 @@ edit_goes (SetRect i rect) t h =
     let k = some_of (named i t.boxes) (off (is_unknown i t) UnknownId _ h).0 in
     (_, (_, (k.0, k.1, refl), refl))
 edit_goes (Shift i dx dy) t h =
+    let k = some_of (named i t.boxes) (off (is_unknown i t) UnknownId _ h).0 in
+    (_, (_, (k.0, k.1, refl), refl))
+edit_goes (Scroll i x y) t h =
     let k = some_of (named i t.boxes) (off (is_unknown i t) UnknownId _ h).0 in
     (_, (_, (k.0, k.1, refl), refl))

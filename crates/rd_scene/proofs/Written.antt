@@ -12,7 +12,7 @@ use Rattle.rd_geom.specs.declared.color.Color.{Color}
 use Rattle.rd_geom.specs.declared.rect.Sides.{Sides}
 use Rattle.rd_style.specs.declared.styles.StyleChange.{StyleChange}
 use Rattle.rd_edits.specs.declared.edit.Edit.{Edit}
-use Rattle.rd_edits.specs.declared.edit.Edit.TheVariants.{Insert, Remove, Move, SetStyle, SetRect, Shift}
+use Rattle.rd_edits.specs.declared.edit.Edit.TheVariants.{Insert, Remove, Move, SetStyle, SetRect, Shift, Scroll}
 use Rattle.rd_scene.specs.declared.script.SceneBox.{SceneBox}
 use Rattle.rd_scene.specs.declared.script.Command.{Command}
 use Rattle.rd_scene.specs.declared.script.Command.TheVariants.{Change, Paint, Hit, Pixel, Dump, Shot}
@@ -176,6 +176,8 @@ edit_flat (SetStyle id change) = object_flat 2 _ (put_flat 2 (codes "style") (ch
 edit_flat (SetRect id rect) = object_flat 2 _ (put_flat 2 (codes "rect") (rect_value rect) _ (rect_flat 1 rect) (named_flat (codes "rect") id))
 edit_flat (Shift id dx dy) = object_flat 2 _
     (put_flat 2 (codes "dy") (number_value dy) _ (number_flat 2 dy) (put_flat 2 (codes "dx") (number_value dx) _ (number_flat 2 dx) (named_flat (codes "shift") id)))
+edit_flat (Scroll id x y) = object_flat 2 _
+    (put_flat 2 (codes "y") (number_value y) _ (number_flat 2 y) (put_flat 2 (codes "x") (number_value x) _ (number_flat 2 x) (named_flat (codes "scroll") id)))
 
 pixel_flat : (w : List ℕ) (x y : ℤ) → Flat 3 (at_pixel w x y)
 pixel_flat w x y = object_flat 2 _

@@ -7,7 +7,7 @@ use Rattle.rd_style.specs.declared.styles.Style.{Style}
 use Rattle.rd_style.specs.declared.styles.StyleChange.{StyleChange}
 use Rattle.rd_tree.specs.Ids.{is_id}
 use Rattle.rd_edits.specs.declared.edit.Edit.{Edit}
-use Rattle.rd_edits.specs.declared.edit.Edit.TheVariants.{Insert, Remove, Move, SetStyle, SetRect, Shift}
+use Rattle.rd_edits.specs.declared.edit.Edit.TheVariants.{Insert, Remove, Move, SetStyle, SetRect, Shift, Scroll}
 use Rattle.rd_scene.specs.declared.script.SceneBox.{SceneBox}
 use Rattle.rd_scene.specs.declared.script.Command.{Command}
 use Rattle.rd_scene.specs.declared.script.Command.TheVariants.{Change, Paint, Hit, Pixel, Dump, Shot}
@@ -74,6 +74,7 @@ IsEdit (Move id parent before) = IsId id × IsId parent × IsIdOrNone before
 IsEdit (SetStyle id change) = IsId id × IsChange change
 IsEdit (SetRect id rect) = IsId id
 IsEdit (Shift id dx dy) = IsId id
+IsEdit (Scroll id x y) = IsId id
 
 -- a command of such an edit
 abbrev pub IsCommand : Command → Type 0

@@ -6,11 +6,12 @@ use Rattle.rd_style.specs.Limits.{is_between, FitsRect, Fits}
 use Rattle.rd_style.specs.declared.styles.StyleChange.{StyleChange}
 use Rattle.rd_style.specs.Changes.{plain, changed}
 use Rattle.rd_edits.specs.declared.edit.Edit.{Edit}
-use Rattle.rd_edits.specs.declared.edit.Edit.TheVariants.{Insert, Remove, Move, SetStyle, SetRect, Shift}
+use Rattle.rd_edits.specs.declared.edit.Edit.TheVariants.{Insert, Remove, Move, SetStyle, SetRect, Shift, Scroll}
 use Rattle.rd_scene.specs.declared.fault.Why.{Why}
 use Rattle.rd_scene.specs.declared.fault.Why.TheVariants as why
 use Rattle.rd_scene.specs.Figures.{max_distance}
 use Rattle.rd_scene.specs.declared.version.Version.{Version}
+use Rattle.rd_scene.specs.declared.version.Version.TheVariants.{One, Two}
 use Rattle.rd_scene.specs.Checked.{Checked, rule, good, ◌⊛◌, ◌>>=◌}
 use Rattle.rd_scene.specs.Members.{known, needed, number}
 use Rattle.rd_scene.specs.Rects.{rect_at}
@@ -75,7 +76,7 @@ set_rect_of ms d =
     ⊛ id_at (codes "id") d
     ⊛ rect_at d
 
--- how far a box may be shifted each way
+-- how far a box may be shifted each way, or what it clips be scrolled
 unfoldable pub distance_at : List ℕ → Data → Checked Why ℤ
 distance_at name d = needed name d >>= number (pos 0 -ℤ max_distance) max_distance
 
@@ -88,6 +89,17 @@ shift_of ms d =
     ⊛ distance_at (codes "dx") d
     ⊛ distance_at (codes "dy") d
 
+-- `scroll` has an id and two distances, how far what the box clips is scrolled to the right and down; version 1 has no such
+-- command
+unfoldable pub scroll_of : Version → Members → Data → Checked Why Edit
+scroll_of One ms d = rule (Err why.Command)
+scroll_of Two ms d =
+    good (λ _ id x y. Scroll id x y)
+    ⊛ known (codes "do" ∷ codes "id" ∷ codes "x" ∷ codes "y" ∷ []) ms
+    ⊛ id_at (codes "id") d
+    ⊛ distance_at (codes "x") d
+    ⊛ distance_at (codes "y") d
+
 -- the words of edits
 unfoldable pub edit_named : Version → List ℕ → Members → Data → Checked Why Edit
 edit_named version w ms d =
@@ -96,7 +108,8 @@ edit_named version w ms d =
     if bytes_eq w (codes "move") then move_of ms d else
     if bytes_eq w (codes "style") then set_style_of version ms d else
     if bytes_eq w (codes "rect") then set_rect_of ms d else
-    if bytes_eq w (codes "shift") then shift_of ms d else rule (Err why.Command)
+    if bytes_eq w (codes "shift") then shift_of ms d else
+    if bytes_eq w (codes "scroll") then scroll_of version ms d else rule (Err why.Command)
 
 -- The rectangle, the widths and the distances that an edit names are within the limits.
 abbrev pub FitsEdit : Edit → Type 0
@@ -107,3 +120,5 @@ FitsEdit (SetStyle id change) = Fits (changed plain change)
 FitsEdit (SetRect id rect) = FitsRect rect
 FitsEdit (Shift id dx dy) =
     IsTrue (is_between (pos 0 -ℤ max_distance) dx max_distance) × IsTrue (is_between (pos 0 -ℤ max_distance) dy max_distance)
+FitsEdit (Scroll id x y) =
+    IsTrue (is_between (pos 0 -ℤ max_distance) x max_distance) × IsTrue (is_between (pos 0 -ℤ max_distance) y max_distance)

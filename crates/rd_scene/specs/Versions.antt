@@ -6,7 +6,7 @@ use Rattle.rd_style.specs.declared.kinds.Isolation.TheVariants as isolation
 use Rattle.rd_style.specs.declared.styles.Style.{Style}
 use Rattle.rd_style.specs.declared.styles.StyleChange.{StyleChange}
 use Rattle.rd_edits.specs.declared.edit.Edit.{Edit}
-use Rattle.rd_edits.specs.declared.edit.Edit.TheVariants.{Insert, Remove, Move, SetStyle, SetRect, Shift}
+use Rattle.rd_edits.specs.declared.edit.Edit.TheVariants.{Insert, Remove, Move, SetStyle, SetRect, Shift, Scroll}
 use Rattle.rd_scene.specs.declared.script.SceneBox.{SceneBox}
 use Rattle.rd_scene.specs.declared.script.Command.{Command}
 use Rattle.rd_scene.specs.declared.script.Command.TheVariants.{Change, Paint, Hit, Pixel, Dump, Shot}
@@ -40,7 +40,7 @@ HasChange version c = version ≡ 1 → NamesNoBlending c
 abbrev pub HasBox : ℕ → SceneBox → Type 0
 HasBox version b = HasStyle version b.style
 
--- an edit that it may have
+-- an edit that it may have; version 1 scrolls nothing
 abbrev pub HasEdit : ℕ → Edit → Type 0
 HasEdit version (Insert id parent before rect style) = HasStyle version style
 HasEdit version (Remove id) = Unit {0}
@@ -48,6 +48,7 @@ HasEdit version (Move id parent before) = Unit {0}
 HasEdit version (SetStyle id change) = HasChange version change
 HasEdit version (SetRect id rect) = Unit {0}
 HasEdit version (Shift id dx dy) = Unit {0}
+HasEdit version (Scroll id x y) = version ≡ 1 → ⊥
 
 -- a command that it may have
 abbrev pub HasCommand : ℕ → Command → Type 0

@@ -28,7 +28,7 @@ use Rattle.rd_style.specs.declared.kinds.Pointer.TheVariants as pointer
 use Rattle.rd_style.specs.declared.kinds.Isolation.{Isolation}
 use Rattle.rd_style.specs.declared.kinds.Isolation.TheVariants as isolation
 use Rattle.rd_edits.specs.declared.edit.Edit.{Edit}
-use Rattle.rd_edits.specs.declared.edit.Edit.TheVariants.{Insert, Remove, Move, SetStyle, SetRect, Shift}
+use Rattle.rd_edits.specs.declared.edit.Edit.TheVariants.{Insert, Remove, Move, SetStyle, SetRect, Shift, Scroll}
 use Rattle.rd_scene.specs.declared.script.SceneBox.{SceneBox}
 use Rattle.rd_scene.specs.declared.script.Command.{Command}
 use Rattle.rd_scene.specs.declared.script.Command.TheVariants.{Change, Paint, Hit, Pixel, Dump, Shot}
@@ -185,6 +185,8 @@ edit_value (SetRect id rect) = object (put (codes "rect") (rect_value rect) (put
     (put (codes "do") (string (codes "rect")) no_members)))
 edit_value (Shift id dx dy) = object (put (codes "dy") (number_value dy) (put (codes "dx") (number_value dx)
     (put (codes "id") (string id) (put (codes "do") (string (codes "shift")) no_members))))
+edit_value (Scroll id x y) = object (put (codes "y") (number_value y) (put (codes "x") (number_value x)
+    (put (codes "id") (string id) (put (codes "do") (string (codes "scroll")) no_members))))
 
 -- a command without members of its own
 abbrev pub bare : List ℕ → Data

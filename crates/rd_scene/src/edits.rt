@@ -195,6 +195,31 @@ fn shift_of(alloc: Global, members: &Map<String, Value>, v: &Value) -> Result<Ed
     Ok(Edit::Shift { id, dx, dy })
 }
 
+/// A scroll offset: an id and two distances, right and down. Version 1 has no such command.
+#[tactic(auto, unfolding(crate::specs::Edits::scroll_of))]
+fn scroll_of(
+    alloc: Global,
+    version: Version,
+    members: &Map<String, Value>,
+    v: &Value,
+) -> Result<Edit, Refusal>
+    ensures value { Gives (λ e. e) result
+        (spec.scroll_of version (members_view members.now.entries) (view v.now)).first }
+    ensures fits { IfOk result (λ e. FitsEdit e) }
+    ensures had { IfOk result (λ e. HasEdit (number_of version) e) }
+{
+    match version {
+        Version::One => Err(Refusal::Rule(Why::Command)),
+        Version::Two => {
+            known(members, &["do", "id", "x", "y"])?;
+            let id = id_at(alloc, v, "id")?;
+            let x = distance_at(v, "x")?;
+            let y = distance_at(v, "y")?;
+            Ok(Edit::Scroll { id, x, y })
+        }
+    }
+}
+
 /// The edit that a word names, with its members.
 #[tactic(auto, unfolding(crate::specs::Edits::edit_named))]
 pub(crate) fn edit_named(
@@ -216,6 +241,7 @@ pub(crate) fn edit_named(
         "style" => set_style_of(alloc, version, members, v),
         "rect" => set_rect_of(alloc, members, v),
         "shift" => shift_of(alloc, members, v),
+        "scroll" => scroll_of(alloc, version, members, v),
         _ => Err(Refusal::Rule(Why::Command)),
     }
 }

@@ -68,6 +68,7 @@ fn of_edit(edit: &Edit)
         }
         Edit::SetRect { id, .. } => of_id(id),
         Edit::Shift { id, .. } => of_id(id),
+        Edit::Scroll { id, .. } => of_id(id),
     }
 }
 

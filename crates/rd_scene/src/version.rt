@@ -5,7 +5,7 @@
 pub(crate) enum Version {
     /// The first.
     One,
-    /// The one with blend modes and isolation.
+    /// The one with blend modes, isolation and scroll offsets.
     Two,
 }
 

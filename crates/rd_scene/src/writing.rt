@@ -6,7 +6,7 @@ ghost use Rattle.serde_json.specs.Data.{string, number, unsigned, array};
 ghost use Rattle.serde_json.specs.Data as json_data;
 ghost use Rattle.serde_json.specs.Written.{compact_text};
 ghost use Rattle.serde_json.specs.View.{view, items_view, items_of, members_view};
-ghost use Rattle.rd_edits.specs.declared.edit.Edit.TheVariants.{Insert, Remove, Move, SetStyle, SetRect, Shift};
+ghost use Rattle.rd_edits.specs.declared.edit.Edit.TheVariants.{Insert, Remove, Move, SetStyle, SetRect, Shift, Scroll};
 ghost use Rattle.rd_scene.specs.Reading.{Reads, IsScriptText};
 ghost use Rattle.rd_scene.specs.Writing as spec;
 
@@ -599,6 +599,17 @@ fn shift_value(alloc: Global, id: &Id, dx: i32, dy: i32) -> Result<Value, AllocE
     Ok(Value::Object(map))
 }
 
+#[tactic(auto, unfolding(crate::specs::Writing::edit_value))]
+fn scroll_value(alloc: Global, id: &Id, x: i32, y: i32) -> Result<Value, AllocError>
+    ensures { IfOk result (λ v. view v ≡ spec.edit_value (Scroll id.now x y)) }
+{
+    let mut map = Map::new(alloc);
+    add_head(alloc, &mut map, "scroll", id)?;
+    add_integer(alloc, &mut map, "x", x)?;
+    add_integer(alloc, &mut map, "y", y)?;
+    Ok(Value::Object(map))
+}
+
 fn edit_value(alloc: Global, edit: &Edit) -> Result<Value, AllocError>
     ensures { IfOk result (λ v. view v ≡ spec.edit_value edit.now) }
 {
@@ -615,6 +626,7 @@ fn edit_value(alloc: Global, edit: &Edit) -> Result<Value, AllocError>
         Edit::SetStyle { id, change } => set_style_value(alloc, id, change),
         Edit::SetRect { id, rect } => set_rect_value(alloc, id, *rect),
         Edit::Shift { id, dx, dy } => shift_value(alloc, id, *dx, *dy),
+        Edit::Scroll { id, x, y } => scroll_value(alloc, id, *x, *y),
     }
 }
 

@@ -20,6 +20,8 @@ use Rattle.rd_tree.specs.Forest.{empty, tree, has, IsApart}
 use Rattle.rd_tree.specs.declared.node.Item.{Item}
 use Rattle.rd_tree.specs.Document.{BoxForest}
 use Rattle.rd_tree.specs.Hulls.{extent, hull_in}
+use Rattle.rd_tree.specs.Drawn.{drawn}
+use Rattle.rd_tree.proofs.Drawing.{apart_drawn, rooted_drawn}
 use Rattle.rd_tree.proofs.Linking.Standing.{never, refute, either, from_left, from_right, apart_back, differs}
 use Rattle.rd_stack.specs.Paths.{BoxData, BoxPath, is_none, is_root}
 use Rattle.rd_stack.specs.Clips.{clip_of, padding_box}
@@ -259,4 +261,6 @@ filtering g t a r meets grows =
     (order-reached g meets grows (canvas_of t.canvas) t.root r.0 r.1 (subst (λ z. IsApart same_key z) r.2 a))
 
 pub meeting_area : MeetingLaw
-meeting_area t a r area = ap (meeting area) (given_list t a r) ∙ filtering (grouped_in t.boxes) t a r (meets_area area) (grows_area area)
+meeting_area t a r area =
+    ap (meeting area) (given_list t a r)
+    ∙ filtering (grouped_in t.boxes) (drawn t) (apart_drawn [] t.boxes a) (rooted_drawn t r) (meets_area area) (grows_area area)

@@ -7,3 +7,4 @@ pub mod Pruned
 pub mod Cuts
 pub mod Alone
 pub mod Bare
+pub mod Drawn

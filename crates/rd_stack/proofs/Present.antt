@@ -21,6 +21,8 @@ use Rattle.rd_list.specs.Entries.{Entries, nil, leaf, group, ◌▷◌, each, op
 use Rattle.rd_tree.specs.Forest.{empty, tree}
 use Rattle.rd_tree.specs.declared.node.Item.{Item}
 use Rattle.rd_tree.specs.Document.{BoxForest}
+use Rattle.rd_tree.specs.Drawn.{drawn}
+use Rattle.rd_tree.proofs.Drawing.{apart_drawn, rooted_drawn}
 use Rattle.rd_tree.proofs.Linking.Standing.{cases}
 use Rattle.rd_stack.specs.Paths.{BoxData, BoxPath, is_none, is_root, is_context, is_class, has_class, is_plain, is_inline, is_no_context, is_local, is_layer, is_in_line, is_blended_layer, is_grouped}
 use Rattle.rd_stack.specs.Parts.{leaf_at}
@@ -613,21 +615,23 @@ some_there p (m ∷ ms) l (inl i) e = let k : one (p m) ≡ 1 = ap (λ z. one (p
 some_there p (m ∷ ms) l (inr u) e = let k = some_there p ms l u e in omega (arith, k)
 
 pub whole_list : WholeLaw
-whole_list t apart r =
+whole_list t apart0 r0 =
     let canvas = canvas_of t.canvas in
+    let apart = apart_drawn [] t.boxes apart0 in
+    let r = rooted_drawn t r0 in
     let list = flat (fresh_list t) in
-    let there : (l : Leaf) → IsLeafIn canvas l [] t.boxes → Has list l = λ l h. in_flat canvas l (fresh_list t)
+    let there : (l : Leaf) → IsLeafIn canvas l [] (drawn t).boxes → Has list l = λ l h. in_flat canvas l (fresh_list t)
     (subst (λ z. Holds canvas l (root_order grouping canvas z)) (sym r.2) (present canvas l t.root r.0 r.1 (subst (λ z. IsLeafIn canvas l [] z) r.2 h))) in
-    let back : (l : Leaf) → Has list l → IsLeafIn canvas l [] t.boxes = λ l c. each_at (λ m. IsLeafIn canvas m [] t.boxes) (fresh_list t)
-    (in_order (λ m. IsLeafIn canvas m [] t.boxes) canvas grouping t.boxes (of_boxes canvas (λ m. IsLeafIn canvas m [] t.boxes) [] t.boxes (λ m u. u))) l c in
-    let from_box : (l : Leaf) → IsLeafOf t l → IsLeafIn canvas l [] t.boxes = λ l o. of_box canvas l [] t.boxes o.box (has_from (preorder [] t.boxes) o.box o.there) (o.part, o.is) in
+    let back : (l : Leaf) → Has list l → IsLeafIn canvas l [] (drawn t).boxes = λ l c. each_at (λ m. IsLeafIn canvas m [] (drawn t).boxes) (fresh_list t)
+    (in_order (λ m. IsLeafIn canvas m [] (drawn t).boxes) canvas grouping (drawn t).boxes (of_boxes canvas (λ m. IsLeafIn canvas m [] (drawn t).boxes) [] (drawn t).boxes (λ m u. u))) l c in
+    let from_box : (l : Leaf) → IsLeafOf t l → IsLeafIn canvas l [] (drawn t).boxes = λ l o. of_box canvas l [] (drawn t).boxes o.box (has_from (preorder [] (drawn t).boxes) o.box o.there) (o.part, o.is) in
     record {
       leaves = λ l. (
         (λ o. contains_from list l (there l (from_box l o))),
-        (λ c. let (s, m, (part, o)) = box_of canvas l [] t.boxes (back l (has_from list l c)) in record { box = s; part = part; there = contains_from (preorder [] t.boxes) s m; is = o }),
+        (λ c. let (s, m, (part, o)) = box_of canvas l [] (drawn t).boxes (back l (has_from list l c)) in record { box = s; part = part; there = contains_from (preorder [] (drawn t).boxes) s m; is = o }),
       );
       once = λ l o.
-          let most = leaf_once canvas l t.boxes apart in
+          let most = leaf_once canvas l (drawn t).boxes apart in
           let least = some_there (same_leaf l) list l (there l (from_box l o)) (same_leaf-refl l) in
           let n = counted (same_leaf l) list in
           omega (arith, most, least, n);

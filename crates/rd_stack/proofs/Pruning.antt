@@ -1,5 +1,5 @@
 -- What changes leave of a fresh list.
-use Rattle.std.proofs.Common.{◌≡◌, refl, ap, ◌∙◌, sym, subst, Bool, true, false, not, ◌&&◌, ◌||◌, cond, ◌⊎◌, inl, inr}
+use Rattle.std.proofs.Common.{◌≡◌, refl, ap, ◌∙◌, sym, subst, Bool, true, false, not, ◌&&◌, ◌||◌, cond, [], ◌∷◌, ◌⊎◌, inl, inr}
 use Rattle.std.specs.Prelude.{Option, Some, None}
 use Rattle.std.specs.Option.{option_map_or}
 use Rattle.rd_geom.specs.Plane.{Rectangle}
@@ -14,14 +14,16 @@ use Rattle.rd_list.specs.Wrappers.{Wrapper}
 use Rattle.rd_list.specs.Entries.{Entries, nil}
 use Rattle.rd_list.specs.Lists.{without_touched}
 use Rattle.rd_list.proofs.Merges.Narrowing.{only_only}
-use Rattle.rd_tree.specs.Forest.{empty, tree, ◌▷◌, has, item_of, children, with_children, insert_among, branch, map_where, at_box, at_subtree, in_subtree, IsApart}
+use Rattle.rd_tree.specs.Forest.{empty, tree, ◌▷◌, has, item_of, children, with_children, insert_among, branch, map_where, at_box, in_subtree, IsApart}
 use Rattle.rd_tree.specs.Forest as forest
 use Rattle.rd_tree.specs.declared.node.Item.{Item}
 use Rattle.rd_tree.specs.Document.{Document, BoxForest, IsRooted, with_child}
-use Rattle.rd_tree.specs.Changes.{Change, insertion, removal, moving, styling, placing, shifting, restyle, with_rect, shift_item, put_elsewhere, after}
+use Rattle.rd_tree.specs.Changes.{Change, insertion, removal, moving, styling, placing, shifting, scrolling, restyle, with_rect, with_scroll, unscrolled, shift_item, put_elsewhere, after}
+use Rattle.rd_tree.specs.declared.scroll.Scroll.{Scroll}
+use Rattle.rd_tree.specs.Drawn.{above_of, at, drawn_below}
 use Rattle.rd_tree.specs.Contexts.{context_of, context_round, in_context, holds_blended}
 use Rattle.rd_tree.specs.Touching.{reached_by, regrouped_by, touched_by}
-use Rattle.rd_tree.proofs.Linking.Standing.{cases, never, from_left, from_right, join-empty, out_of_children, differs}
+use Rattle.rd_tree.proofs.Linking.Standing.{cases, never, from_left, from_right, join-empty, has-join, out_of_children, no_children, differs}
 use Rattle.rd_tree.proofs.Forests.Without.{apart_without}
 use Rattle.rd_tree.proofs.Nodes.Each.{apart_each}
 use Rattle.rd_stack.specs.Fresh.{fresh_list, given, grouped_in, root_order}
@@ -32,11 +34,12 @@ use Rattle.rd_stack.proofs.Grouping.Apart.{child_apart, elsewhere_apart}
 use Rattle.rd_stack.proofs.Grouping.Shape.{grouped_tree, tree-found}
 use Rattle.rd_stack.proofs.Grouping.Own.{given_list}
 use Rattle.rd_stack.proofs.Grouping.Stays.{change-stays, tree-each, alike_named}
-use Rattle.rd_stack.proofs.Left.Bare.{bare, bare_item}
+use Rattle.rd_stack.proofs.Left.Bare.{bare}
 use Rattle.rd_stack.proofs.Left.Onlies.{only_agree}
 use Rattle.rd_stack.proofs.Left.Pruned.{order-left, order-gone}
-use Rattle.rd_stack.proofs.Left.Cuts.{all_from_has, closed_all, closed_none, closed_subtree, closed_branch, all_branch, closed_children, closed_amid, pruned_amid, closed_under, pruned_under, closed_without, pruned_without, all-each, closed_each, pruned_each, closed_or, closed_and, all_children, all_amid, closed_anew}
-use Rattle.rd_stack.proofs.Left.Alone.{KeepsBare, bare_kept, keeps_root, bare-restyle, bare-rect, restyle-none, each_same, key_flip, has_item}
+use Rattle.rd_stack.proofs.Left.Cuts.{all_from_has, closed_all, closed_none, closed_subtree, closed_below, closed_branch, all_branch, closed_children, closed_amid, pruned_amid, closed_under, pruned_under, closed_without, pruned_without, all-each, closed_each, pruned_each, closed_or, closed_and, all_children, all_amid, closed_anew}
+use Rattle.rd_stack.proofs.Left.Alone.{OfKey, key_root, KeepsPlaces, bare-drawn, places-restyle, places-rect, restyle-none, each_same, key_flip, has_item}
+use Rattle.rd_stack.proofs.Left.Drawn.{pruned-drawn, all-drawn, closed_drawn, IsBared, scrolled-cut, scrolled-kept, order_same, bare-scrolled}
 
 -- What is left out already need not be left out.
 module _ (gone touched : BoxKey → Bool) (more : (k : BoxKey) → gone k ≡ true → touched k ≡ true) where
@@ -74,14 +77,24 @@ tree_under p g root f r = (r.0, cond (same_key p root) g (with_children same_key
     by true = refl
     by false = refl
 
+tree_drawn : (root : BoxKey) (f : BoxForest) → IsTreeOf root f → IsTreeOf root (drawn_below [] f)
+tree_drawn root f r = (with_rect (at [] r.0) r.0, drawn_below (above_of true r.0 ∷ []) r.1, ap (drawn_below []) r.2)
+
 module _ (g : BoxKey → Bool) (canvas : Rectangle) (cut gone : BoxKey → Bool) (within : (k : BoxKey) → cut k ≡ true → gone k ≡ true) where
-  left_of : (root : BoxKey) (f : BoxForest) → IsTreeOf root f → IsClosed cut f → cut root ≡ false → without_touched gone (root_order (given g) canvas f) ≡ root_order (given g) canvas (bare gone true (pruned cut f))
-  left_of root f r c n =
+  left_there : (root : BoxKey) (f : BoxForest) → IsTreeOf root f → IsClosed cut f → cut root ≡ false → without_touched gone (root_order (given g) canvas f) ≡ root_order (given g) canvas (bare gone true (pruned cut f))
+  left_there root f r c n =
       let c2 : IsClosed cut (tree root r.0 r.1 empty) = subst (λ z. IsClosed cut z) r.2 c in
       subst (λ z. without_touched gone (root_order (given g) canvas z) ≡ root_order (given g) canvas (bare gone true (pruned cut z))) (sym r.2) (order-left g cut gone within canvas root r.0 r.1 c2.1 n)
 
-gone_of : (g : BoxKey → Bool) (canvas : Rectangle) (gone : BoxKey → Bool) (root : BoxKey) (f : BoxForest) → IsTreeOf root f → all_cut gone f ≡ true → gone root ≡ true → without_touched gone (root_order (given g) canvas f) ≡ nil
-gone_of g canvas gone root f r a o =
+  -- What is left of a tree that is drawn.
+  left_of : (root : BoxKey) (f : BoxForest) → IsTreeOf root f → IsClosed cut f → cut root ≡ false
+      → without_touched gone (root_order (given g) canvas (drawn_below [] f)) ≡ root_order (given g) canvas (bare gone true (drawn_below [] (pruned cut f)))
+  left_of root f r c n =
+      left_there root (drawn_below [] f) (tree_drawn root f r) (closed_drawn cut [] f c) n
+      ∙ ap (λ z. root_order (given g) canvas (bare gone true z)) (pruned-drawn cut [] f)
+
+gone_there : (g : BoxKey → Bool) (canvas : Rectangle) (gone : BoxKey → Bool) (root : BoxKey) (f : BoxForest) → IsTreeOf root f → all_cut gone f ≡ true → gone root ≡ true → without_touched gone (root_order (given g) canvas f) ≡ nil
+gone_there g canvas gone root f r a o =
     let a2 : all_cut gone (tree root r.0 r.1 empty) ≡ true = subst (λ z. all_cut gone z ≡ true) r.2 a in
     let low : all_cut gone r.1 ≡ true = below_all (gone root) (all_cut gone r.1) a2 in
     subst (λ z. without_touched gone (root_order (given g) canvas z) ≡ nil) (sym r.2) (order-gone g gone canvas root r.0 r.1 o low (closed_all gone r.1 low))
@@ -90,6 +103,10 @@ gone_of g canvas gone root f r a o =
     below_all true true h = refl
     below_all true false h = h
     below_all false b h = absurd (never false h refl)
+
+gone_of : (g : BoxKey → Bool) (canvas : Rectangle) (gone : BoxKey → Bool) (root : BoxKey) (f : BoxForest) → IsTreeOf root f → all_cut gone f ≡ true → gone root ≡ true
+    → without_touched gone (root_order (given g) canvas (drawn_below [] f)) ≡ nil
+gone_of g canvas gone root f r a o = gone_there g canvas gone root (drawn_below [] f) (tree_drawn root f r) (all-drawn gone [] f ∙ a) o
 
 -- How far an edit of one box reaches.
 abbrev styled_by : BoxKey → BoxKey → StyleChange → BoxForest → BoxKey → Bool
@@ -113,6 +130,16 @@ placed_whole root k r f d e w j = ap (λ o. option_map_or (λ d. cond (clips d.s
 placed_alone : (root k : BoxKey) (r : Rectangle) (f : BoxForest) (d : Item) → item_of same_key k f ≡ Some d → clips d.style (same_key k root) ≡ false → (j : BoxKey) → placed_by root k r f j ≡ same_key j k
 placed_alone root k r f d e w j = ap (λ o. option_map_or (λ d. cond (clips d.style (same_key k root)) (in_subtree same_key j k f) (same_key j k)) o false) e ∙ rw w refl
 
+-- How far a scroll offset reaches.
+abbrev scrolled_past : BoxKey → BoxKey → BoxForest → BoxKey → Bool
+scrolled_past root k f j = option_map_or (λ d. clips d.style (same_key k root) && has same_key j (children same_key k f)) (item_of same_key k f) false
+
+scrolled_all : (root k : BoxKey) (f : BoxForest) (d : Item) → item_of same_key k f ≡ Some d → clips d.style (same_key k root) ≡ true → (j : BoxKey) → scrolled_past root k f j ≡ has same_key j (children same_key k f)
+scrolled_all root k f d e w j = ap (λ o. option_map_or (λ d. clips d.style (same_key k root) && has same_key j (children same_key k f)) o false) e ∙ rw w refl
+
+scrolled_none : (root k : BoxKey) (f : BoxForest) (d : Item) → item_of same_key k f ≡ Some d → clips d.style (same_key k root) ≡ false → (j : BoxKey) → scrolled_past root k f j ≡ false
+scrolled_none root k f d e w j = ap (λ o. option_map_or (λ d. clips d.style (same_key k root) && has same_key j (children same_key k f)) o false) e ∙ rw w refl
+
 one_item : (a b : Item) → let x : Option Item = Some a in x ≡ Some b → a ≡ b
 one_item a b e = cc
 
@@ -129,7 +156,7 @@ module _ (g : BoxKey → Bool) (old : Document) (apart : IsApart same_key old.bo
 
   -- What a change of these boxes leaves: without those that it reaches the lists are the same, where it is given which boxes are grouped.
   record Row (gone : BoxKey → Bool) (f : BoxForest) : Type 0 where
-    same : without_touched gone (root_order (given g) canvas boxes) ≡ without_touched gone (root_order (given g) canvas f)
+    same : without_touched gone (root_order (given g) canvas (drawn_below [] boxes)) ≡ without_touched gone (root_order (given g) canvas (drawn_below [] f))
 
   root_low : (k : BoxKey) → same_key k old.root ≡ false → in_subtree same_key old.root k boxes ≡ false
   root_low k n =
@@ -151,7 +178,7 @@ module _ (g : BoxKey → Bool) (old : Document) (apart : IsApart same_key old.bo
       inside : (j : BoxKey) → has same_key j (tree old.root rooted.0 rooted.1 empty) ≡ true → in_subtree same_key j k (tree old.root rooted.0 rooted.1 empty) ≡ true
       inside j v = rw (e, same_key-sound k old.root e) (ap (λ z. same_key j old.root || z) (sym (or_none (has same_key j rooted.1))) ∙ v)
 
-  row : (gone : BoxKey → Bool) (f : BoxForest) → without_touched gone (root_order (given g) canvas boxes) ≡ without_touched gone (root_order (given g) canvas f) → Row gone f
+  row : (gone : BoxKey → Bool) (f : BoxForest) → without_touched gone (root_order (given g) canvas (drawn_below [] boxes)) ≡ without_touched gone (root_order (given g) canvas (drawn_below [] f)) → Row gone f
   row gone f e = record { same = e }
 
   moved_row_to : {p q : BoxKey → Bool} {f : BoxForest} → ((j : BoxKey) → q j ≡ p j) → Row p f → Row q f
@@ -174,7 +201,7 @@ module _ (g : BoxKey → Bool) (old : Document) (apart : IsApart same_key old.bo
             row s f (gone_of g canvas s old.root boxes rooted (root_all k e) here ∙ sym (gone_of g canvas s old.root f r (a e (root_all k e)) here))
         | inr e ↦
             row s f (left_of g canvas s s (λ k h. h) old.root boxes rooted (closed_subtree k boxes apart) (root_low k e)
-            ∙ (ap (λ z. root_order (given g) canvas (bare s true z)) (sym p) ∙ sym (left_of g canvas s s (λ k h. h) old.root f r c (root_low k e))))
+            ∙ (ap (λ z. root_order (given g) canvas (bare s true (drawn_below [] z))) (sym p) ∙ sym (left_of g canvas s s (λ k h. h) old.root f r c (root_low k e))))
       ]
 
   -- items of the subtree change
@@ -230,28 +257,94 @@ module _ (g : BoxKey → Bool) (old : Document) (apart : IsApart same_key old.bo
       let cb : IsClosed s b = ((λ _. refl), tt, tt) in
       row s (with_children same_key p x boxes)
       (left_of g canvas s s (λ k h. h) old.root boxes rooted c (off old.root root_there)
-      ∙ (ap (λ z. root_order (given g) canvas (bare s true z)) (sym (pruned_under s p x boxes apart (pruned_amid s before b (children same_key p boxes) ab)))
+      ∙ (ap (λ z. root_order (given g) canvas (bare s true (drawn_below [] z))) (sym (pruned_under s p x boxes apart (pruned_amid s before b (children same_key p boxes) ab)))
       ∙ sym (left_of g canvas s s (λ k h. h) old.root (with_children same_key p x boxes) (tree_under p x old.root boxes rooted)
       (closed_under s p x boxes (off p hp) (closed_amid s before b (children same_key p boxes) cb (closed_children s p boxes c)) c) (off old.root root_there))))
 
+  -- the box of a key, where it is found
+  of_key : (k : BoxKey) (P : Bool → Item → Type 0) → ((d : Item) → item_of same_key k boxes ≡ Some d → P (same_key k old.root) d) → OfKey k P true boxes
+  of_key k P q =
+      let a : IsApart same_key (tree old.root rooted.0 rooted.1 empty) = subst (λ z. IsApart same_key z) rooted.2 apart in
+      subst (λ z. OfKey k P true z) (sym rooted.2) (key_root k P old.root rooted.0 rooted.1 a (λ x e. q x (ap (item_of same_key k) rooted.2 ∙ e)))
+
   -- one box changes so that no other box rests on it
-  alone_row : (k : BoxKey) (h : Item → Item) → ((d : Item) → item_of same_key k boxes ≡ Some d → bare_item true (same_key k old.root) (h d) ≡ bare_item true (same_key k old.root) d) → Row (one k) (at_box same_key k h boxes)
+  alone_row : (k : BoxKey) (h : Item → Item) → ((d : Item) → item_of same_key k boxes ≡ Some d → KeepsPlaces h (same_key k old.root) d) → Row (one k) (at_box same_key k h boxes)
   alone_row k h q =
       let s : BoxKey → Bool = λ j. same_key j k in
-      let a : IsApart same_key (tree old.root rooted.0 rooted.1 empty) = subst (λ z. IsApart same_key z) rooted.2 apart in
-      let keeps : KeepsBare k h true boxes = subst (λ z. KeepsBare k h true z) (sym rooted.2) (keeps_root k h old.root rooted.0 rooted.1 a (λ x e. q x (ap (item_of same_key k) rooted.2 ∙ e))) in
       let f : BoxForest = at_box same_key k h boxes in
-      let same : bare s true f ≡ bare s true boxes = bare_kept k h true boxes keeps in
+      let same : bare s true (drawn_below [] f) ≡ bare s true (drawn_below [] boxes) = bare-drawn k h [] boxes (of_key k (KeepsPlaces h) q) in
       let nothing : (f : BoxForest) → IsClosed none f = λ f. closed_none none f (λ j u. refl) in
       row s f
       (left_of g canvas none s (λ k h. absurd (never false h refl)) old.root boxes rooted (nothing boxes) refl
-      ∙ (ap (λ z. root_order (given g) canvas (bare s true z)) (pruned-none boxes)
+      ∙ (ap (λ z. root_order (given g) canvas (bare s true (drawn_below [] z))) (pruned-none boxes)
       ∙ (ap (root_order (given g) canvas) (sym same)
-      ∙ (ap (λ z. root_order (given g) canvas (bare s true z)) (sym (pruned-none f))
+      ∙ (ap (λ z. root_order (given g) canvas (bare s true (drawn_below [] z))) (sym (pruned-none f))
       ∙ sym (left_of g canvas none s (λ k h. absurd (never false h refl)) old.root f (tree_each s h old.root boxes rooted) (nothing f) refl)))))
 
+  -- No box stands above the root.
+  root_top : (k : BoxKey) → has same_key old.root (children same_key k boxes) ≡ false
+  root_top k =
+      let a : IsApart same_key (tree old.root rooted.0 rooted.1 empty) = subst (λ z. IsApart same_key z) rooted.2 apart in
+      let low : has same_key old.root (children same_key k rooted.1) ≡ false = out_of_children same_key same_key-sound same_key-refl old.root k rooted.1 a.0 in
+      let at_root : has same_key old.root (children same_key k (tree old.root rooted.0 rooted.1 empty)) ≡ false = by (same_key k old.root) a.0 (ap (has same_key old.root) (join-empty (children same_key k rooted.1)) ∙ low) in
+      subst (λ z. has same_key old.root (children same_key k z) ≡ false) (sym rooted.2) at_root
+    where
+      by : (b : Bool) → has same_key old.root rooted.1 ≡ false → has same_key old.root (children same_key k rooted.1 ▷ empty) ≡ false
+          → has same_key old.root (cond b rooted.1 (children same_key k rooted.1 ▷ empty)) ≡ false
+      by true p q = p
+      by false p q = q
+
+  -- what is below the box of a key is cut, where all below it is to go
+  bared : (k : BoxKey) (s : BoxKey → Bool) (f : BoxForest) → ((j : BoxKey) → has same_key j (children same_key k f) ≡ true → s j ≡ true) → IsApart same_key f → (v : Scroll) → IsBared s k v f
+  bared k s empty h a v = tt
+  bared k s (tree i d below rest) h a v =
+      elim (cases (same_key k i)) [
+        | inl e ↦
+            let n : k ≡ i = same_key-sound k i e in
+            let low : all_cut s below ≡ true = all_from_has s below (λ j u. h j (rw e u)) in (
+              (λ _. low),
+              bared k s below (λ j u. absurd (never (has same_key j (children same_key k below)) u (ap (has same_key j) (no_children same_key same_key-sound same_key-refl k below (subst (λ x. has same_key x below ≡ false) (sym n) a.0))))) a.3 v,
+              bared k s rest (λ j u. absurd (never (has same_key j (children same_key k rest)) u (ap (has same_key j) (no_children same_key same_key-sound same_key-refl k rest (subst (λ x. has same_key x rest ≡ false) (sym n) a.1))))) a.4 v,
+            )
+        | inr e ↦ (
+          (λ u. absurd (never (same_key k i) (key_flip k i ∙ u) e)),
+          bared k s below (λ j u. h j (rw e (has-join same_key same_key-sound same_key-refl j (children same_key k below) (children same_key k rest) ∙ from_left (has same_key j (children same_key k below)) (has same_key j (children same_key k rest)) u))) a.3 v,
+          bared k s rest (λ j u. h j (rw e (has-join same_key same_key-sound same_key-refl j (children same_key k below) (children same_key k rest) ∙ from_right (has same_key j (children same_key k below)) (has same_key j (children same_key k rest)) u))) a.4 v,
+        )
+      ]
+
+  -- a box that clips is scrolled: what is below it goes
+  scrolled_row : (k : BoxKey) (v : Scroll) → let s : BoxKey → Bool = λ j. has same_key j (children same_key k boxes) in Row s (at_box same_key k (with_scroll v) boxes)
+  scrolled_row k v =
+      let s : BoxKey → Bool = λ j. has same_key j (children same_key k boxes) in
+      let one : BoxKey → Bool = λ j. same_key j k in
+      let f : BoxForest = at_box same_key k (with_scroll v) boxes in
+      let c : IsClosed s boxes = closed_below k boxes apart in
+      let b : BoxForest = bare s true (drawn_below [] (pruned s boxes)) in
+      let same : bare s true (drawn_below [] (pruned s f)) ≡ at_box same_key k (with_scroll v) b =
+      ap (bare s true) (scrolled-cut s k v [] boxes (bared k s boxes (λ j u. u) apart v)) ∙ bare-scrolled s true k v (drawn_below [] (pruned s boxes)) in
+      row s f
+      (left_of g canvas s s (λ k h. h) old.root boxes rooted c (root_top k)
+      ∙ (sym (order_same (given g) one (with_scroll v) (λ k d. refl) canvas b)
+      ∙ (ap (root_order (given g) canvas) (sym same)
+      ∙ sym (left_of g canvas s s (λ k h. h) old.root f (tree_each one (with_scroll v) old.root boxes rooted) (closed_each s one (with_scroll v) boxes c) (root_top k)))))
+
+  -- a box that does not clip is scrolled: nothing moves
+  still_row : (k : BoxKey) (v : Scroll) → ((d : Item) → item_of same_key k boxes ≡ Some d → clips d.style (same_key k old.root) ≡ false) → Row none (at_box same_key k (with_scroll v) boxes)
+  still_row k v q =
+      let f : BoxForest = at_box same_key k (with_scroll v) boxes in
+      let kept : drawn_below [] f ≡ at_box same_key k (with_scroll v) (drawn_below [] boxes) =
+      scrolled-kept k v [] boxes (of_key k (λ root d. above_of root (with_scroll v d) ≡ above_of root d) (λ d e. let n = q d e in λ i. record { position = d.style.position; scrolled = still (clips d.style (same_key k old.root)) d n i })) in
+      record {
+        same = ap (without_touched none) (sym (ap (root_order (given g) canvas) kept ∙ order_same (given g) (λ j. same_key j k) (with_scroll v) (λ k d. refl) canvas (drawn_below [] boxes)));
+      }
+    where
+      still : (b : Bool) (d : Item) → b ≡ false → cond b v unscrolled ≡ cond b d.scroll unscrolled
+      still true d e = cc
+      still false d e = refl
+
   same_row : (f : BoxForest) → f ≡ boxes → Row none f
-  same_row f e = record { same = ap (λ z. without_touched none (root_order (given g) canvas z)) (sym e) }
+  same_row f e = record { same = ap (λ z. without_touched none (root_order (given g) canvas (drawn_below [] z))) (sym e) }
 
   styled_row : (k : BoxKey) (c : StyleChange) → has same_key k boxes ≡ true → Row (styled_by old.root k c boxes) (at_box same_key k (restyle c) boxes)
   styled_row k c h =
@@ -264,7 +357,7 @@ module _ (g : BoxKey → Bool) (old : Document) (apart : IsApart same_key old.bo
         | inr w ↦ elim (cases (names_any c)) [
           | inl n ↦
               moved_row_to (styled_alone old.root k c boxes i.0 i.1 w n)
-              (alone_row k (restyle c) (λ d e. bare-restyle root c d (subst (λ x. whole x.style root c ≡ false) (one_item i.0 d (sym i.1 ∙ e)) w)))
+              (alone_row k (restyle c) (λ d e. places-restyle root c d (subst (λ x. whole x.style root c ≡ false) (one_item i.0 d (sym i.1 ∙ e)) w)))
           | inr n ↦
               moved_row_to (styled_none old.root k c boxes i.0 i.1 w n)
               (same_row (at_box same_key k (restyle c) boxes) (each_same (λ j. same_key j k) (restyle c) (λ d. restyle-none c d n) boxes))
@@ -281,7 +374,17 @@ module _ (g : BoxKey → Bool) (old : Document) (apart : IsApart same_key old.bo
             (changed_row k (λ j. same_key j k) (with_rect r) (λ j e. from_left (same_key j k) (has same_key j (children same_key k boxes)) e))
         | inr w ↦
             moved_row_to (placed_alone old.root k r boxes i.0 i.1 w)
-            (alone_row k (with_rect r) (λ d e. bare-rect root r d (subst (λ x. clips x.style root ≡ false) (one_item i.0 d (sym i.1 ∙ e)) w)))
+            (alone_row k (with_rect r) (λ d e. places-rect root r d (subst (λ x. clips x.style root ≡ false) (one_item i.0 d (sym i.1 ∙ e)) w)))
+      ]
+
+  scrolling_row : (k : BoxKey) (v : Scroll) → has same_key k boxes ≡ true → Row (scrolled_past old.root k boxes) (at_box same_key k (with_scroll v) boxes)
+  scrolling_row k v h =
+      let i = has_item k boxes h in
+      let root : Bool = same_key k old.root in
+      elim (cases (clips i.0.style root)) [
+        | inl w ↦ moved_row_to (scrolled_all old.root k boxes i.0 i.1 w) (scrolled_row k v)
+        | inr w ↦ moved_row_to (scrolled_none old.root k boxes i.0 i.1 w)
+            (still_row k v (λ d e. subst (λ x. clips x.style root ≡ false) (one_item i.0 d (sym i.1 ∙ e)) w))
       ]
 
   row_of : (c : Change) → CanChange c old → Row (reached_by c old) (after c old).boxes
@@ -291,6 +394,7 @@ module _ (g : BoxKey → Bool) (old : Document) (apart : IsApart same_key old.bo
   row_of (styling k c) there = styled_row k c there
   row_of (placing k r) there = replaced_row k r there
   row_of (shifting k dx dy) _ = changed_row k (λ j. in_subtree same_key j k boxes) (shift_item dx dy) (λ j e. e)
+  row_of (scrolling k v) there = scrolling_row k v there
 
 module _ (old : Document) (apart : IsApart same_key old.boxes) (rooted : IsRooted old) where
   abbrev all : BoxForest
@@ -360,6 +464,7 @@ module _ (old : Document) (apart : IsApart same_key old.boxes) (rooted : IsRoote
   whole_of (styling k c) there = styling_whole k c there
   whole_of (placing k r) there = inr (λ j. tree-each (λ i. same_key i k) (with_rect r) (λ e. record { blend = refl; context = refl; opacity = refl }) j all)
   whole_of (shifting k dx dy) _ = inr (λ j. tree-each (λ i. in_subtree same_key i k all) (shift_item dx dy) (λ e. record { blend = refl; context = refl; opacity = refl }) j all)
+  whole_of (scrolling k v) _ = inr (λ j. tree-each (λ i. same_key i k) (with_scroll v) (λ e. record { blend = refl; context = refl; opacity = refl }) j all)
 
   -- The tree after a change.
   after_apart : (c : Change) → CanChange c old → IsApart same_key (after c old).boxes
@@ -369,6 +474,7 @@ module _ (old : Document) (apart : IsApart same_key old.boxes) (rooted : IsRoote
   after_apart (styling k c) there = apart_each (λ j. same_key j k) (restyle c) same_key all apart
   after_apart (placing k r) there = apart_each (λ j. same_key j k) (with_rect r) same_key all apart
   after_apart (shifting k dx dy) _ = apart_each (λ j. in_subtree same_key j k all) (shift_item dx dy) same_key all apart
+  after_apart (scrolling k v) _ = apart_each (λ j. same_key j k) (with_scroll v) same_key all apart
 
   after_tree : (c : Change) → CanChange c old → IsTreeOf old.root (after c old).boxes
   after_tree (insertion p before k d) can = tree_under p (insert_among same_key before (tree k d empty empty) (children same_key p all)) old.root all rooted
@@ -379,6 +485,7 @@ module _ (old : Document) (apart : IsApart same_key old.boxes) (rooted : IsRoote
   after_tree (styling k c) there = tree_each (λ j. same_key j k) (restyle c) old.root all rooted
   after_tree (placing k r) there = tree_each (λ j. same_key j k) (with_rect r) old.root all rooted
   after_tree (shifting k dx dy) _ = tree_each (λ j. in_subtree same_key j k all) (shift_item dx dy) old.root all rooted
+  after_tree (scrolling k v) _ = tree_each (λ j. same_key j k) (with_scroll v) old.root all rooted
 
 after_root : (c : Change) (t : Document) → (after c t).root ≡ t.root
 after_root (insertion p before k d) t = refl
@@ -387,6 +494,7 @@ after_root (moving k p before) t = refl
 after_root (styling k c) t = refl
 after_root (placing k r) t = refl
 after_root (shifting k dx dy) t = refl
+after_root (scrolling k v) t = refl
 
 pub after_canvas : (c : Change) (t : Document) → (after c t).canvas ≡ t.canvas
 after_canvas (insertion p before k d) t = refl
@@ -395,6 +503,7 @@ after_canvas (moving k p before) t = refl
 after_canvas (styling k c) t = refl
 after_canvas (placing k r) t = refl
 after_canvas (shifting k dx dy) t = refl
+after_canvas (scrolling k v) t = refl
 
 -- A box that is not touched stays grouped, or not grouped.
 tree_stays : (c : Change) (t : Document) → IsApart same_key t.boxes → IsRooted t → CanChange c t → (j : BoxKey) → touched_by c t j ≡ false → grouped_tree (after c t).boxes j ≡ grouped_tree t.boxes j
@@ -429,17 +538,18 @@ untouched c t a r can =
     let reached : BoxKey → Bool = reached_by c t in
     let more : (k : BoxKey) → reached k ≡ true → gone k ≡ true = λ k u. from_left (reached k) (regrouped_by c t k) u in
     let row = row_of was t a r c can in
-    let same_canvas : root_order (given is) (canvas_of new.canvas) f ≡ root_order (given is) canvas f = ap (λ n. root_order (given is) (canvas_of n) f) (after_canvas c t) in
-    let turned : without_touched gone (root_order (given was) canvas f) ≡ without_touched gone (root_order (given is) canvas f) =
+    let shows : BoxForest = drawn_below [] f in
+    let same_canvas : root_order (given is) (canvas_of new.canvas) shows ≡ root_order (given is) canvas shows = ap (λ n. root_order (given is) (canvas_of n) shows) (after_canvas c t) in
+    let turned : without_touched gone (root_order (given was) canvas shows) ≡ without_touched gone (root_order (given is) canvas shows) =
     elim (whole_of t a r c can) [
-      | inl closed ↦ regrouped canvas was is gone t.root f tree_of closed (λ j h. sym (grouped_stays c t a r can j h))
-      | inr alike ↦ ap (λ g. without_touched gone (root_order (given g) canvas f))
+      | inl closed ↦ regrouped canvas was is gone t.root shows (tree_drawn t.root f tree_of) (closed_drawn gone [] f closed) (λ j h. sym (grouped_stays c t a r can j h))
+      | inr alike ↦ ap (λ g. without_touched gone (root_order (given g) canvas shows))
           (λ i j. (grouped-found t.root t.boxes r j ∙ (sym (alike j) ∙ sym (grouped-found t.root f tree_of j))) i)
     ] in
     ap (without_touched gone) (given_list t a r)
-    ∙ (sym (without_more reached gone more (root_order (given was) canvas t.boxes))
+    ∙ (sym (without_more reached gone more (root_order (given was) canvas (drawn_below [] t.boxes)))
     ∙ (ap (without_touched gone) row.same
-    ∙ (without_more reached gone more (root_order (given was) canvas f)
+    ∙ (without_more reached gone more (root_order (given was) canvas shows)
     ∙ (turned
     ∙ ap (without_touched gone) (sym (given_list new (after_apart t a r c can) rooted ∙ same_canvas))))))
 

@@ -10,13 +10,14 @@ use Rattle.rd_list.specs.Wrappers.{Wrapper}
 use Rattle.rd_list.specs.Entries.{Entries, nil}
 use Rattle.rd_tree.specs.Forest.{empty, tree}
 use Rattle.rd_tree.specs.declared.node.Item.{Item}
-use Rattle.rd_tree.specs.Document.{BoxForest, Document, at}
+use Rattle.rd_tree.specs.Document.{BoxForest, Document}
+use Rattle.rd_tree.specs.Drawn.{drawn}
 use Rattle.rd_stack.specs.Paths.{BoxData, BoxPath, is_blended_layer, is_grouped}
 use Rattle.rd_stack.specs.Painting.{Painted, has_blended_layer, steps, entry_of}
 
--- a box of a tree, for painting
+-- a box of a drawn tree, for painting
 abbrev pub box_data : BoxKey → Item → BoxData
-box_data k d = record { key = k; rect = at d; style = d.style }
+box_data k d = record { key = k; rect = d.rect; style = d.style }
 
 -- a box where it stands, with the boxes below it
 pub record Subtree : Type 0 where
@@ -68,9 +69,13 @@ module _ (groups : Grouping) (canvas : Rectangle) where
   root_order (tree k d children next) =
       entry_of (painted_at (record { above = []; here = box_data k d }) (painted (box_data k d ∷ []) children))
 
--- CSS 2.2 Appendix E: what a tree of boxes paints, from bottom to top
+-- CSS 2.2 Appendix E: what a tree paints whose boxes stand where they are drawn, from bottom to top
+abbrev pub drawn_list : Document → Entries Wrapper Leaf
+drawn_list t = root_order grouping (canvas_of t.canvas) t.boxes
+
+-- CSS 2.2 Appendix E: what a tree of boxes paints, each where it is drawn
 abbrev pub fresh_list : Document → Entries Wrapper Leaf
-fresh_list t = root_order grouping (canvas_of t.canvas) t.boxes
+fresh_list t = drawn_list (drawn t)
 
 -- CSS Compositing 1 section 3.2: is a box grouped, by its descendants?
 abbrev pub is_grouped_at : Subtree → Bool
@@ -84,6 +89,6 @@ grouped_in f k = list_any (λ s. same_key k s.at.here.key && is_grouped_at s) (p
 abbrev pub given : (BoxKey → Bool) → Grouping
 given g e below = g e.here.key
 
--- what a tree of boxes paints where it is given which boxes are grouped
+-- what a tree paints whose boxes stand where they are drawn, where it is given which boxes are grouped
 abbrev pub list_given : (BoxKey → Bool) → Document → Entries Wrapper Leaf
 list_given g t = root_order (given g) (canvas_of t.canvas) t.boxes

@@ -10,6 +10,7 @@ use Rattle.rd_style.specs.declared.kinds.Class.TheVariants.{Layer, Float, Block}
 use Rattle.rd_style.specs.Classes.{is_normal, is_isolate, positioned, floats, in_flow_class, is_fixed, class, level}
 use Rattle.rd_tree.specs.Forest.{AllItems}
 use Rattle.rd_tree.specs.Document.{Document}
+use Rattle.rd_tree.specs.Drawn.{drawn}
 use Rattle.rd_stack.specs.Paths.{is_context}
 use Rattle.rd_stack.specs.Fresh.{Grouping, root_order, fresh_list}
 
@@ -50,7 +51,7 @@ translucent e below = is_context e && nat_lt e.here.style.opacity 255
 pub record IsPaintedPlainly (t : Document) : Type 0 where
   pub classes : AllItems (λ d. (root : Bool) → class d.style root ≡ plain_class d.style root) t.boxes
   pub levels : AllItems (λ d. (root : Bool) → level d.style root ≡ plain_level d.style root) t.boxes
-  pub order : fresh_list t ≡ root_order translucent (canvas_of t.canvas) t.boxes
+  pub order : fresh_list t ≡ root_order translucent (canvas_of t.canvas) (drawn t).boxes
   pub modes : AreNormal (fresh_list t)
   pub pixels : (x y : ℤ) → pixel (fresh_list t) x y ≡ layered x y white (fresh_list t)
 

@@ -8,6 +8,7 @@ use Rattle.rd_list.specs.Entries.{only}
 use Rattle.rd_list.specs.Lists.{meeting}
 use Rattle.rd_tree.specs.Forest.{empty, tree, IsApart}
 use Rattle.rd_tree.specs.Document.{Document, BoxForest, IsRooted}
+use Rattle.rd_tree.specs.Drawn.{drawn}
 use Rattle.rd_tree.specs.Hulls.{extent, hull_in}
 use Rattle.rd_stack.specs.Fresh.{fresh_list, grouped_in, list_given}
 
@@ -32,8 +33,8 @@ FilteringLaw =
     (g : BoxKey → Bool) (t : Document) → IsApart same_key t.boxes → IsRooted t → (meets : Rectangle → Bool) → Grows meets
     → only (λ l. meets l.visible) (list_given g t) ≡ only (λ l. meets l.visible) (list_given g (record t { boxes = reached_tree meets t.boxes }))
 
--- the same of an area and the whole list of a tree, where boxes stay grouped as they are in the tree
+-- the same of an area and the whole list of a tree, by where its boxes are drawn; boxes stay grouped as they are in the tree
 abbrev pub MeetingLaw : Type 0
 MeetingLaw =
     (t : Document) → IsApart same_key t.boxes → IsRooted t → (area : Region)
-    → meeting area (fresh_list t) ≡ meeting area (list_given (grouped_in t.boxes) (record t { boxes = reached_tree (meets_area area) t.boxes }))
+    → meeting area (fresh_list t) ≡ meeting area (list_given (grouped_in t.boxes) (record t { boxes = reached_tree (meets_area area) (drawn t).boxes }))

@@ -1,6 +1,8 @@
 //! The fresh list of a tree, by looks at its boxes.
 ghost use Rattle.std.specs.Prelude.{◌≡◌, ◌≤◌, ◌+◌, IfOk, MatchOption, ◌∷◌, ◌++◌};
+ghost use Rattle.rd_tree.specs.Document.{IsRooted};
 ghost use Rattle.rd_tree.specs.Forest.{size};
+ghost use Rattle.rd_tree.specs.Drawn.{drawn};
 ghost use Rattle.rd_stack.specs.Fresh as spec;
 ghost use Rattle.rd_stack.specs.Internal.Looks.{IsGone, IsVisited, IsFirst, size_from, painted_over, painted_from, with_those_below};
 
@@ -33,12 +35,12 @@ struct Visit {
 }
 
 fn look_at<B: Ledger>(tree: &Tree<B>, key: BoxKey, looks: &mut Steps<B>) -> Option<Visit>
-    ensures seen { MatchOption result (IsGone key tree.now) (λ s. IsVisited key tree.now s) }
+    ensures seen { MatchOption result (IsGone key (drawn tree.now)) (λ s. IsVisited key (drawn tree.now) s) }
     ensures looks { looks.new ≡ looks.old + 1 }
 {
     match tree.look(key, looks) {
         Some(view) => Some(Visit {
-            here: BoxData::new(view.key, &view.rect, view.style),
+            here: BoxData::new(view.key, &view.at, view.style),
             first_child: view.first_child,
             next_sibling: view.next_sibling,
         }),
@@ -76,9 +78,9 @@ fn paint_one<B: Ledger>(
     first_child: Option<BoxKey>,
     looks: &mut Steps<B>,
 ) -> Result<Vec<Painted>, NoMemory>
-    requires { IsFirst first_child tree.now }
-    ensures painted { IfOk result (λ v. v.items ≡ with_those_below canvas.now above.now here.now first_child tree.now) }
-    ensures looks { looks.new ≤ looks.old + size_from first_child tree.now }
+    requires { IsFirst first_child (drawn tree.now) }
+    ensures painted { IfOk result (λ v. v.items ≡ with_those_below canvas.now above.now here.now first_child (drawn tree.now)) }
+    ensures looks { looks.new ≤ looks.old + size_from first_child (drawn tree.now) }
 {
     let path = under(alloc, here, above)?;
     let mut below = paint_all(alloc, tree, canvas, &path, first_child, looks)?;
@@ -99,9 +101,9 @@ fn paint_all<B: Ledger>(
     first: Option<BoxKey>,
     looks: &mut Steps<B>,
 ) -> Result<Vec<Painted>, NoMemory>
-    requires { IsFirst first tree.now }
-    ensures painted { IfOk result (λ v. v.items ≡ painted_from canvas.now above.now first tree.now) }
-    ensures looks { looks.new ≤ looks.old + size_from first tree.now }
+    requires { IsFirst first (drawn tree.now) }
+    ensures painted { IfOk result (λ v. v.items ≡ painted_from canvas.now above.now first (drawn tree.now)) }
+    ensures looks { looks.new ≤ looks.old + size_from first (drawn tree.now) }
 {
     let mut all = Vec::new(alloc);
     let mut next = first;
@@ -121,6 +123,15 @@ fn paint_all<B: Ledger>(
     Ok(all)
 }
 
+/// The root of a tree, and what holds of the tree as it is drawn.
+fn root_of<B: Ledger>(tree: &Tree<B>) -> BoxKey
+    ensures root { result ≡ tree.now.root }
+    ensures rooted { IsRooted (drawn tree.now) }
+    ensures boxes { size (drawn tree.now).boxes ≡ size tree.now.boxes }
+{
+    tree.root()
+}
+
 /// What a tree of boxes paints, from bottom to top (CSS 2.2 Appendix E). Each box is looked at at most once.
 pub fn fresh_list<B: Ledger>(
     alloc: Global,
@@ -131,7 +142,7 @@ pub fn fresh_list<B: Ledger>(
     ensures looks { looks.new ≤ looks.old + size tree.now.boxes }
 {
     let canvas = tree.canvas().rect();
-    let painted = paint_all(alloc, tree, &canvas, &[], Some(tree.root()), looks)?;
+    let painted = paint_all(alloc, tree, &canvas, &[], Some(root_of(tree)), looks)?;
     let mut out = PlainList::new(alloc);
     if let Some(root) = painted.first() {
         entry_of(alloc, &mut out, root)?;

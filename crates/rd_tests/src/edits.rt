@@ -123,6 +123,15 @@ fn shifting(rt: &impl Abort, alloc: Global, id: &str, dx: i32) -> Edit {
     }
 }
 
+/// What a box clips is scrolled.
+fn scrolling(rt: &impl Abort, alloc: Global, id: &str, x: i32, y: i32) -> Edit {
+    Edit::Scroll {
+        id: id_of(rt, alloc, id),
+        x,
+        y,
+    }
+}
+
 /// An edit is refused with this number, or done where it is 0.
 fn gives<B: Ledger>(rt: &impl Abort, tree: &mut Tree<B>, edit: Edit, want: u8, id: &str) {
     let given = number(tree, &edit);
@@ -288,6 +297,35 @@ fn boxes_changed(rt: HostRuntime) {
     ];
     for change in &rows {
         changes(&rt, alloc, &mut tree, change);
+    }
+}
+
+/// A box, its scroll offset, and the number of the refusal.
+type Scrolled = (&'static str, i32, i32, u8);
+
+/// A scroll offset gives this number.
+fn scrolls<B: Ledger>(rt: &impl Abort, alloc: Global, tree: &mut Tree<B>, scrolled: &Scrolled) {
+    let (id, x, y, want) = scrolled;
+    let edit = scrolling(rt, alloc, id, *x, *y);
+    gives(rt, tree, edit, *want, id);
+}
+
+#[test]
+fn boxes_scrolled(rt: HostRuntime) {
+    let alloc = rt.alloc();
+    let mut tree = planted::<Brand>(&rt, alloc);
+    let near = near(&rt);
+    inserts(&rt, alloc, &mut tree, &("C", "root", None, 0), near);
+    let rows: [Scrolled; 6] = [
+        ("Z", 1_000_001, 0, 1),
+        ("C", 1_000_001, 0, 9),
+        ("C", 0, -1_000_001, 9),
+        ("C", -1_000_000, 1_000_000, 0),
+        ("root", 3, -3, 0),
+        ("C", 0, 0, 0),
+    ];
+    for scrolled in &rows {
+        scrolls(&rt, alloc, &mut tree, scrolled);
     }
 }
 

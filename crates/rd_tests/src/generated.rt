@@ -108,6 +108,12 @@ fn say_shift(rt: &impl Abort, out: &mut String, id: &Id, dx: i32, dy: i32) {
     say_pair(rt, out, "", dx, dy);
 }
 
+/// A scroll offset in words.
+fn say_scroll(rt: &impl Abort, out: &mut String, id: &Id, x: i32, y: i32) {
+    say_id(rt, out, "scroll", id);
+    say_pair(rt, out, "", x, y);
+}
+
 /// An edit in words.
 fn say_edit(rt: &impl Abort, out: &mut String, edit: &Edit) {
     match edit {
@@ -123,6 +129,7 @@ fn say_edit(rt: &impl Abort, out: &mut String, edit: &Edit) {
         Edit::SetStyle { id, change } => say_restyling(rt, out, id, change),
         Edit::SetRect { id, rect } => say_placement(rt, out, id, *rect),
         Edit::Shift { id, dx, dy } => say_shift(rt, out, id, *dx, *dy),
+        Edit::Scroll { id, x, y } => say_scroll(rt, out, id, *x, *y),
     }
 }
 

@@ -48,11 +48,17 @@ fn script(rt: &impl Abort, alloc: Global, boxes: &str, commands: &str) -> String
     joined(rt, alloc, &[head, boxes, r#"],"script":["#, commands, "]}"])
 }
 
+/// A script of version 2 of the root and this command.
+fn in_version_two(rt: &impl Abort, alloc: Global, command: &str) -> String {
+    let head = r#"{"version":2,"canvas":{"w":10,"h":10},"boxes":["#;
+    joined(rt, alloc, &[head, ROOT, r#"],"script":["#, command, "]}"])
+}
+
 /// A script of version 2: the root, and a change of style.
 fn restyled(rt: &impl Abort, alloc: Global, style: &str) -> String {
-    let head = r#"{"version":2,"canvas":{"w":10,"h":10},"boxes":["#;
-    let middle = r#"],"script":[{"do":"style","id":"a","style":"#;
-    joined(rt, alloc, &[head, ROOT, middle, style, "}]}"])
+    let head = r#"{"do":"style","id":"a","style":"#;
+    let command = joined(rt, alloc, &[head, style, "}"]);
+    in_version_two(rt, alloc, command.as_str())
 }
 
 const ROOT: &str = r#"{"id":"root","parent":null,"rect":[0,0,10,10]}"#;
@@ -337,6 +343,7 @@ fn commands_off_form(rt: HostRuntime) {
         (r#"{"id":"a"}"#, Why::Missing),
         (r#"{"do":7}"#, Why::Kind),
         (r#"{"do":"draw","x":1}"#, Why::Command),
+        (r#"{"do":"scroll","id":"a","x":0,"y":0}"#, Why::Command),
         (r#"{"do":"paint","x":1}"#, Why::Unknown),
         (r#"{"do":"shot","id":"a"}"#, Why::Unknown),
         (r#"{"do":"hit","x":0}"#, Why::Missing),
@@ -398,7 +405,8 @@ fn name(command: &Command) -> &'static str {
         Command::Change(Edit::SetStyle { .. }) => "style",
         Command::Change(Edit::SetRect { .. }) => "rect",
         Command::Change(Edit::Shift { dx: 3, dy: -2, .. }) => "shift",
-        Command::Change(_) => "another shift",
+        Command::Change(Edit::Scroll { x: 3, y: -2, .. }) => "scroll",
+        Command::Change(_) => "another shift or scroll",
         Command::Paint => "paint",
         Command::Hit { x: 1, y: -1 } => "hit",
         Command::Pixel { x: 1, y: -1 } => "pixel",
@@ -450,6 +458,34 @@ fn every_command(rt: HostRuntime) {
         (r#"{"do":"shot"}"#, "shot"),
     ] {
         is_named(&rt, alloc, command, want);
+    }
+}
+
+/// What a command gives in version 2.
+fn gives_in_version_two(rt: &impl Abort, alloc: Global, command: &str, want: Outcome) {
+    let text = in_version_two(rt, alloc, command);
+    is_given(rt, alloc, text.as_str(), want);
+}
+
+#[test]
+fn the_command_of_version_two(rt: HostRuntime) {
+    let alloc = rt.alloc();
+    let text = in_version_two(&rt, alloc, r#"{"do":"scroll","id":"a","x":3,"y":-2}"#);
+    let script = read_of(&rt, alloc, text.as_str());
+    assert_eq!(rt; script.commands.len(), 1);
+    assert_eq!(rt; name(&script.commands[0]), "scroll");
+    for (command, why) in [
+        (r#"{"do":"scroll","id":"a","x":0,"dy":0}"#, Why::Unknown),
+        (r#"{"do":"scroll","id":"","x":0}"#, Why::Range),
+        (r#"{"do":"scroll","id":"a","x":2000001}"#, Why::Range),
+        (
+            r#"{"do":"scroll","id":"a","x":2000000,"y":null}"#,
+            Why::Kind,
+        ),
+        (r#"{"do":"scroll","id":"a","y":0}"#, Why::Missing),
+        (r#"{"do":"Scroll","id":"a","x":0,"y":0}"#, Why::Command),
+    ] {
+        gives_in_version_two(&rt, alloc, command, Outcome::Form(Place::Command(0), why));
     }
 }
 

@@ -1,12 +1,11 @@
 -- Leaves that hide all below them in a tile.
-use Rattle.std.proofs.Common.{◌≡◌, ℕ, zero, suc, ℤ, pos, ◌+◌, ◌<◌, ◌≤◌, ◌+ℤ◌, ◌≤ℤ◌, ◌<ℤ◌, Bool, true, false, not, ◌&&◌, IsTrue, List, [], ◌∷◌, length, get_or, drop, Option, Some, None, refl, sym, ap, ◌∙◌, subst, inl, inr, ◌⊎◌, arith}
+use Rattle.std.proofs.Common.{◌≡◌, ℕ, zero, suc, ℤ, ◌+◌, ◌<◌, ◌≤◌, ◌+ℤ◌, ◌≤ℤ◌, ◌<ℤ◌, Bool, true, false, not, ◌&&◌, IsTrue, List, [], ◌∷◌, length, get_or, Some, None, refl, sym, ap, ◌∙◌, subst, inl, inr, ◌⊎◌, arith}
 use Rattle.std.specs.Prelude.{int_le}
 use Rattle.std.proofs.lemmas.Int.{ints}
 use Rattle.rd_geom.specs.Colors.{Premultiplied, premultiplied, white}
 use Rattle.rd_geom.specs.Plane.{Rectangle, IsWithin, SharesPixel, has_none, holds_pixel, meets, right, bottom}
-use Rattle.rd_geom.proofs.Pixels.{At, HasSome, at_holds, holds_at, some_of, first_at, last_at, edges_within, right_of, meets_shares, shares_meets}
+use Rattle.rd_geom.proofs.Pixels.{At, HasSome, at_holds, holds_at, some_of, first_at, last_at, right_of, meets_shares, shares_meets}
 use Rattle.rd_item.specs.declared.leaf.Leaf as item
-use Rattle.rd_item.specs.Items.{Made}
 use Rattle.rd_item.specs.Leaves.{covers}
 use Rattle.rd_list.specs.Displayed.{shown}
 use Rattle.rd_list.specs.declared.kept.Entry.{Entry}

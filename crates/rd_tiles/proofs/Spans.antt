@@ -1,5 +1,5 @@
 -- Spans of a row that are painted, and rows of a tile that are copied.
-use Rattle.std.proofs.Common.{◌≡◌, ℕ, ℤ, pos, ◌+◌, ◌-◌, ◌*◌, ◌<◌, ◌≤◌, ◌+ℤ◌, ◌≤ℤ◌, ◌<ℤ◌, Bool, ◌&&◌, nat_eq, nat_le, nat_lt, IsTrue, List, [], ◌∷◌, length, get_or, take, drop, refl, sym, ap, ◌∙◌, subst, FitsSigned, to_z, of_z, w32, arith}
+use Rattle.std.proofs.Common.{◌≡◌, ℕ, ℤ, pos, ◌+◌, ◌-◌, ◌*◌, ◌<◌, ◌≤◌, ◌+ℤ◌, ◌≤ℤ◌, ◌<ℤ◌, ◌&&◌, nat_eq, nat_le, nat_lt, IsTrue, List, [], ◌∷◌, length, get_or, take, drop, sym, ap, ◌∙◌, subst, FitsSigned, to_z, of_z, w32, arith}
 use Rattle.std.specs.Prelude.{unsigned_abs, ◌-ℤ◌}
 use Rattle.std.specs.Int.{int_max, int_min}
 use Rattle.std.proofs.lemmas.Int.{ints, clamps}

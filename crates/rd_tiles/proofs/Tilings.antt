@@ -1,14 +1,13 @@
 -- The pixels and stamps of a canvas that is kept as tiles.
-use Rattle.std.proofs.Common.{◌≡◌, ℕ, zero, suc, ℤ, pos, negsuc, ◌+◌, ◌-◌, ◌*◌, ◌/◌, ◌%◌, ◌<◌, ◌≤◌, ◌+ℤ◌, ◌≤ℤ◌, ◌<ℤ◌, Bool, true, false, ◌&&◌, cond, nat_lt, IsTrue, List, [], length, get_or, Option, Some, None, refl, sym, ap, ◌∙◌, subst, inl, inr, ◌⊎◌, arith, add-one}
+use Rattle.std.proofs.Common.{◌≡◌, ℕ, zero, suc, ℤ, pos, negsuc, ◌+◌, ◌-◌, ◌*◌, ◌/◌, ◌%◌, ◌<◌, ◌≤◌, ◌+ℤ◌, ◌≤ℤ◌, ◌<ℤ◌, Bool, true, false, ◌&&◌, cond, IsTrue, List, [], length, get_or, Some, None, refl, sym, ap, ◌∙◌, subst, inl, inr, ◌⊎◌, arith, add-one}
 use Rattle.std.proofs.Math.ListN.{set}
 use Rattle.std.specs.Prelude.{unsigned_abs, slice_get, option_map}
-use Rattle.std.proofs.lemmas.Bool.{cases_lt, lt-ltb, le-ltb}
+use Rattle.std.proofs.lemmas.Bool.{cases_lt}
 use Rattle.std.proofs.lemmas.Int.{ints}
 use Rattle.std.proofs.lemmas.List.{get_or_default, get_or-set_other, get_or-set_same}
 use Rattle.std.proofs.lemmas.Option.{slice_get-get_or}
 use Rattle.rd_geom.specs.Areas.{Region, in_area, meets_area}
-use Rattle.rd_geom.specs.Canvas.{IsCanvas, canvas_of}
-use Rattle.rd_geom.specs.Colors.{Premultiplied, clear}
+use Rattle.rd_geom.specs.Canvas.{canvas_of}
 use Rattle.rd_geom.specs.Plane.{Rectangle, holds_pixel}
 use Rattle.rd_geom.specs.declared.rect.Size.{Size}
 use Rattle.rd_geom.proofs.Pixels.{At, holds_at}
@@ -16,11 +15,11 @@ use Rattle.rd_item.specs.declared.leaf.Leaf.{Leaf}
 use Rattle.rd_list.specs.Wrappers.{Wrapper}
 use Rattle.rd_list.specs.Entries.{Entries}
 use Rattle.rd_list.specs.Lists.{pixel}
-use Rattle.rd_paint.specs.Pictures.{Picture, pixel_at}
-use Rattle.rd_tiles.specs.Internal.Changing.{AreTiles, Fits, IsChanged, IsTileAt, IsTileRepainted, IsTiled, place_at}
+use Rattle.rd_paint.specs.Pictures.{pixel_at}
+use Rattle.rd_tiles.specs.Internal.Changing.{AreTiles, IsTileAt, IsTileRepainted, IsTiled, place_at}
 use Rattle.rd_tiles.specs.Tiling.{Tiling, IsRetiled, columns_of, is_tile, met_among, pixel_in, rows_of, side_of, stamp_of, tile_at, tile_of, tile_pixel}
 use Rattle.rd_tiles.specs.declared.tile.Tile.{Tile}
-use Rattle.rd_tiles.proofs.Placing.{IsPlace, in_side, is_there, number_below, past_along, place_number, split_at, tile_along, tile_is}
+use Rattle.rd_tiles.proofs.Placing.{IsPlace, in_side, is_there, number_below, place_number, split_at, tile_along, tile_is}
 
 -- any tile
 abbrev pub no_tile : Tile

@@ -1,6 +1,6 @@
 -- Tiles that were never painted.
 use Rattle.std.proofs.Common.{◌≡◌, ℕ, ℤ, pos, negsuc, ◌+◌, ◌*◌, ◌/◌, ◌%◌, ◌<◌, IsTrue, List, [], ◌∷◌, ◌++◌, length, get_or, Some, refl, sym, ap, subst, ◌∙◌, inl, inr, arith, length-append}
-use Rattle.std.specs.Prelude.{option_map, replicate, unsigned_abs}
+use Rattle.std.specs.Prelude.{option_map, unsigned_abs}
 use Rattle.std.proofs.lemmas.Bool.{cases_lt}
 use Rattle.std.proofs.lemmas.Int.{ints}
 use Rattle.std.proofs.lemmas.List.{get_or-replicate, get_or_append_left, get_or_at}
@@ -12,7 +12,7 @@ use Rattle.rd_geom.proofs.Pixels.{At, holds_at}
 use Rattle.rd_paint.proofs.Written.{on_canvas}
 use Rattle.rd_tiles.specs.Internal.Blank.{AreBlank, AreFirstBlank, IsBlank}
 use Rattle.rd_tiles.specs.Internal.Changing.{IsTiled, place_at}
-use Rattle.rd_tiles.specs.Tiling.{Tiling, columns_of, is_tile, pixel_in, rows_of, stamp_of}
+use Rattle.rd_tiles.specs.Tiling.{Tiling, columns_of, is_tile, pixel_in, stamp_of}
 use Rattle.rd_tiles.specs.declared.tile.Tile.{Tile}
 use Rattle.rd_tiles.proofs.Copies.{pixel_some}
 use Rattle.rd_tiles.proofs.Placing.{number_below, tile_is}

@@ -4,3 +4,4 @@ pub mod Climbs
 pub mod Blends
 pub mod Marks
 pub mod Regroups
+pub mod Alike

@@ -7,3 +7,5 @@ pub mod EachBranch
 pub mod Heights
 pub mod Subtrees
 pub mod Parent
+pub mod ByKey
+pub mod All

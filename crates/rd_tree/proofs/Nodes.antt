@@ -20,3 +20,4 @@ pub mod Removing
 pub mod Putting
 pub mod Telling
 pub mod Shifts
+pub mod ByKey

@@ -1,6 +1,6 @@
--- The six changes of a tree, and when each keeps to the limits. All of it is this project's own choice. Which boxes a
+-- The seven changes of a tree, and when each keeps to the limits. All of it is this project's own choice. Which boxes a
 -- change touches stands in Touching.
-use Rattle.std.specs.Prelude.{ℕ, ℤ, ◌+ℤ◌, Bool, true, false, ◌&&◌, List, Option, IsTrue, IfSome}
+use Rattle.std.specs.Prelude.{ℕ, ℤ, pos, ◌+ℤ◌, Bool, true, false, ◌&&◌, List, Option, IsTrue, IfSome}
 use Rattle.std.specs.Option.{option_map_or}
 use Rattle.rd_geom.specs.Plane.{Rectangle}
 use Rattle.rd_style.specs.declared.styles.Style.{Style}
@@ -9,10 +9,11 @@ use Rattle.rd_style.specs.Changes.{changed}
 use Rattle.rd_style.specs.Limits.{fits_rect, Fits}
 use Rattle.rd_keys.specs.Keys.{same_key}
 use Rattle.rd_tree.specs.Forest.{empty, tree, keys, item_of, children, with_children, insert_among, without_branch, branch, at_box, at_subtree}
+use Rattle.rd_tree.specs.declared.scroll.Scroll.{Scroll}
 use Rattle.rd_tree.specs.Document.{Document, BoxKey, Item, BoxForest, with_child, with_taken, with_all_left}
 
 -- A new box below another, before one of its children or last; a box taken away with all that is below it, or put with it
--- at such a place; another style or rectangle of a box; a box and all below it shifted right and down.
+-- at such a place; another style or rectangle of a box; a box and all below it shifted right and down; another scroll offset of a box.
 pub data Change : Type 0 where
   insertion : BoxKey → Option BoxKey → BoxKey → Item → Change
   removal : BoxKey → Change
@@ -20,10 +21,15 @@ pub data Change : Type 0 where
   styling : BoxKey → StyleChange → Change
   placing : BoxKey → Rectangle → Change
   shifting : BoxKey → ℤ → ℤ → Change
+  scrolling : BoxKey → Scroll → Change
 
--- what a tree holds of a new box
+-- no scroll offset
+abbrev pub unscrolled : Scroll
+unscrolled = record { x = pos 0; y = pos 0 }
+
+-- what a tree holds of a new box, which is not scrolled
 abbrev pub new_item : List ℕ → Rectangle → Style → Item
-new_item id rect style = record { id = id; rect = rect; style = style; touched = false }
+new_item id rect style = record { id = id; rect = rect; style = style; scroll = unscrolled; touched = false }
 
 -- a box with the members of its style changed that a change names
 abbrev pub restyle : StyleChange → Item → Item
@@ -32,6 +38,10 @@ restyle c d = record d { style = changed d.style c }
 -- a box with another rectangle
 abbrev pub with_rect : Rectangle → Item → Item
 with_rect r d = record d { rect = r }
+
+-- a box with another scroll offset
+abbrev pub with_scroll : Scroll → Item → Item
+with_scroll s d = record d { scroll = s }
 
 -- a rectangle moved right and down
 abbrev pub shifted : ℤ → ℤ → Rectangle → Rectangle
@@ -66,6 +76,7 @@ after (moving k p before) t = record t { boxes = put_elsewhere k p before t.boxe
 after (styling k c) t = record t { boxes = at_box same_key k (restyle c) t.boxes }
 after (placing k r) t = record t { boxes = at_box same_key k (with_rect r) t.boxes }
 after (shifting k dx dy) t = record t { boxes = at_subtree same_key k (shift_item dx dy) t.boxes }
+after (scrolling k s) t = record t { boxes = at_box same_key k (with_scroll s) t.boxes }
 
 -- The box stays within the limits under this change of style.
 abbrev pub CanRestyle : BoxKey → StyleChange → BoxForest → Type 0

@@ -3,7 +3,7 @@ use Rattle.std.specs.Prelude.{ℕ, ◌+◌, Bool, false, ◌||◌, if◌then◌e
 use Rattle.rd_geom.specs.Plane.{Rectangle, no_pixels, hull_of, outset}
 use Rattle.rd_style.specs.declared.styles.Style.{Style}
 use Rattle.rd_tree.specs.Forest.{Forest, empty, tree}
-use Rattle.rd_tree.specs.Document.{Item, BoxForest, at}
+use Rattle.rd_tree.specs.Document.{Item, BoxForest}
 
 -- how many siblings there are, those below them not counted
 abbrev pub breadth : {K D : Type 0} → Forest K D → ℕ
@@ -27,7 +27,7 @@ outlined r s = outset r s.outline_width
 
 -- the same of an item
 abbrev pub extent : Item → Rectangle
-extent d = outlined (at d) d.style
+extent d = outlined d.rect d.style
 
 -- the least rectangle with the border boxes of all, each with its outline, those of hidden boxes too
 abbrev pub hull_in : BoxForest → Rectangle

@@ -14,3 +14,7 @@ pub mod Renews
 pub mod Gathers
 pub mod Frees
 pub mod Settles
+pub mod Handing
+pub mod Hands
+pub mod Redraws
+pub mod Laid

@@ -5,6 +5,7 @@ ghost use Rattle.std.specs.Option.{option_map_or};
 ghost use Rattle.rd_keys.specs.Arena.{empty_arena, live, occupied, retired, value, without_value, Enters};
 ghost use Rattle.rd_keys.specs.Keys.{BoxKey as Box, same_key};
 ghost use Rattle.rd_keys.specs.Ranges.{IsAmong};
+ghost use Rattle.rd_style.specs.Classes as classes;
 ghost use Rattle.rd_tree.specs.Changes as changes;
 ghost use Rattle.rd_tree.specs.Internal.Glances.{glance_of};
 ghost use Rattle.rd_tree.specs.Internal.Linked.{linked, Relinks};
@@ -18,9 +19,10 @@ use crate::glances::Glances;
 use crate::links::walk::{Work, do_work};
 use crate::node::Node;
 use crate::reach::{Reach, rect_reach, style_reach};
+use crate::scroll::Scroll;
 use rd_geom::{NoMemory, Rect};
 use rd_keys::{Arena, BoxKey, BoxMark, KeyRange, Refused};
-use rd_style::{StyleChange, changed};
+use rd_style::{StyleChange, changed, clips};
 use std::alloc::Global;
 use std::marker::Model;
 
@@ -301,6 +303,24 @@ impl Nodes {
                 rect_reach(&node.item.style, is_root)
             }
             None => Reach::Nothing,
+        }
+    }
+
+    /// Gives a box another scroll offset. Does the box clip?
+    pub(crate) fn put_scroll(&mut self, key: BoxKey, is_root: bool, scroll: Scroll) -> bool
+        ensures put { Relinks self.old self.new (edit same_key key (with_item (changes.with_scroll
+            scroll)) (linked self.old)) }
+        ensures clips { result ≡ option_map_or (λ d. classes.clips d.style is_root) (item_under
+            (linked self.old key)) false }
+    {
+        match self.held.get_mut(key) {
+            Some(node) => {
+                node.item.scroll = scroll;
+                let glance = glance_at(key.generation(), node);
+                self.glances.write(key.slot(), glance);
+                clips(&node.item.style, is_root)
+            }
+            None => false,
         }
     }
 }

@@ -4,6 +4,7 @@ ghost use Rattle.rd_tree.specs.Changes.{new_item};
 ghost use Rattle.rd_tree.specs.Touching.{touch};
 
 use crate::id::Id;
+use crate::scroll::Scroll;
 use rd_geom::Rect;
 use rd_keys::BoxKey;
 use rd_style::Style;
@@ -14,6 +15,7 @@ pub struct Item {
     pub id: Id,
     pub rect: Rect,
     pub style: Style,
+    pub scroll: Scroll,
     pub touched: bool,
 }
 
@@ -26,6 +28,7 @@ impl Item {
             id,
             rect,
             style,
+            scroll: Scroll { x: 0, y: 0 },
             touched: true,
         }
     }

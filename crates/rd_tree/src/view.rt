@@ -12,6 +12,7 @@ ghost use Rattle.rd_tree.specs.Internal.Linked.{shown_of};
 use crate::glance::Glance;
 use crate::held::Nodes;
 use crate::node::Node;
+use crate::scroll::Scroll;
 use crate::table::row::Summary;
 use rd_geom::Rect;
 use rd_keys::BoxKey;
@@ -22,8 +23,10 @@ use rd_style::Style;
 pub struct BoxView<'a> {
     /// The box.
     pub key: BoxKey,
-    /// Its border box in pixels of the canvas (CSS 2.2 section 8.1).
-    pub rect: Rect,
+    /// Where its border box is drawn, in pixels of the canvas (CSS 2.2 section 8.1).
+    pub at: Rect,
+    /// Its scroll offset.
+    pub scroll: Scroll,
     /// Its style.
     pub style: &'a Style,
     /// Is it the root?
@@ -60,7 +63,8 @@ pub(crate) fn view_of(
 {
     BoxView {
         key,
-        rect: node.item.rect,
+        at: node.item.rect,
+        scroll: node.item.scroll,
         style: &node.item.style,
         is_root,
         children: row.children,

@@ -2,7 +2,7 @@
 use Rattle.std.proofs.Common.{◌≡◌, ℕ, zero, suc, ◌+◌, ◌^◌, ◌<◌, ◌≤◌, Bool, true, false, List, [], ◌∷◌, ◌++◌, Some, None, inl, inr, refl, sym, ap, subst, ◌∙◌, append_assoc, arith}
 use Rattle.std.specs.Int.{w32}
 use Rattle.std.specs.Bool.{◌==◌}
-use Rattle.std.proofs.lemmas.Bool.{cases_lt, lt-ltb, le-ltb, eqb-true}
+use Rattle.std.proofs.lemmas.Bool.{cases_lt, lt-ltb, le-ltb}
 use Rattle.rd_geom.specs.Plane.{Rectangle}
 use Rattle.rd_item.specs.Items.{Made}
 use Rattle.rd_list.specs.Wrappers.{Wrapper}
@@ -17,7 +17,7 @@ use Rattle.rd_wire.specs.Internal.Ones.{One, below}
 use Rattle.rd_wire.specs.Internal.LeafReading.{leaf_at}
 use Rattle.rd_wire.specs.Internal.LevelReading.{head_of, head_at, filled, leaf_one_at, group_one_at, one_at, entry_at, entries_at, level_at, inside_at}
 use Rattle.rd_wire.proofs.Parts.{IsBytes, IsBytes-rest, Takes, Takes-then, Reads, reads_pair, reads_made, reads_byte, then_some, some_is}
-use Rattle.rd_wire.proofs.Spelled.{let_through, reads_32, reads_key, reads_mode}
+use Rattle.rd_wire.proofs.Spelled.{reads_32, reads_key, reads_mode}
 use Rattle.rd_wire.proofs.Seen.{GoodLeaf, reads_leaf}
 
 -- ---- groups

@@ -8,7 +8,7 @@ use Rattle.rd_keys.specs.declared.entry.EntryKey.TheVariants as key
 use Rattle.rd_graph.specs.Names.{same_entry}
 use Rattle.rd_graph.specs.Orders as spec
 use Rattle.rd_graph.proofs.Reaching.Calls.{once_of, once_to}
-use Rattle.rd_graph.proofs.Lists.Entries.{same_entry-sound, same_entry-refl, has_get}
+use Rattle.rd_graph.proofs.Lists.Entries.{same_entry-sound, same_entry-refl}
 use Rattle.rd_graph.proofs.Lists.Listing.{Has, Once, cases, has_either, has_left, has_right}
 use Rattle.rd_list.specs.Wrappers.{Wrapper}
 use Rattle.rd_list.specs.Entries.{Entries, nil, leaf, group, ◌▷◌, list_size}

@@ -1,15 +1,15 @@
 -- A line of made elements alone, which stand in it as they are.
-use Rattle.std.proofs.Common.{◌≡◌, refl, ap, ◌∙◌, sym, ℕ, zero, suc, ◌+◌, ◌<◌, List, [], ◌∷◌, ◌++◌, length, get_or, arith}
+use Rattle.std.proofs.Common.{◌≡◌, ap, ◌∙◌, sym, ℕ, ◌+◌, ◌<◌, List, [], ◌∷◌, ◌++◌, length, get_or, arith}
 use Rattle.std.specs.Prelude.{Option, Some, option_map}
 use Rattle.std.specs.declared.vec.Vec.{Vec}
-use Rattle.std.proofs.lemmas.List.{append-nil, get_or_default, map-append, same_lists, take_all}
+use Rattle.std.proofs.lemmas.List.{append-nil, map-append, take_all}
 use Rattle.rd_graph.specs.Gathered.{arranged, gathered}
 use Rattle.rd_graph.specs.Internal.Seen.{seen}
 use Rattle.rd_graph.specs.Runs.{places_of, up_from}
 use Rattle.rd_graph.specs.declared.graph.Node.{Node}
 use Rattle.rd_graph.specs.declared.runs.Run.{Run}
 use Rattle.rd_graph.proofs.Patches.PutInPlace.{gathered_map}
-use Rattle.rd_graph.proofs.LinedUp.RunLines.{gathered_up, none_long, up-length}
+use Rattle.rd_graph.proofs.LinedUp.RunLines.{gathered_up, none_long}
 
 -- the only run of a line
 pub only_run : (rs : List Run) (r : Run) (n : ℕ) → length rs ≡ 1 → r ≡ get_or rs 0 r → r.from ≡ 0 → r.count ≡ n → places_of rs ≡ up_from 0 n

@@ -4,7 +4,7 @@ use Rattle.rd_keys.specs.declared.entry.EntryKey.{EntryKey}
 use Rattle.rd_graph.specs.Graphs.{Graph, IsInOrder}
 use Rattle.rd_graph.specs.Patches.{CanBePatched, IsArranged, found_in}
 use Rattle.rd_graph.specs.Runs.{up_from}
-use Rattle.rd_graph.specs.Internal.Walks.{counted, walk, RisesWhere}
+use Rattle.rd_graph.specs.Internal.Walks.{counted, RisesWhere}
 use Rattle.rd_graph.specs.Internal.Seen.{seen}
 use Rattle.rd_graph.specs.declared.graph.Node.{Node}
 use Rattle.rd_graph.proofs.LinedUp.Markings.{walk_none}

@@ -2,7 +2,7 @@
 use Rattle.std.proofs.Common.{ℕ, ◌<◌, ◌≤◌, ◌≡◌, ap, ◌∙◌, sym, Bool, true, false, List, [], ◌∷◌, inl, inr, ◌⊎◌, arith}
 use Rattle.std.proofs.lemmas.Bool.{cases_lt}
 use Rattle.rd_graph.specs.Orders as spec
-use Rattle.rd_graph.specs.Orders.{Before, Chain, last, more}
+use Rattle.rd_graph.specs.Orders.{Before, last}
 use Rattle.rd_graph.specs.Graphs.{Precedes, Reaches, Next, Stitch, Hop, here, over}
 use Rattle.rd_graph.specs.Laws.{Stitching, Linking, Pruning, Lining, Patching}
 use Rattle.rd_graph.specs.Internal.Lines.{SomeIsOpen, Checking, Moving, Labelling}

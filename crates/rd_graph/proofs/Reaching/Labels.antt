@@ -3,7 +3,7 @@ use Rattle.std.proofs.Common.{◌≡◌, refl, ap, ◌∙◌, sym, subst, ℕ, z
 use Rattle.std.proofs.lemmas.List.{take_more, map-append}
 use Rattle.rd_keys.specs.declared.entry.EntryKey.{EntryKey}
 use Rattle.rd_graph.specs.Orders as order
-use Rattle.rd_graph.specs.Orders.{Before, Chain}
+use Rattle.rd_graph.specs.Orders.{Before}
 use Rattle.rd_graph.specs.Graphs.{Graph, nodes, Precedes, Reaches}
 use Rattle.rd_graph.specs.Internal.Chains.{Lowers, AreLabels, NoneGoesBack}
 use Rattle.rd_graph.specs.Names.{place_of}

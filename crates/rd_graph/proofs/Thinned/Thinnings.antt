@@ -4,7 +4,7 @@ use Rattle.std.proofs.lemmas.List.{take_more, drop_more, append-nil}
 use Rattle.std.specs.Prelude.{Option, Contains, ◌↔◌}
 use Rattle.rd_keys.specs.declared.entry.EntryKey.{EntryKey}
 use Rattle.rd_graph.specs.Orders as order
-use Rattle.rd_graph.specs.Orders.{Before, Chain, last}
+use Rattle.rd_graph.specs.Orders.{Before, last}
 use Rattle.rd_graph.specs.Graphs.{Graph, nodes, Precedes, Reaches, IsInOrder, Drops, AddsChain}
 use Rattle.rd_graph.specs.Gathered.{gathered, arranged, IsLine}
 use Rattle.rd_graph.specs.Names.{is_in, place_of, same_entry}

@@ -3,7 +3,7 @@ use Rattle.std.proofs.Common.{◌≡◌, refl, ap, ◌∙◌, sym, subst, ℕ, z
 use Rattle.std.specs.Prelude.{Option, Some, None, Contains, ◌↔◌}
 use Rattle.rd_keys.specs.declared.entry.EntryKey.{EntryKey}
 use Rattle.rd_graph.specs.Orders as order
-use Rattle.rd_graph.specs.Orders.{Before, Chain, last}
+use Rattle.rd_graph.specs.Orders.{Before, last}
 use Rattle.rd_graph.specs.Graphs.{Graph, nodes, Precedes, Reaches, IsInOrder, AddsChain}
 use Rattle.rd_graph.specs.Gathered.{gathered, arranged}
 use Rattle.rd_graph.specs.Names.{place_of, same_entry}

@@ -2,7 +2,7 @@
 use Rattle.std.proofs.Common.{◌≡◌, refl, ap, ◌∙◌, sym, subst, Bool, cond, List, [], ◌∷◌, inl, inr, ◌⊎◌}
 use Rattle.std.specs.Prelude.{Contains}
 use Rattle.rd_graph.specs.Orders as order
-use Rattle.rd_graph.specs.Orders.{Before, Chain}
+use Rattle.rd_graph.specs.Orders.{Before}
 use Rattle.rd_graph.specs.Graphs.{Graph, Reaches, Drops, GoTogether}
 use Rattle.rd_graph.proofs.Lists.Listing.{Has, Once, cases, has_from, contains_from, has_either, filter_has, before_from, before_to, pairs_from, once_from, once_apart, once_right}
 use Rattle.rd_graph.proofs.Reaching.Calls.{once_of, once_to}

@@ -14,7 +14,6 @@ use Rattle.rd_list.specs.Entries.{Entries, nil, leaf, group, wrappers, only}
 use Rattle.rd_list.specs.Lists as lists
 use Rattle.rd_list.specs.Lists.{leaves_meet, groups}
 use Rattle.rd_graph.specs.Names.{same_part}
-use Rattle.rd_list.specs.Levels.{StandsFor}
 use Rattle.rd_list.specs.Laws.{IsReady}
 use Rattle.rd_list.proofs.Merges.Named.{AreNames}
 use Rattle.rd_geom.specs.Plane.{Rectangle, has_none, holds_pixel}

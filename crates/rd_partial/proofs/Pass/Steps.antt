@@ -16,8 +16,8 @@ use Rattle.rd_tree.specs.Contexts.{blends_in}
 use Rattle.rd_stack.specs.Paths.{BoxData, BoxPath, has_class, is_none, is_plain, is_inline, is_no_context, is_local, is_layer, is_inline_level, boxes_between}
 use Rattle.rd_list.proofs.Joins.{join_assoc}
 use Rattle.rd_stack.specs.Painting as painting
-use Rattle.rd_stack.specs.Painting.{Painted, insert_by_level, steps, paint, back_border, inline_part, content_and_line, line_of, layers_of, local_boxes, of_class, entry_of, stack_level, level_of, is_negative, is_positive, is_zero, paint_if, is_blocky, root_background, own_background_and_border, negative_layers, block_backgrounds, floats, inline_context, zero_layers, positive_layers, outlines}
-use Rattle.rd_stack.specs.Fresh.{box_data, grouping, painted, root_order, fresh_list}
+use Rattle.rd_stack.specs.Painting.{Painted, insert_by_level, steps, paint, back_border, inline_part, content_and_line, line_of, layers_of, local_boxes, of_class, entry_of, level_of, is_negative, is_positive, is_zero, paint_if, is_blocky, root_background, own_background_and_border, negative_layers, block_backgrounds, floats, inline_context, zero_layers, positive_layers, outlines}
+use Rattle.rd_stack.specs.Fresh.{box_data, grouping, painted, root_order, drawn_list}
 use Rattle.rd_stack.proofs.Present.{grouped-below}
 use Rattle.rd_stack.proofs.Grouping.Shape.{box-found}
 use Rattle.rd_stack.proofs.Walk.Filters.{filter_both}
@@ -129,5 +129,5 @@ module _ (canvas : Rectangle) where
       (steps_are (record { above = []; here = b }) ch a.3 o
       ∙ ap (order_of enter (give canvas) true [] b) (passed_is (b ∷ []) ch refl a.3 o))
 
-pub fresh_is : (t : Document) → IsApart same_key t.boxes → fresh_list t ≡ whole enter (give (canvas_of t.canvas)) [] t.boxes
+pub fresh_is : (t : Document) → IsApart same_key t.boxes → drawn_list t ≡ whole enter (give (canvas_of t.canvas)) [] t.boxes
 fresh_is t a = whole_is (canvas_of t.canvas) t.boxes a

@@ -14,7 +14,7 @@ use Rattle.rd_tree.specs.Contexts.{blends_in}
 use Rattle.rd_stack.specs.Paths.{BoxData, is_none}
 use Rattle.rd_stack.specs.Clips.{entered}
 use Rattle.rd_stack.specs.Parts.{leaf_at, leaf_of}
-use Rattle.rd_stack.specs.Fresh.{box_data, fresh_list}
+use Rattle.rd_stack.specs.Fresh.{box_data, drawn_list}
 use Rattle.rd_partial.specs.Internal.Pass.{order_of, pass, whole, is_one, as_group}
 use Rattle.rd_partial.specs.Internal.Standing.{Standing, standing_below, at_root, below, leaf_in}
 use Rattle.rd_partial.specs.Internal.Given.{gives}
@@ -71,7 +71,7 @@ module _ (wants : Rectangle → Bool) (n : ℕ) (t : Document) where
       ∙ ap (as_group one b) (paints_picked wants n start b ch)
 
   pub list_is : IsRooted t → IsApart same_key t.boxes → (here : BoxData) (c nx : Option BoxKey) (hull : Rectangle) → Onward t.boxes t.root here c nx hull
-      → as_group (root_grouped here) here (paints wants n start here (passes wants n (below start here) (from_some same_key c t.boxes))) ≡ picked (pick wants n) (fresh_list t)
+      → as_group (root_grouped here) here (paints wants n start here (passes wants n (below start here) (from_some same_key c t.boxes))) ≡ picked (pick wants n) (drawn_list t)
   list_is r a here c nx hull w =
       let whole_is : t.boxes ≡ tree t.root w.item w.below w.rest = sym (rooted_from t.boxes t.root r.0 r.1 r.2) ∙ w.is in
       rw (w.data_is, w.child)
@@ -80,7 +80,7 @@ module _ (wants : Rectangle → Bool) (n : ℕ) (t : Document) where
       ∙ of_tree t.root w.item w.below w.rest))
 
   pub count_is : IsRooted t → IsApart same_key t.boxes → (here : BoxData) (c nx : Option BoxKey) (hull : Rectangle) → Onward t.boxes t.root here c nx hull
-      → own_cost wants n start here + cost wants n (below start here) (from_some same_key c t.boxes) ≡ leaves_in (picked (pick wants n) (fresh_list t))
+      → own_cost wants n start here + cost wants n (below start here) (from_some same_key c t.boxes) ≡ leaves_in (picked (pick wants n) (drawn_list t))
   unfolding passes cost
   count_is r a here c nx hull w =
       sym (count-root below (gives wants n) start here (root_grouped here) (from_some same_key c t.boxes)) ∙ ap leaves_in (list_is r a here c nx hull w)
@@ -96,13 +96,13 @@ module _ (wants : Rectangle → Bool) (n : ℕ) (t : Document) (r : IsRooted t) 
   at_t : Onward t.boxes t.root here c nx hull
   at_t = subst (λ j. Onward t.boxes j here c nx hull) e w
 
-  pub list_of : as_group (root_grouped here) here (paints wants n s here (passes wants n (below s here) (from_some same_key c t.boxes))) ≡ numbered n (only (λ x. wants x.visible) (fresh_list t))
-  list_of = ap (λ z. as_group (root_grouped here) here (paints wants n z here (passes wants n (below z here) (from_some same_key c t.boxes)))) begun ∙ list_is wants n t r a here c nx hull at_t ∙ only_is (λ x. wants x.visible) n (fresh_list t)
+  pub list_of : as_group (root_grouped here) here (paints wants n s here (passes wants n (below s here) (from_some same_key c t.boxes))) ≡ numbered n (only (λ x. wants x.visible) (drawn_list t))
+  list_of = ap (λ z. as_group (root_grouped here) here (paints wants n z here (passes wants n (below z here) (from_some same_key c t.boxes)))) begun ∙ list_is wants n t r a here c nx hull at_t ∙ only_is (λ x. wants x.visible) n (drawn_list t)
 
-  pub count_of : own_cost wants n s here + cost wants n (below s here) (from_some same_key c t.boxes) ≡ leaves_in (only (λ x. wants x.visible) (fresh_list t))
+  pub count_of : own_cost wants n s here + cost wants n (below s here) (from_some same_key c t.boxes) ≡ leaves_in (only (λ x. wants x.visible) (drawn_list t))
   count_of =
       ap (λ z. own_cost wants n z here + cost wants n (below z here) (from_some same_key c t.boxes)) begun ∙ count_is wants n t r a here c nx hull at_t
-      ∙ ap leaves_in (only_is (λ x. wants x.visible) n (fresh_list t)) ∙ numbered_leaves n (only (λ x. wants x.visible) (fresh_list t))
+      ∙ ap leaves_in (only_is (λ x. wants x.visible) n (drawn_list t)) ∙ numbered_leaves n (only (λ x. wants x.visible) (drawn_list t))
 
   pub looks_of : 1 + visits wants (from_some same_key c t.boxes) ≡ root_visits wants t.boxes
   looks_of = looks_are wants n t r here c nx hull at_t

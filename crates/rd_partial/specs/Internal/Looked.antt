@@ -15,7 +15,7 @@ use Rattle.rd_partial.specs.declared.look.Looked.{Looked}
 abbrev pub looked_of : BoxView → Looked
 looked_of v = record {
   key = v.key;
-  rect = v.rect;
+  rect = v.at;
   style = v.style;
   first_child = v.first_child;
   next_sibling = v.next_sibling;

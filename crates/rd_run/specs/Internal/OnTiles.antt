@@ -8,7 +8,6 @@ use Rattle.rd_geom.specs.declared.rect.Size.{Size}
 use Rattle.rd_list.specs.EntryNames.{kept_leaves}
 use Rattle.rd_paint.specs.Pictures.{Picture, size_of, pixel_at}
 use Rattle.rd_engine.specs.State.{EngineState}
-use Rattle.rd_engine.specs.Painted.{IsAreaPainted}
 use Rattle.rd_engine.specs.Invalid as engine
 use Rattle.rd_report.specs.Tiles.{tiles_line}
 use Rattle.rd_scene.specs.Scripts.{Script}

@@ -7,19 +7,20 @@ use Rattle.serde_json.specs.View.{items_of}
 use Rattle.rd_style.specs.Figures.{max_coordinate}
 use Rattle.rd_style.specs.Limits.{is_between}
 use Rattle.rd_edits.specs.declared.edit.Edit.{Edit}
-use Rattle.rd_edits.specs.declared.edit.Edit.TheVariants.{Insert, Remove, Move, SetStyle, SetRect, Shift}
+use Rattle.rd_edits.specs.declared.edit.Edit.TheVariants.{Insert, Remove, Move, SetStyle, SetRect, Shift, Scroll}
 use Rattle.rd_scene.specs.declared.fault.Why.{Why}
 use Rattle.rd_scene.specs.declared.fault.Why.TheVariants as why
 use Rattle.rd_scene.specs.declared.fault.Place.TheVariants as place
 use Rattle.rd_scene.specs.declared.script.Command.{Command}
 use Rattle.rd_scene.specs.declared.version.Version.{Version}
+use Rattle.rd_scene.specs.declared.version.Version.TheVariants.{One, Two}
 use Rattle.rd_scene.specs.declared.script.Command.TheVariants.{Change, Paint, Hit, Pixel, Dump, Shot}
 use Rattle.rd_scene.specs.Figures.{max_distance}
 use Rattle.rd_scene.specs.Boxes.{an_id}
 use Rattle.rd_scene.specs.Canonical.{IsIdOrNone, IsEdit, IsCommand}
 use Rattle.rd_scene.specs.Checked.{Checked, good, ◌>>=◌}
 use Rattle.rd_scene.specs.Commands.{pixel_at, at_pixel, command_named, command_of, commands_from, FitsCommand}
-use Rattle.rd_scene.specs.Edits.{id_or_null, insert_of, remove_of, move_of, set_style_of, set_rect_of, distance_at, shift_of, edit_named, FitsEdit}
+use Rattle.rd_scene.specs.Edits.{id_or_null, insert_of, remove_of, move_of, set_style_of, set_rect_of, distance_at, shift_of, scroll_of, edit_named, FitsEdit}
 use Rattle.rd_scene.specs.Members.{number as number_from}
 use Rattle.rd_scene.specs.Places.{at}
 use Rattle.rd_scene.specs.Versions.{number_of, HasEdit, HasCommand}
@@ -46,7 +47,7 @@ as_command c e h = next_read c (λ x. good (Change x)) e (Change e) h refl
 
 edit_read : (version : Version) (e : Edit) → IsEdit e → FitsEdit e → HasEdit (number_of version) e
     → command_of version (edit_value e) ≡ good (Change e)
-unfolding command_of command_named edit_named edit_value insert_of remove_of move_of set_style_of set_rect_of shift_of distance_at
+unfolding command_of command_named edit_named edit_value insert_of remove_of move_of set_style_of set_rect_of shift_of scroll_of distance_at
 edit_read version (Insert id parent before rect style) t f v = as_command _ _
     (names_read (λ _ id parent before rect style. Insert id parent before rect style)
     ⊗ id_read why.Range id t.0 ⊗ id_read why.Range parent t.1 ⊗ before_read before t.2 ⊗ rect_read rect f.0
@@ -63,6 +64,10 @@ edit_read version (SetRect id rect) t f v = as_command _ _
 edit_read version (Shift id dx dy) t f v = as_command _ _
     (names_read (λ _ id dx dy. Shift id dx dy)
     ⊗ id_read why.Range id t ⊗ distance_read dx f.0 ⊗ distance_read dy f.1)
+edit_read One (Scroll id x y) t f v = absurd (v refl)
+edit_read Two (Scroll id x y) t f v = as_command _ _
+    (names_read (λ _ id x y. Scroll id x y)
+    ⊗ id_read why.Range id t ⊗ distance_read x f.0 ⊗ distance_read y f.1)
 
 command_read : (version : Version) (c : Command) → IsCommand c → FitsCommand c → HasCommand (number_of version) c
     → command_of version (command_value c) ≡ good c

@@ -7,7 +7,7 @@ use Rattle.rd_geom.proofs.Pixels.{At, at_holds, holds_at, common_pixels, HasSome
 use Rattle.rd_geom.specs.declared.color.Color.{Color}
 use Rattle.rd_style.specs.Classes.{clips}
 use Rattle.rd_clip.specs.Clipping as clipping
-use Rattle.rd_clip.specs.Clipping.{Entered, clipped, clipped_by, containing_chain, sought}
+use Rattle.rd_clip.specs.Clipping.{Entered, clipped, containing_chain, sought}
 use Rattle.rd_keys.specs.Keys.{same_key}
 use Rattle.rd_keys.specs.declared.entry.Part.{Part}
 use Rattle.rd_keys.specs.declared.entry.Part.TheVariants.{Back, Border, Content, Outline}

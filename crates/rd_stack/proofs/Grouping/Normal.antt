@@ -10,8 +10,9 @@ use Rattle.rd_tree.specs.Forest.{empty, tree, AllItems}
 use Rattle.rd_tree.specs.declared.node.Item.{Item}
 use Rattle.rd_tree.specs.Contexts.{blends_in}
 use Rattle.rd_tree.specs.Document.{BoxForest, Document}
+use Rattle.rd_tree.specs.Drawn.{Above, above_of, is_none, drawn_below, drawn}
 use Rattle.rd_stack.specs.Paths.{BoxData, BoxPath}
-use Rattle.rd_stack.specs.Painting.{Painted, steps, entry_of}
+use Rattle.rd_stack.specs.Painting.{steps, entry_of}
 use Rattle.rd_stack.specs.Fresh.{box_data, grouping, painted, root_order, fresh_list}
 use Rattle.rd_geom.specs.declared.blend.Blend.{Blend}
 use Rattle.rd_geom.specs.declared.blend.Blend.TheVariants.{Normal, Multiply, Screen, Darken, Lighten}
@@ -24,7 +25,7 @@ use Rattle.rd_list.proofs.Normals.{normal_pixels}
 use Rattle.rd_tree.proofs.Linking.Standing.{never}
 use Rattle.rd_stack.specs.Parts.{leaf_at}
 use Rattle.rd_stack.proofs.Leafwise.{EachEntry, OfLeaf, EachPlace, in_entries}
-use Rattle.rd_stack.specs.Normal.{IsNormal, translucent, plain_class, plain_z, plain_level, IsPaintedPlainly, NormalLaw}
+use Rattle.rd_stack.specs.Normal.{IsNormal, translucent, plain_class, plain_z, plain_level, NormalLaw}
 use Rattle.rd_stack.proofs.Present.{grouped-below}
 use Rattle.rd_stack.proofs.Grouping.Shape.{grouped_box, box-found}
 
@@ -116,16 +117,20 @@ are_normal nil h = tt
 are_normal (leaf l xs) h = are_normal xs h.1
 are_normal (group g inner xs) h = (h.0, are_normal inner h.1, are_normal xs h.2)
 
+normal_drawn : (above : List Above) (f : BoxForest) → AllItems (λ d. IsNormal d.style) f → AllItems (λ d. IsNormal d.style) (drawn_below above f)
+normal_drawn above empty a = tt
+normal_drawn above (tree k d below rest) a = (a.0, normal_drawn (above_of (is_none above) d ∷ above) below a.1, normal_drawn above rest a.2)
+
 modes-normal : (t : Document) → AllItems (λ d. IsNormal d.style) t.boxes → AreNormal (fresh_list t)
 modes-normal t a =
     let canvas = canvas_of t.canvas in
-    are_normal (fresh_list t) (in_entries AnyLeaf HasNormal canvas grouping t.boxes (each_normal canvas [] t.boxes a))
+    are_normal (fresh_list t) (in_entries AnyLeaf HasNormal canvas grouping (drawn t).boxes (each_normal canvas [] (drawn t).boxes (normal_drawn [] t.boxes a)))
 
 pub plainly : NormalLaw
 plainly t a = record {
   classes = all-from (λ d. IsNormal d.style) (λ d. (root : Bool) → class d.style root ≡ plain_class d.style root) (λ d n. class-plain d.style n) t.boxes a;
   levels = all-from (λ d. IsNormal d.style) (λ d. (root : Bool) → level d.style root ≡ plain_level d.style root) (λ d n. level-plain d.style n) t.boxes a;
-  order = order-plain (canvas_of t.canvas) t.boxes a;
+  order = order-plain (canvas_of t.canvas) (drawn t).boxes (normal_drawn [] t.boxes a);
   modes = modes-normal t a;
   pixels = λ x y. normal_pixels (fresh_list t) x y (modes-normal t a);
 }

@@ -1,5 +1,5 @@
 -- What a tree paints is what it paints where it is given which boxes are grouped.
-use Rattle.std.proofs.Common.{◌≡◌, refl, ◌∙◌, sym, subst, Bool, true, false, ◌||◌, List, [], ◌∷◌, ◌++◌}
+use Rattle.std.proofs.Common.{◌≡◌, refl, ap, ◌∙◌, sym, subst, Bool, true, false, ◌||◌, List, [], ◌∷◌, ◌++◌}
 use Rattle.rd_geom.specs.Plane.{Rectangle}
 use Rattle.rd_geom.specs.Canvas.{canvas_of}
 use Rattle.rd_keys.specs.Keys.{BoxKey, same_key}
@@ -7,14 +7,17 @@ use Rattle.rd_keys.proofs.Keys.{same_key-sound, same_key-refl}
 use Rattle.rd_tree.specs.Forest.{empty, tree, has, IsApart}
 use Rattle.rd_tree.specs.declared.node.Item.{Item}
 use Rattle.rd_tree.specs.Contexts.{blends_in}
-use Rattle.rd_tree.specs.Document.{BoxForest}
+use Rattle.rd_tree.specs.Document.{Document, BoxForest, IsRooted}
+use Rattle.rd_tree.specs.Drawn.{drawn}
+use Rattle.rd_tree.proofs.Drawing.{apart_drawn, rooted_drawn}
 use Rattle.rd_tree.proofs.Linking.Standing.{from_left, from_right, apart_back, differs}
 use Rattle.rd_stack.specs.Paths.{BoxData, BoxPath}
 use Rattle.rd_stack.specs.Painting.{steps, entry_of}
-use Rattle.rd_stack.specs.Fresh.{box_data, grouping, given, grouped_in, painted, root_order}
+use Rattle.rd_stack.specs.Fresh.{box_data, grouping, given, grouped_in, painted, root_order, drawn_list, list_given}
 use Rattle.rd_stack.specs.Cutting.{GivenLaw}
 use Rattle.rd_stack.proofs.Present.{grouped-below}
-use Rattle.rd_stack.proofs.Grouping.Shape.{grouped_box, grouped_root, grouped_low, box-found, tree-found, low-absent}
+use Rattle.rd_stack.proofs.Grouping.Shape.{grouped_box, grouped_root, grouped_low, grouped_tree, box-found, tree-found, low-absent}
+use Rattle.rd_stack.proofs.Grouping.Drawn.{tree-drawn}
 
 -- Of each box it is given what it is.
 abbrev pub IsGiven : (BoxKey → Bool) → BoxForest → Type 0
@@ -59,11 +62,23 @@ module _ (canvas : Rectangle) (g : BoxKey → Bool) where
       let low = painted-given (box_data k d) [] f h in
       λ i. entry_of (record { at = e; order = steps canvas e (low i); grouped = sym r i })
 
-pub given_list : GivenLaw
-given_list t a r =
+-- What a tree paints where its boxes stand, by its own grouping.
+own_list : (t : Document) → IsApart same_key t.boxes → IsRooted t → drawn_list t ≡ list_given (grouped_in t.boxes) t
+own_list t a r =
     let a2 : IsApart same_key (tree t.root r.0 r.1 empty) = subst (λ z. IsApart same_key z) r.2 a in
     let g : BoxKey → Bool = grouped_in (tree t.root r.0 r.1 empty) in
     let root : g t.root ≡ grouped_root r.0 =
     tree-found t.root t.root r.0 r.1 ∙ rw (same_key-refl t.root, low-absent t.root r.1 a2.0) (or_none (grouped_root r.0)) in
     let low : IsGiven g r.1 = given_from g r.1 a2.3 (λ j u. tree-found t.root j r.0 r.1 ∙ rw (differs same_key same_key-sound same_key-refl r.1 j t.root u a2.0) (or_low (grouped_low r.1 j))) in
     subst (λ z. root_order grouping (canvas_of t.canvas) z ≡ root_order (given (grouped_in z)) (canvas_of t.canvas) z) (sym r.2) (order-given (canvas_of t.canvas) g t.root r.0 r.1 low root)
+
+pub given_list : GivenLaw
+given_list t a r =
+    own_list (drawn t) (apart_drawn [] t.boxes a) (rooted_drawn t r)
+    ∙ ap (λ g. list_given g (drawn t)) (λ i j. same j i)
+  where
+    same : (j : BoxKey) → grouped_in (drawn t).boxes j ≡ grouped_in t.boxes j
+    same j =
+        let q = rooted_drawn t r in
+        subst (λ z. grouped_in z j ≡ grouped_tree z j) (sym q.2) (tree-found t.root j q.0 q.1)
+        ∙ (tree-drawn j t.boxes ∙ sym (subst (λ z. grouped_in z j ≡ grouped_tree z j) (sym r.2) (tree-found t.root j r.0 r.1)))

@@ -7,11 +7,11 @@ use Rattle.rd_style.specs.Classes.{real, blended}
 use Rattle.rd_style.specs.Changes.{names_class, names_any, whole}
 use Rattle.rd_keys.specs.Keys.{BoxKey, same_key}
 use Rattle.rd_keys.proofs.Keys.{same_key-sound, same_key-refl}
-use Rattle.rd_tree.specs.Forest.{empty, tree, ◌▷◌, has, starting_at, children, with_children, insert_among, insert_before, without_siblings, branch, map_where, at_box, at_subtree, in_subtree, IsApart}
+use Rattle.rd_tree.specs.Forest.{empty, tree, ◌▷◌, has, starting_at, children, with_children, insert_among, insert_before, without_siblings, branch, map_where, at_box, in_subtree, IsApart}
 use Rattle.rd_tree.specs.Forest as forest
 use Rattle.rd_tree.specs.declared.node.Item.{Item}
 use Rattle.rd_tree.specs.Document.{Document, BoxForest, or_else}
-use Rattle.rd_tree.specs.Changes.{Change, insertion, removal, moving, styling, placing, shifting, restyle, with_rect, shift_item, after}
+use Rattle.rd_tree.specs.Changes.{Change, insertion, removal, moving, styling, placing, shifting, scrolling, restyle, with_rect, with_scroll, shift_item, after}
 use Rattle.rd_tree.specs.Contexts.{nearest_context, own_context, below_root, context_of, context_round, in_context, any_of, holds_blended, blends, blends_in}
 use Rattle.rd_tree.specs.Touching.{reached_by, regrouped_by, touched_by}
 use Rattle.rd_tree.proofs.Linking.Standing.{cases, either, has-join, join-empty, differs}
@@ -408,3 +408,4 @@ module _ (t : Document) (d : Item) (low : BoxForest) (a : IsApart same_key (tree
   change-stays (styling k c) there h = styling-stays k c there h
   change-stays (placing k r) there h = tree-each (λ i. same_key i k) (with_rect r) (λ e. record { blend = refl; context = refl; opacity = refl }) j old.boxes
   change-stays (shifting k dx dy) there h = tree-each (λ i. in_subtree same_key i k old.boxes) (shift_item dx dy) (λ e. record { blend = refl; context = refl; opacity = refl }) j old.boxes
+  change-stays (scrolling k v) there h = tree-each (λ i. same_key i k) (with_scroll v) (λ e. record { blend = refl; context = refl; opacity = refl }) j old.boxes

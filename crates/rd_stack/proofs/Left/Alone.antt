@@ -1,5 +1,5 @@
 -- Edits of one box that keep its class, its level and what it clips.
-use Rattle.std.proofs.Common.{◌≡◌, refl, ap, ◌∙◌, sym, subst, Bool, true, false, not, ◌&&◌, ◌||◌, cond, [], inl, inr, is_some, unwrap_or}
+use Rattle.std.proofs.Common.{◌≡◌, refl, ap, ◌∙◌, sym, subst, Bool, true, false, not, ◌&&◌, ◌||◌, cond, List, [], ◌∷◌, inl, inr, is_some, unwrap_or}
 use Rattle.std.specs.Prelude.{Option, Some, None}
 use Rattle.rd_geom.specs.Plane.{Rectangle, no_pixels}
 use Rattle.rd_style.specs.declared.styles.Style.{Style}
@@ -13,7 +13,8 @@ use Rattle.rd_keys.proofs.Keys.{same_key-sound, same_key-refl}
 use Rattle.rd_tree.specs.Forest.{empty, tree, has, item_of, at_box, map_where, IsApart}
 use Rattle.rd_tree.specs.declared.node.Item.{Item}
 use Rattle.rd_tree.specs.Document.{BoxForest}
-use Rattle.rd_tree.specs.Changes.{restyle, with_rect}
+use Rattle.rd_tree.specs.Changes.{restyle, with_rect, unscrolled}
+use Rattle.rd_tree.specs.Drawn.{Above, above_of, offset_of, scrolled_by, at, is_none, drawn_below}
 use Rattle.rd_style.specs.Changes.{names_any}
 use Rattle.rd_tree.proofs.Linking.Standing.{cases, never, either, flip}
 use Rattle.rd_stack.proofs.Left.Bare.{bare, bare_item, bare_style, no_sides}
@@ -93,11 +94,12 @@ bare-restyle root c d w =
       id = [];
       rect = cond (not (clips-changed d.style c n root i)) no_pixels d.rect;
       style = style-changed d.style c n root h.1 i;
+      scroll = d.scroll;
       touched = false;
     }
 
 pub bare-rect : (root : Bool) (r : Rectangle) (d : Item) → clips d.style root ≡ false → bare_item true root (with_rect r d) ≡ bare_item true root d
-bare-rect root r d w = λ i. record { id = []; rect = same i; style = bare_style true root d.style; touched = false }
+bare-rect root r d w = λ i. record { id = []; rect = same i; style = bare_style true root d.style; scroll = d.scroll; touched = false }
   where
     by : (q : Bool) → q ≡ false → cond (not q) no_pixels r ≡ cond (not q) no_pixels d.rect
     by true h = cc
@@ -151,75 +153,101 @@ each_same t h e (tree k d below rest) = λ i. tree k (same (t k) i) (each_same t
 pub key_flip : (i j : BoxKey) → same_key i j ≡ same_key j i
 key_flip i j = flip same_key same_key-sound same_key-refl i j
 
-module _ (k : BoxKey) (h : Item → Item) where
+module _ (k : BoxKey) where
   abbrev pub alone : BoxKey → Bool
   alone j = same_key j k
 
-  -- The box of this key is bare as it was.
-  abbrev pub KeepsBare : Bool → BoxForest → Type 0
-  KeepsBare root empty = Unit {0}
-  KeepsBare root (tree i d below rest) = (same_key i k ≡ true → bare_item true root (h d) ≡ bare_item true root d) × KeepsBare false below × KeepsBare root rest
+  -- So it is of the box of this key.
+  abbrev pub OfKey : (Bool → Item → Type 0) → Bool → BoxForest → Type 0
+  OfKey P root empty = Unit {0}
+  OfKey P root (tree i d below rest) = (same_key i k ≡ true → P root d) × OfKey P false below × OfKey P root rest
 
-  pub bare_kept : (root : Bool) (f : BoxForest) → KeepsBare root f → bare alone root (at_box same_key k h f) ≡ bare alone root f
-  bare_kept root empty q = refl
-  bare_kept root (tree i d below rest) q = λ t. tree i (here (same_key i k) q.0 t) (bare_kept false below q.1 t) (bare_kept root rest q.2 t)
-    where
-      here : (b : Bool) → (b ≡ true → bare_item true root (h d) ≡ bare_item true root d) → bare_item b root (cond b (h d) d) ≡ bare_item b root d
-      here true e = e refl
-      here false e = refl
+  module _ (P : Bool → Item → Type 0) where
+    key_none : (root : Bool) (f : BoxForest) → has same_key k f ≡ false → OfKey P root f
+    key_none root empty o = tt
+    key_none root (tree i d below rest) o =
+        let s = either (same_key k i) (has same_key k below || has same_key k rest) o in
+        let t = either (has same_key k below) (has same_key k rest) s.1 in
+        ((λ e. absurd (never (same_key k i) (key_flip k i ∙ e) s.0)), key_none false below t.0, key_none root rest t.1)
 
-  keeps_all : (root : Bool) (f : BoxForest) → ((r : Bool) (d : Item) → bare_item true r (h d) ≡ bare_item true r d) → KeepsBare root f
-  keeps_all root empty e = tt
-  keeps_all root (tree i d below rest) e = ((λ _. e root d), keeps_all false below e, keeps_all root rest e)
+    key_from : (f : BoxForest) → IsApart same_key f → ((d : Item) → item_of same_key k f ≡ Some d → P false d) → OfKey P false f
+    key_from empty a q = tt
+    key_from (tree i d below rest) a q =
+        elim (cases (same_key k i)) [
+          | inl e ↦
+              let n : k ≡ i = same_key-sound k i e in
+              ((λ _. q d (rw e refl)), key_none false below (subst (λ x. has same_key x below ≡ false) (sym n) a.0), key_none false rest (subst (λ x. has same_key x rest ≡ false) (sym n) a.1))
+          | inr e ↦
+              elim (cases (has same_key k below)) [
+                | inl u ↦ (
+                  (λ v. absurd (never (same_key k i) (key_flip k i ∙ v) e)),
+                  key_from below a.3 (λ x y. q x (rw (e, u) y)),
+                  key_none false rest (a.2 k u),
+                )
+                | inr u ↦ (
+                  (λ v. absurd (never (same_key k i) (key_flip k i ∙ v) e)),
+                  key_none false below u,
+                  key_from rest a.4 (λ x y. q x (rw (e, u) y)),
+                )
+              ]
+        ]
 
-  pub bare_all : (root : Bool) (f : BoxForest) → ((r : Bool) (d : Item) → bare_item true r (h d) ≡ bare_item true r d) → bare alone root (at_box same_key k h f) ≡ bare alone root f
-  bare_all root f e = bare_kept root f (keeps_all root f e)
+    pub key_root : (root : BoxKey) (d : Item) (below : BoxForest) → IsApart same_key (tree root d below empty)
+        → ((x : Item) → item_of same_key k (tree root d below empty) ≡ Some x → P (same_key k root) x)
+        → OfKey P true (tree root d below empty)
+    key_root root d below a q =
+        elim (cases (same_key k root)) [
+          | inl e ↦
+              let n : k ≡ root = same_key-sound k root e in
+              let it : item_of same_key k (tree root d below empty) ≡ Some d = rw e refl in
+              ((λ _. rw e at (q d it)), key_none false below (subst (λ x. has same_key x below ≡ false) (sym n) a.0), tt)
+          | inr e ↦
+              let off : same_key root k ≡ true → P true d = λ v. absurd (never (same_key k root) (key_flip k root ∙ v) e) in
+              elim (cases (has same_key k below)) [
+                | inl u ↦ (off, key_from below a.3 (λ x y. rw e at (q x (rw (e, u) y))), tt)
+                | inr u ↦ (off, key_none false below u, tt)
+              ]
+        ]
 
-  keeps_none : (root : Bool) (f : BoxForest) → has same_key k f ≡ false → KeepsBare root f
-  keeps_none root empty o = tt
-  keeps_none root (tree i d below rest) o =
-      let s = either (same_key k i) (has same_key k below || has same_key k rest) o in
-      let t = either (has same_key k below) (has same_key k rest) s.1 in
-      ((λ e. absurd (never (same_key k i) (key_flip k i ∙ e) s.0)), keeps_none false below t.0, keeps_none root rest t.1)
+-- The change leaves what is drawn below the box where it is, and the box bare as it was, wherever it is drawn.
+pub record KeepsPlaces (h : Item → Item) (root : Bool) (d : Item) : Type 0 where
+  pub above : above_of root (h d) ≡ above_of root d
+  pub bare : (above : List Above) → bare_item true root (with_rect (at above (h d)) (h d)) ≡ bare_item true root (with_rect (at above d) d)
 
-  keeps_from : (f : BoxForest) → IsApart same_key f → ((d : Item) → item_of same_key k f ≡ Some d → bare_item true false (h d) ≡ bare_item true false d) → KeepsBare false f
-  keeps_from empty a q = tt
-  keeps_from (tree i d below rest) a q =
-      elim (cases (same_key k i)) [
-        | inl e ↦
-            let n : k ≡ i = same_key-sound k i e in
-            ((λ _. q d (rw e refl)), keeps_none false below (subst (λ x. has same_key x below ≡ false) (sym n) a.0), keeps_none false rest (subst (λ x. has same_key x rest ≡ false) (sym n) a.1))
-        | inr e ↦
-            elim (cases (has same_key k below)) [
-              | inl u ↦ (
-                (λ v. absurd (never (same_key k i) (key_flip k i ∙ v) e)),
-                keeps_from below a.3 (λ x y. q x (rw (e, u) y)),
-                keeps_none false rest (a.2 k u),
-              )
-              | inr u ↦ (
-                (λ v. absurd (never (same_key k i) (key_flip k i ∙ v) e)),
-                keeps_none false below u,
-                keeps_from rest a.4 (λ x y. q x (rw (e, u) y)),
-              )
-            ]
-      ]
+pub bare-drawn : (k : BoxKey) (h : Item → Item) (above : List Above) (f : BoxForest) → OfKey k (KeepsPlaces h) (is_none above) f
+    → bare (alone k) (is_none above) (drawn_below above (at_box same_key k h f)) ≡ bare (alone k) (is_none above) (drawn_below above f)
+bare-drawn k h above empty q = refl
+bare-drawn k h above (tree i d below rest) q = by (same_key i k) q.0 (bare-drawn k h above rest q.2) (λ a. bare-drawn k h (a ∷ above) below q.1)
+  where
+    by : (b : Bool) → (b ≡ true → KeepsPlaces h (is_none above) d)
+        → bare (alone k) (is_none above) (drawn_below above (at_box same_key k h rest)) ≡ bare (alone k) (is_none above) (drawn_below above rest)
+        → ((a : Above) → bare (alone k) false (drawn_below (a ∷ above) (at_box same_key k h below)) ≡ bare (alone k) false (drawn_below (a ∷ above) below))
+        → tree i (bare_item b (is_none above) (with_rect (at above (cond b (h d) d)) (cond b (h d) d))) (bare (alone k) false (drawn_below (above_of (is_none above) (cond b (h d) d) ∷ above) (at_box same_key k h below))) (bare (alone k) (is_none above) (drawn_below above (at_box same_key k h rest)))
+        ≡ tree i (bare_item b (is_none above) (with_rect (at above d) d)) (bare (alone k) false (drawn_below (above_of (is_none above) d ∷ above) below)) (bare (alone k) (is_none above) (drawn_below above rest))
+    by true e later low =
+        let p = e refl in
+        λ t. tree i (p.bare above t) ((ap (λ a. bare (alone k) false (drawn_below (a ∷ above) (at_box same_key k h below))) p.above ∙ low (above_of (is_none above) d)) t) (later t)
+    by false e later low = λ t. tree i (bare_item false (is_none above) (with_rect (at above d) d)) (low (above_of (is_none above) d) t) (later t)
 
-  pub keeps_root : (root : BoxKey) (d : Item) (below : BoxForest) → IsApart same_key (tree root d below empty)
-      → ((x : Item) → item_of same_key k (tree root d below empty) ≡ Some x → bare_item true (same_key k root) (h x) ≡ bare_item true (same_key k root) x)
-      → KeepsBare true (tree root d below empty)
-  keeps_root root d below a q =
-      elim (cases (same_key k root)) [
-        | inl e ↦
-            let n : k ≡ root = same_key-sound k root e in
-            let it : item_of same_key k (tree root d below empty) ≡ Some d = rw e refl in
-            ((λ _. rw e at (q d it)), keeps_none false below (subst (λ x. has same_key x below ≡ false) (sym n) a.0), tt)
-        | inr e ↦
-            let off : same_key root k ≡ true → bare_item true true (h d) ≡ bare_item true true d = λ v. absurd (never (same_key k root) (key_flip k root ∙ v) e) in
-            elim (cases (has same_key k below)) [
-              | inl u ↦ (off, keeps_from below a.3 (λ x y. rw e at (q x (rw (e, u) y))), tt)
-              | inr u ↦ (off, keeps_none false below u, tt)
-            ]
-      ]
+-- A change of style that touches the box alone, and another rectangle of a box that does not clip.
+pub places-restyle : (root : Bool) (c : StyleChange) (d : Item) → whole d.style root c ≡ false → KeepsPlaces (restyle c) root d
+places-restyle root c d w =
+    let h = either (names_class c) (is_some c.border_width && clips d.style root) w in
+    let n = names_none c h.0 in
+    record {
+      above = λ i. record {
+        position = unnamed c.position d.style.position n.position i;
+        scrolled = cond (clips-changed d.style c n root i) d.scroll unscrolled;
+      };
+      bare = λ above. (λ i. bare_item true root (with_rect (scrolled_by (offset_of (unnamed c.position d.style.position n.position i) above) d.rect) (restyle c d)))
+          ∙ bare-restyle root c (with_rect (at above d) d) w;
+    }
+
+pub places-rect : (root : Bool) (r : Rectangle) (d : Item) → clips d.style root ≡ false → KeepsPlaces (with_rect r) root d
+places-rect root r d w = record {
+  above = refl;
+  bare = λ above. bare-rect root (at above (with_rect r d)) d w ∙ sym (bare-rect root (at above d) d w);
+}
 
 -- where an item is found
 item_inner : (k i : BoxKey) (d x : Item) (below rest : BoxForest) → same_key k i ≡ false → has same_key k below ≡ true → item_of same_key k below ≡ Some x → item_of same_key k (tree i d below rest) ≡ Some x

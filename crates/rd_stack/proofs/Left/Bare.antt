@@ -44,7 +44,7 @@ bare_rect gone root s r = if gone && not (clips s root) then no_pixels else r
 
 -- a box that is gone without what it alone paints, its id and its mark.
 abbrev pub bare_item : Bool → Bool → Item → Item
-bare_item gone root d = record { id = if gone then [] else d.id; rect = bare_rect gone root d.style d.rect; style = bare_style gone root d.style; touched = not gone && d.touched }
+bare_item gone root d = record { id = if gone then [] else d.id; rect = bare_rect gone root d.style d.rect; style = bare_style gone root d.style; scroll = d.scroll; touched = not gone && d.touched }
 
 module _ (gone : BoxKey → Bool) where
   -- the boxes, of which the first ones are roots or not.

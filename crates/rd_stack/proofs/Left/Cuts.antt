@@ -332,6 +332,35 @@ closed_subtree k (tree i d below rest) a =
     or_false true = refl
     or_false false = refl
 
+-- The boxes below a box are closed.
+pub closed_below : (k : BoxKey) (f : BoxForest) → IsApart same_key f → IsClosed (λ j. has same_key j (children same_key k f)) f
+closed_below k empty a = tt
+closed_below k (tree i d below rest) a =
+    elim (cases (same_key k i)) [
+      | inl e ↦
+          let s : BoxKey → Bool = λ j. has same_key j below in
+          let low : all_cut s below ≡ true = all_from_has s below (λ j u. u) in
+          let out : (j : BoxKey) → has same_key j rest ≡ true → s j ≡ false = λ j u. apart_back same_key same_key-sound same_key-refl below rest a.2 j u in
+          subst (λ b. IsClosed (λ j. has same_key j (cond b below (children same_key k below ▷ children same_key k rest))) (tree i d below rest)) (sym e) ((λ _. low), closed_all s below low, closed_none s rest out)
+      | inr e ↦
+          let s : BoxKey → Bool = λ j. has same_key j (children same_key k below ▷ children same_key k rest) in
+          let here : s i ≡ false =
+          has-join same_key same_key-sound same_key-refl i (children same_key k below) (children same_key k rest)
+          ∙ rw (out_of_children same_key same_key-sound same_key-refl i k below a.0, out_of_children same_key same_key-sound same_key-refl i k rest a.1) refl in
+          let bb : (j : BoxKey) → has same_key j below ≡ true → has same_key j (children same_key k below) ≡ s j = λ j u.
+          sym (has-join same_key same_key-sound same_key-refl j (children same_key k below) (children same_key k rest)
+          ∙ (ap (λ z. has same_key j (children same_key k below) || z) (out_of_children same_key same_key-sound same_key-refl j k rest (a.2 j u)) ∙ or_false (has same_key j (children same_key k below)))) in
+          let br : (j : BoxKey) → has same_key j rest ≡ true → has same_key j (children same_key k rest) ≡ s j = λ j u.
+          sym (has-join same_key same_key-sound same_key-refl j (children same_key k below) (children same_key k rest)
+          ∙ ap (λ z. z || has same_key j (children same_key k rest)) (out_of_children same_key same_key-sound same_key-refl j k below (apart_back same_key same_key-sound same_key-refl below rest a.2 j u))) in
+          subst (λ b. IsClosed (λ j. has same_key j (cond b below (children same_key k below ▷ children same_key k rest))) (tree i d below rest)) (sym e)
+          ((λ c. absurd (never (s i) c here)), closed_agree (λ j. has same_key j (children same_key k below)) s below bb (closed_below k below a.3), closed_agree (λ j. has same_key j (children same_key k rest)) s rest br (closed_below k rest a.4))
+    ]
+  where
+    or_false : (b : Bool) → (b || false) ≡ b
+    or_false true = refl
+    or_false false = refl
+
 -- Marks.
 module _ (cut : BoxKey → Bool) where
   -- Each box that is cut off is touched.

@@ -3,11 +3,13 @@ use Rattle.std.proofs.Common.{◌≡◌, refl, ap, ◌∙◌, sym, subst, ℕ, �
 use Rattle.std.specs.Prelude.{Option, Some, None}
 use Rattle.rd_geom.specs.Plane.{Rectangle, IsPlaced, outset}
 use Rattle.rd_style.specs.declared.styles.Style.{Style}
-use Rattle.rd_style.specs.Limits.{FitsRect, Fits}
+use Rattle.rd_style.specs.Limits.{Fits}
+use Rattle.rd_tree.specs.Limits.{IsNear}
+use Rattle.rd_tree.specs.Drawn.{AllNear}
 use Rattle.rd_keys.specs.Keys.{BoxKey, same_key}
 use Rattle.rd_tree.specs.Forest.{empty, tree, head, starting_at, from_some, size, IsApart}
 use Rattle.rd_tree.specs.declared.node.Item.{Item}
-use Rattle.rd_tree.specs.Document.{BoxForest, AllFit}
+use Rattle.rd_tree.specs.Document.{BoxForest}
 use Rattle.rd_tree.specs.Shown.{Shown, shown}
 use Rattle.rd_tree.proofs.Summaries.Extents.{extent_is_placed}
 use Rattle.rd_tree.proofs.Nodes.Looking as looking
@@ -17,17 +19,17 @@ use Rattle.rd_stack.specs.Fresh.{box_data, grouping, painted, with_below}
 use Rattle.rd_stack.specs.Painting.{Painted}
 use Rattle.rd_stack.specs.Internal.Looks.{Onward}
 
-placed_as : (q : Rectangle) (s : Style) (r : Rectangle) (t : Style) → q ≡ r → s ≡ t → FitsRect r → Fits t → IsPlaced (outset q s.outline_width)
+placed_as : (q : Rectangle) (s : Style) (r : Rectangle) (t : Style) → q ≡ r → s ≡ t → IsNear r → Fits t → IsPlaced (outset q s.outline_width)
 placed_as q s r t e h f g = rw (e, h) (extent_is_placed r t f g)
 
 -- the box that is looked at has room for its outline
-pub placed : (root : BoxKey) (f : BoxForest) (k : BoxKey) (v : Shown) → IsApart same_key f → AllFit f → Some v ≡ shown root (starting_at same_key k f) → IsPlaced (outset v.rect v.style.outline_width)
+pub placed : (root : BoxKey) (f : BoxForest) (k : BoxKey) (v : Shown) → IsApart same_key f → AllNear f → Some v ≡ shown root (starting_at same_key k f) → IsPlaced (outset v.at v.style.outline_width)
 placed root f k v a l h =
     let w = looking.onward root f k v a h in
-    let fits : AllFit (tree k w.item w.below w.rest) = subst AllFit w.is (fit_from k f l) in
-    placed_as v.rect v.style w.item.rect w.item.style w.rect w.style fits.0 fits.1
+    let fits : AllNear (tree k w.item w.below w.rest) = subst AllNear w.is (fit_from k f l) in
+    placed_as v.at v.style w.item.rect w.item.style w.at w.style fits.0 fits.1
 
-pub onward : (root : BoxKey) (f : BoxForest) (k : BoxKey) (v : Shown) (here : BoxData) → IsApart same_key f → Some v ≡ shown root (starting_at same_key k f) → here ≡ record { key = v.key; rect = v.rect; style = v.style }
+pub onward : (root : BoxKey) (f : BoxForest) (k : BoxKey) (v : Shown) (here : BoxData) → IsApart same_key f → Some v ≡ shown root (starting_at same_key k f) → here ≡ record { key = v.key; rect = v.at; style = v.style }
     → Onward f k here v.first_child v.next_sibling
 onward root f k v here a h e =
     let w = looking.onward root f k v a h in
@@ -36,7 +38,7 @@ onward root f k v here a h e =
       below = w.below;
       rest = w.rest;
       is = w.is;
-      data_is = e ∙ data_of v w.item k w.key w.rect w.style;
+      data_is = e ∙ data_of v w.item k w.key w.at w.style;
       child = w.child;
       next = w.next;
       child_first = first_is w.item w.below w.rest (shown_is w.item w.below w.rest w.is);
@@ -52,10 +54,10 @@ onward root f k v here a h e =
     shown_is : (d : Item) (below rest : BoxForest) → starting_at same_key k f ≡ tree k d below rest → Some v ≡ shown root (tree k d below rest)
     shown_is d below rest i = h ∙ ap (shown root) i
 
-    data_of : (v : Shown) (d : Item) (k : BoxKey) → v.key ≡ k → v.rect ≡ d.rect → v.style ≡ d.style → record { key = v.key; rect = v.rect; style = v.style } ≡ box_data k d
+    data_of : (v : Shown) (d : Item) (k : BoxKey) → v.key ≡ k → v.at ≡ d.rect → v.style ≡ d.style → record { key = v.key; rect = v.at; style = v.style } ≡ box_data k d
     data_of v d k p q r =
         let mk : BoxKey → Rectangle → Style → BoxData = λ x y z. record { key = x; rect = y; style = z } in
-        ap (λ x. mk x v.rect v.style) p ∙ (ap (λ y. mk k y v.style) q ∙ ap (mk k d.rect) r)
+        ap (λ x. mk x v.at v.style) p ∙ (ap (λ y. mk k y v.style) q ∙ ap (mk k d.rect) r)
 
 pub smaller_next : (f : BoxForest) (k : BoxKey) (here : BoxData) (c n : Option BoxKey) → Onward f k here c n → size (from_some same_key n f) < size (starting_at same_key k f)
 smaller_next f k here c n w = rw (w.is, w.next) (omega arith)

@@ -1,9 +1,9 @@
 -- Tiles that are copied to a canvas.
-use Rattle.std.specs.Prelude.{ℕ, ℤ, pos, ◌+◌, ◌-◌, ◌*◌, ◌/◌, ◌+ℤ◌, Bool, ◌&&◌, int_le, int_lt, nat_lt, List, get_or, Option, Some, None, unsigned_abs}
+use Rattle.std.specs.Prelude.{ℕ, ℤ, pos, ◌+◌, ◌-◌, ◌*◌, ◌/◌, ◌+ℤ◌, Bool, ◌&&◌, nat_lt, List, get_or, Option, Some, None, unsigned_abs}
 use Rattle.rd_geom.specs.Colors.{Premultiplied, clear}
 use Rattle.rd_geom.specs.Plane.{Rectangle, holds_pixel, is_among}
 use Rattle.rd_geom.specs.declared.rect.Size.{Size}
-use Rattle.rd_tiles.specs.Tiling.{Tiling, pixel_in, columns_of}
+use Rattle.rd_tiles.specs.Tiling.{pixel_in, columns_of}
 use Rattle.rd_tiles.specs.declared.tile.Tile.{Tile}
 
 -- the pixel of a tile that is in column x and row y of the canvas

@@ -9,13 +9,14 @@ use Rattle.rd_style.specs.Changes.{whole, names_any}
 use Rattle.rd_keys.specs.Keys.{same_key}
 use Rattle.rd_keys.proofs.Keys.{same_key-sound, same_key-refl}
 use Rattle.rd_tree.specs.declared.reach.Reach.TheVariants.{Nothing}
+use Rattle.rd_tree.specs.declared.scroll.Scroll.{Scroll}
 use Rattle.rd_tree.specs.Forest.{Forest, empty, tree, has, children, with_children, insert_before, insert_among, without_branch, branch, map_where, at_box, at_subtree, in_subtree, item_of, IsApart}
 use Rattle.rd_tree.specs.Document.{Document, BoxKey, Item, BoxForest, contains, with_child, with_taken}
-use Rattle.rd_tree.specs.Changes.{insertion, removal, moving, styling, placing, shifting, restyle, with_rect, shift_item, with_removed, put_elsewhere}
+use Rattle.rd_tree.specs.Changes.{insertion, removal, moving, styling, placing, shifting, scrolling, restyle, with_rect, with_scroll, shift_item, with_removed, put_elsewhere}
 use Rattle.rd_tree.specs.Touching.{reached_by, touch, edited}
 use Rattle.rd_tree.specs.Internal.Regrouping.{marked_reached}
 use Rattle.rd_tree.specs.Internal.Works.{move_by}
-use Rattle.rd_tree.specs.Internal.Reaching.{style_reach, rect_reach, touch_reached, restyled, replaced, moved}
+use Rattle.rd_tree.specs.Internal.Reaching.{style_reach, rect_reach, touch_reached, restyled, replaced, moved, scrolled}
 use Rattle.rd_tree.proofs.Linking.Standing.{cases, never}
 use Rattle.rd_tree.proofs.Nodes.Each.{has-each, children-each, join-each, each_same}
 use Rattle.rd_tree.proofs.Forests.EachBranch.{branch-each, without_branch-each, each_none, within_subtree, without_branch-within}
@@ -160,6 +161,26 @@ edited-placing k r t = ap (λ f. record t { boxes = f }) (unregrouped (reached_b
 
   by : (o : Option Item) → map_where (λ j. option_map_or (λ d. cond (clips d.style root) (in_subtree same_key j k t.boxes) (same_key j k)) o false) touch g
       ≡ touch_reached (option_map_or (λ d. rect_reach d.style root) o Nothing) k g
+  by None = no-each touch g
+  by (Some d) = known d (clips d.style root) refl
+
+-- Another scroll offset: what is below the box is touched, where it clips.
+pub edited-scrolling : (k : BoxKey) (s : Scroll) (t : Document) → edited (scrolling k s) t
+    ≡ record t { boxes = scrolled t.root k s t.boxes }
+edited-scrolling k s t = ap (λ f. record t { boxes = f }) (unregrouped (reached_by (scrolling k s) t) g ∙ by (item_of same_key k t.boxes)) where
+  g : BoxForest
+  g = at_box same_key k (with_scroll s) t.boxes
+
+  root : Bool
+  root = same_key k t.root
+
+  known : (d : Item) (w : Bool) → clips d.style root ≡ w → map_where (λ j. clips d.style root && has same_key j (children same_key k t.boxes)) touch g
+      ≡ cond (clips d.style root) (map_where (λ j. has same_key j (children same_key k t.boxes)) touch g) g
+  known d true e = rw e refl
+  known d false e = rw e (no-each touch g)
+
+  by : (o : Option Item) → map_where (λ j. option_map_or (λ d. clips d.style root && has same_key j (children same_key k t.boxes)) o false) touch g
+      ≡ cond (option_map_or (λ d. clips d.style root) o false) (map_where (λ j. has same_key j (children same_key k t.boxes)) touch g) g
   by None = no-each touch g
   by (Some d) = known d (clips d.style root) refl
 

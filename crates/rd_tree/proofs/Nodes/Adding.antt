@@ -13,7 +13,8 @@ use Rattle.rd_keys.proofs.Keys.{same_key-sound, same_key-refl}
 use Rattle.rd_tree.specs.declared.node.Node as inner
 use Rattle.rd_tree.specs.Forest.{empty, tree, has, children, IsPlaceIn}
 use Rattle.rd_tree.specs.Internal.Links.{Node, ends_of, left_of, grafted}
-use Rattle.rd_style.specs.Limits.{FitsRect, Fits}
+use Rattle.rd_style.specs.Limits.{Fits}
+use Rattle.rd_tree.specs.Limits.{IsNear}
 use Rattle.rd_tree.specs.Document.{BoxKey, Item, named, with_taken}
 use Rattle.rd_tree.specs.Ids.{is_id}
 use Rattle.rd_tree.specs.Internal.Linked.{plain, linked, Relinks, IsTree, seen, marks, item_at, IsIndexed, AddsText, EachFits, IsConsistent}
@@ -31,14 +32,14 @@ first_enters old new s g x e = ap (λ a. a.first) e.result
 abbrev AddsItem : BoxKey → Item → (BoxKey → Option Item) → (BoxKey → Option Item) → Type 0
 AddsItem k d old new = (j : BoxKey) → new j ≡ cond (same_key k j) (Some d) (old j)
 
-fits_added : (k : BoxKey) (d : Item) (old new : BoxKey → Option Item) → AddsItem k d old new → FitsRect d.rect → Fits d.style → EachFits old → EachFits new
+fits_added : (k : BoxKey) (d : Item) (old new : BoxKey → Option Item) → AddsItem k d old new → IsNear d.rect → Fits d.style → EachFits old → EachFits new
 fits_added k d old new more r s h j e n =
     elim (cases (same_key k j)) [
       | inl u ↦
           let q : cond (same_key k j) (Some d) (old j) ≡ Some e = sym (more j) ∙ n in
           let q2 : Some d ≡ Some e = rw u at q in
           let i : d ≡ e = cc (q2) in
-          subst (λ x. FitsRect x.rect × Fits x.style) i (r, s)
+          subst (λ x. IsNear x.rect × Fits x.style) i (r, s)
       | inr u ↦
           let q : cond (same_key k j) (Some d) (old j) ≡ Some e = sym (more j) ∙ n in
           h j e (rw u at q)
@@ -100,7 +101,7 @@ pub grow_sound : {Y S : Type 0} (a0 a1 a2 : Arena inner.Node) (root p k : BoxKey
     (String Y) BoxKey S) →
     IsConsistent a0 root ids0 → occupied a0 < 20000 → has same_key p (seen a0 root) ≡ true → IsPlaceIn same_key before (children same_key p (seen a0 root))
     → named d.id (seen a0 root) ≡ None →
-    FitsRect d.rect → Fits d.style → value a0 k.slot k.generation ≡ None →
+    IsNear d.rect → Fits d.style → value a0 k.slot k.generation ≡ None →
     Enters a0 a1 k.slot k.generation (fresh d p (left_of (linked a0) (ends_of (linked a0 p)).1 before) before) → live a1 ≡ live a0 + 1 → occupied a1
     ≡ occupied a0 + 1 → AddsText d.id k ids0 ids1 →
     Relinks a1 a2 (grafted same_key p k (left_of (linked a0) (ends_of (linked a0 p)).1 before) before (ends_of (linked a0 p)).0 (ends_of (linked a0 p)).1
@@ -126,7 +127,7 @@ grow_sound a0 a1 a2 root p k before d ids0 ids1 s room m place new_id r st free 
 
 -- The first box came in.
 pub planted_sound : {Y S : Type 0} (a0 a1 : Arena inner.Node) (k : BoxKey) (d : Item) (ids0 ids1 : HashMap (String Y) BoxKey S) →
-    a0.slots ≡ [] → a0.limit ≡ 20000 → a0.first ≡ 0 → FitsRect d.rect → Fits d.style → Enters a0 a1 k.slot k.generation (alone d) → live a1 ≡ live a0 + 1
+    a0.slots ≡ [] → a0.limit ≡ 20000 → a0.first ≡ 0 → IsNear d.rect → Fits d.style → Enters a0 a1 k.slot k.generation (alone d) → live a1 ≡ live a0 + 1
     → occupied a1 ≡ occupied a0 + 1 →
     ((i : List ℕ) → get_by_text ids0 i ≡ None) → AddsText d.id k ids0 ids1 →
     IsConsistent a1 k ids1 × (seen a1 k ≡ tree k d empty empty)
@@ -189,7 +190,7 @@ pub grown_so : {Y S : Type 0} (a0 a1 a2 : Arena inner.Node) (root p k : BoxKey) 
     S) (i : List ℕ) (v : Option BoxKey) (ends : Option BoxKey × Option BoxKey) →
     IsConsistent a0 root ids0 → occupied a0 < 20000 → has same_key p (seen a0 root) ≡ true → IsPlaceIn same_key before (children same_key p (seen a0 root))
     → named d.id (seen a0 root) ≡ None →
-    FitsRect d.rect → Fits d.style → i ≡ d.id → v ≡ left_of (linked a0) ends.1 before → ends ≡ ends_of (linked a0 p) →
+    IsNear d.rect → Fits d.style → i ≡ d.id → v ≡ left_of (linked a0) ends.1 before → ends ≡ ends_of (linked a0 p) →
     Enters a0 a1 k.slot k.generation (fresh (record d { id = i }) p v before) → AddsText i k ids0 ids1 →
     Relinks a1 a2 (grafted same_key p k v before ends.0 ends.1 (linked a1)) →
     IsConsistent a2 root ids1 × GrownTree a0 a2 root p k before d × (marks a2 ≡ with_taken (marks a0) k)

@@ -6,7 +6,8 @@ use Rattle.rd_keys.specs.Keys.{same_key}
 use Rattle.rd_keys.specs.Arena.{Arena}
 use Rattle.rd_keys.proofs.Keys.{same_key-sound, same_key-refl}
 use Rattle.rd_keys.proofs.Calls.{live_occupied}
-use Rattle.rd_style.specs.Limits.{FitsRect, Fits}
+use Rattle.rd_style.specs.Limits.{Fits}
+use Rattle.rd_tree.specs.Limits.{IsNear}
 use Rattle.rd_tree.specs.declared.node.Node as inner
 use Rattle.rd_tree.specs.Forest.{Forest, empty, tree, size, ◌▷◌, has, children, map_where, is_among, AllItems, IsPlaceIn, IsApart}
 use Rattle.rd_tree.specs.Internal.Links.{Node, node, with_item, Stands, on_each, child_and_sibling}
@@ -160,18 +161,18 @@ module _ (p : BoxKey → Bool) (g : Item → Item) (at bt : BoxKey → Option It
         ap is_id i ∙ x.are k o.0 o.1;
   }
 
-  fits_each : ((k : BoxKey) (d : Item) → at k ≡ Some d → p k ≡ true → FitsRect (g d).rect × Fits (g d).style) → EachFits at → EachFits bt
+  fits_each : ((k : BoxKey) (d : Item) → at k ≡ Some d → p k ≡ true → IsNear (g d).rect × Fits (g d).style) → EachFits at → EachFits bt
   fits_each fit x k d h =
       let o : (e : Item) × (at k ≡ Some e) × (d ≡ cond (p k) (g e) e) = old_item (p k) (at k) d (sym (more k) ∙ h) in
-      subst (λ x. FitsRect x.rect × Fits x.style) (sym o.2) (fits_at (p k) o.0 refl o.1) where
-        fits_at : (c : Bool) (e : Item) → p k ≡ c → at k ≡ Some e → FitsRect (cond c (g e) e).rect × Fits (cond c (g e) e).style
+      subst (λ x. IsNear x.rect × Fits x.style) (sym o.2) (fits_at (p k) o.0 refl o.1) where
+        fits_at : (c : Bool) (e : Item) → p k ≡ c → at k ≡ Some e → IsNear (cond c (g e) e).rect × Fits (cond c (g e) e).style
         fits_at true e u h = fit k e h u
         fits_at false e u h = x k e h
 
 -- Changes of items that keep ids and limits keep all that a tree keeps.
 pub each_sound : {Y S : Type 0} (a b : Arena inner.Node) (root : BoxKey) (ids : HashMap (String Y) BoxKey S) (p : BoxKey → Bool) (g : Item → Item) →
     IsConsistent a root ids → Relinks a b (on_each p g (linked a)) → ((d : Item) → (g d).id ≡ d.id) → ((k : BoxKey) (d : Item) → item_at a k ≡ Some d → p k
-    ≡ true → FitsRect (g d).rect × Fits (g d).style) → IsConsistent b root ids
+    ≡ true → IsNear (g d).rect × Fits (g d).style) → IsConsistent b root ids
 each_sound a b root ids p g s r same_id fit = record {
   tree = (each_tree a b root p g s.tree r).0;
   indexed = indexed_each p g (item_at a) (item_at b) (item-each p g a b r) ids same_id s.indexed;

@@ -9,7 +9,8 @@ use Rattle.rd_keys.proofs.Keys.{same_key-sound, same_key-refl}
 use Rattle.rd_geom.specs.Plane.{Rectangle}
 use Rattle.rd_style.specs.declared.styles.StyleChange.{StyleChange}
 use Rattle.rd_style.specs.Changes.{changed}
-use Rattle.rd_style.specs.Limits.{FitsRect, Fits}
+use Rattle.rd_style.specs.Limits.{Fits}
+use Rattle.rd_tree.specs.Limits.{IsNear}
 use Rattle.rd_tree.specs.declared.node.Node as inner
 use Rattle.rd_tree.specs.declared.reach.Reach.{Reach}
 use Rattle.rd_tree.specs.declared.reach.Reach.TheVariants.{Nothing, Alone, Subtree}
@@ -17,15 +18,15 @@ use Rattle.rd_tree.specs.declared.links.walk.Work.TheVariants.{Shift}
 use Rattle.rd_tree.specs.Forest.{empty, tree, has, children, top, starting_at, map_where, at_box, at_subtree, AllItems, IsApart}
 use Rattle.rd_tree.specs.Internal.Links.{Node, with_item, Stands, edit, on_each, child_and_sibling}
 use Rattle.rd_tree.specs.Document.{BoxKey, Item, BoxForest}
-use Rattle.rd_tree.specs.Internal.Linked.{linked, Relinks, IsTree, seen, seen_from, item_at, EachFits, IsConsistent}
+use Rattle.rd_tree.specs.Internal.Linked.{linked, Relinks, IsTree, seen, seen_from, item_at, IsConsistent}
 use Rattle.rd_tree.specs.Touching.{touch, settled}
 use Rattle.rd_tree.specs.Internal.Works.{move_by, Allows}
 use Rattle.rd_tree.specs.Changes.{shifted}
-use Rattle.rd_tree.specs.Internal.Works.{AllowsAt, FitsAt, ShiftFitsAt}
+use Rattle.rd_tree.specs.Internal.Works.{AllowsAt}
 use Rattle.rd_tree.specs.Internal.Reaching.{reached}
 use Rattle.rd_tree.specs.Internal.Reaching.{touch_reached}
 use Rattle.rd_tree.specs.Changes.{restyle, with_rect, CanRestyle}
-use Rattle.rd_tree.specs.Internal.Works.{ShiftFits}
+use Rattle.rd_tree.specs.Internal.Works.{ShiftNear}
 use Rattle.rd_tree.proofs.Linking.Standing.{never}
 use Rattle.rd_tree.proofs.Forests.Under.{which}
 use Rattle.rd_tree.proofs.Linking.Children.{stands_children}
@@ -69,7 +70,7 @@ styled a b root k ids c s can r =
     )
 
 pub put : {Y S : Type 0} (a b : Arena inner.Node) (root k : BoxKey) (ids : HashMap (String Y) BoxKey S) (q : Rectangle) → IsConsistent a root ids
-    → FitsRect q → Relinks a b (edit same_key k (with_item (with_rect q)) (linked a)) →
+    → IsNear q → Relinks a b (edit same_key k (with_item (with_rect q)) (linked a)) →
     IsConsistent b root ids × (seen b root ≡ at_box same_key k (with_rect q) (seen a root))
 put a b root k ids q s fit r =
     let e : Relinks a b (on_each (λ j. same_key j k) (with_rect q) (linked a)) = edit_each a b k (with_rect q) r in (
@@ -116,7 +117,7 @@ items_in P at up prev (tree k e below rest) first last after j d s all m i =
     ]
 
 pub shift_sound : {Y S : Type 0} (a b : Arena inner.Node) (root k : BoxKey) (ids : HashMap (String Y) BoxKey S) (dx dy : ℤ) → IsConsistent a root ids
-    → has same_key k (seen a root) ≡ true → ShiftFits dx dy k (seen a root) →
+    → has same_key k (seen a root) ≡ true → ShiftNear dx dy k (seen a root) →
     Relinks a b (on_each (λ j. same_key j k || has same_key j (seen_from a (child_and_sibling (linked a k)).0)) (move_by dx dy) (linked a))
     → IsConsistent b root ids × (seen b root ≡ at_subtree same_key k (move_by dx dy) (seen a root))
 shift_sound a b root k ids dx dy s m can r =
@@ -127,14 +128,14 @@ shift_sound a b root k ids dx dy s m can r =
     × IsApart same_key (children same_key k s.tree.boxes) × (has same_key k (children same_key k s.tree.boxes) ≡ false) =
     stands_children same_key same_key-sound same_key-refl (linked a) None None s.tree.boxes (Some root) (Some root) None k s.tree.is.apart s.tree.is.stands
     (subst (λ f. has same_key k f ≡ true) e m) in
-    let all : AllItems (λ d. FitsRect (shifted dx dy d.rect)) (children same_key k s.tree.boxes) = subst (λ f. AllItems (λ d. FitsRect (shifted dx dy
+    let all : AllItems (λ d. IsNear (shifted dx dy d.rect)) (children same_key k s.tree.boxes) = subst (λ f. AllItems (λ d. IsNear (shifted dx dy
     d.rect)) (children same_key k f)) e can.1 in
     let below : (j : BoxKey) → has same_key j (seen_from a (child_and_sibling (linked a k)).0) ≡ true → has same_key j (children same_key k s.tree.boxes)
     ≡ true = λ j v. sym (ap (has same_key j) (u.told ∙ ap (children same_key k) e)) ∙ v in
-    let fit : (j : BoxKey) (d : Item) → item_at a j ≡ Some d → p j ≡ true → FitsRect (shifted dx dy d.rect) × Fits d.style = λ j d i v. (
+    let fit : (j : BoxKey) (d : Item) → item_at a j ≡ Some d → p j ≡ true → IsNear (shifted dx dy d.rect) × Fits d.style = λ j d i v. (
       elim (which (same_key j k) (has same_key j (seen_from a (child_and_sibling (linked a k)).0)) v) [
-        | inl w ↦ of_item a root k j (λ d. FitsRect (shifted dx dy d.rect)) d s.tree can.0 w i
-        | inr w ↦ items_in (λ d. FitsRect (shifted dx dy d.rect)) (linked a) (Some k) None (children same_key k s.tree.boxes) c.0.first c.0.last None j d
+        | inl w ↦ of_item a root k j (λ d. IsNear (shifted dx dy d.rect)) d s.tree can.0 w i
+        | inr w ↦ items_in (λ d. IsNear (shifted dx dy d.rect)) (linked a) (Some k) None (children same_key k s.tree.boxes) c.0.first c.0.last None j d
             c.2 all (below j w) i
       ],
       (s.fits j d i).1,
@@ -144,14 +145,14 @@ shift_sound a b root k ids dx dy s m can r =
     )
 
 -- What is asked before a shift.
-pub shift_allowed : (a : Arena inner.Node) (root k : BoxKey) (dx dy : ℤ) → IsTree a root → has same_key k (seen a root) ≡ true → ShiftFits dx dy k
+pub shift_allowed : (a : Arena inner.Node) (root k : BoxKey) (dx dy : ℤ) → IsTree a root → has same_key k (seen a root) ≡ true → ShiftNear dx dy k
     (seen a root) →
     AllowsAt (Shift dx dy) (linked a k) × AllItems (Allows (Shift dx dy)) (seen_from a (child_and_sibling (linked a k)).0)
 shift_allowed a root k dx dy t m can =
     (here (linked a k) refl, subst (λ f. AllItems (Allows (Shift dx dy)) f) (sym (under_box a root k t m).told) can.1) where
       here : (o : Option (Node BoxKey Item)) → linked a k ≡ o → AllowsAt (Shift dx dy) o
       here None e = tt
-      here (Some n) e = of_item a root k k (λ d. FitsRect (shifted dx dy d.rect)) n.item t can.0 (same_key-refl k) (ap (option_map (λ n. n.item)) e)
+      here (Some n) e = of_item a root k k (λ d. IsNear (shifted dx dy d.rect)) n.item t can.0 (same_key-refl k) (ap (option_map (λ n. n.item)) e)
 
 pub settled_sound : {Y S : Type 0} (a b : Arena inner.Node) (root : BoxKey) (ids : HashMap (String Y) BoxKey S) → IsConsistent a root ids → Relinks a b
     (on_each (λ j. has same_key j (seen_from a (Some root))) settled (linked a)) →
@@ -172,56 +173,3 @@ pub reach_of : (a : Arena inner.Node) (root k : BoxKey) (r : Reach) (b : Bool) (
     r ≡ option_map_or (h (same_key k root)) (top (starting_at same_key k (seen a root))) Nothing
 reach_of a root k r b h t e is = is ∙ (ap (λ c. option_map_or (h c) (item_at a k) Nothing) e ∙ ap (λ o. option_map_or (h (same_key k root)) o Nothing)
     (item_seen a root k t))
-
-rects_fit : (at : BoxKey → Option (Node BoxKey Item)) (up prev : Option BoxKey) (f : BoxForest) (first last after : Option BoxKey)
-    → Stands at up prev f first last after → EachFits (λ k. option_map (λ n. n.item) (at k)) → AllItems (λ d. FitsRect d.rect) f
-rects_fit at up prev empty first last after s h = tt
-rects_fit at up prev (tree k d below rest) first last after s h = (
-  (h k d (rw s.4 refl)).0,
-  rects_fit at (Some k) None below s.0 s.1 None s.5 h,
-  rects_fit
-      at up (Some k) rest s.2 last after s.6 h,
-)
-
-pub below_fits : {Y S : Type 0} (a : Arena inner.Node) (root k : BoxKey) (ids : HashMap (String Y) BoxKey S) → IsConsistent a root ids → has same_key k
-    (seen a root) ≡ true → AllItems (λ d. FitsRect d.rect) (seen_from a (child_and_sibling (linked a k)).0)
-below_fits a root k ids s m =
-    let u : Under a root k (child_and_sibling (linked a k)).0 = under_box a root k s.tree m in
-    let e : seen a root ≡ s.tree.boxes = seen_is a root s.tree in
-    let c : (y : Node BoxKey Item) × (linked a k ≡ Some y) × Stands (linked a) (Some k) None (children same_key k s.tree.boxes) y.first y.last None
-    × IsApart same_key (children same_key k s.tree.boxes) × (has same_key k (children same_key k s.tree.boxes) ≡ false) =
-    stands_children same_key same_key-sound same_key-refl (linked a) None None s.tree.boxes (Some root) (Some root) None k s.tree.is.apart s.tree.is.stands
-    (subst (λ f. has same_key k f ≡ true) e m) in
-    subst (λ f. AllItems (λ d. FitsRect d.rect) f) (sym (u.told ∙ ap (children same_key k) e)) (rects_fit (linked a) (Some k) None (children same_key k
-    s.tree.boxes) c.0.first c.0.last None c.2 s.fits)
-
-pub rect_fits : {Y S : Type 0} (a : Arena inner.Node) (root k : BoxKey) (ids : HashMap (String Y) BoxKey S) → IsConsistent a root ids → FitsAt (linked a k)
-rect_fits a root k ids s = at (linked a k) refl where
-  at : (o : Option (Node BoxKey Item)) → linked a k ≡ o → FitsAt o
-  at None e = tt
-  at (Some n) e = (s.fits k n.item (ap (option_map (λ n. n.item)) e)).0
-
--- What the two parts of a test of a shift say.
-pub can_shift : (a : Arena inner.Node) (root k : BoxKey) (dx dy : ℤ) (o : Option BoxKey) → IsTree a root → has same_key k (seen a root) ≡ true → o
-    ≡ (child_and_sibling (linked a k)).0 →
-    ShiftFitsAt dx dy (linked a k) → AllItems (λ d. FitsRect (shifted dx dy d.rect)) (seen_from a o) → ShiftFits dx dy k (seen a root)
-can_shift a root k dx dy o t m e here all = (
-  subst (λ q. IfSome q (λ d. FitsRect (shifted dx dy d.rect))) (item_seen a root k t) (at (linked a k) here),
-  subst (λ f. AllItems (λ d. FitsRect
-      (shifted dx dy d.rect)) f) (ap (seen_from a) e ∙ (under_box a root k t m).told) all,
-) where
-  at : (q : Option (Node BoxKey Item)) → ShiftFitsAt dx dy q → IfSome (option_map (λ n. n.item) q) (λ d. FitsRect (shifted dx dy d.rect))
-  at None h = tt
-  at (Some n) h = h
-
-pub shift_parts : (a : Arena inner.Node) (root k : BoxKey) (dx dy : ℤ) (o : Option BoxKey) → IsTree a root → has same_key k (seen a root) ≡ true → o
-    ≡ (child_and_sibling (linked a k)).0 →
-    ShiftFits dx dy k (seen a root) → ShiftFitsAt dx dy (linked a k) × AllItems (λ d. FitsRect (shifted dx dy d.rect)) (seen_from a o)
-shift_parts a root k dx dy o t m e can = (
-  at (linked a k) (subst (λ q. IfSome q (λ d. FitsRect (shifted dx dy d.rect))) (sym (item_seen a root k t)) can.0),
-  subst (λ f. AllItems (λ d. FitsRect
-      (shifted dx dy d.rect)) f) (sym (ap (seen_from a) e ∙ (under_box a root k t m).told)) can.1,
-) where
-  at : (q : Option (Node BoxKey Item)) → IfSome (option_map (λ n. n.item) q) (λ d. FitsRect (shifted dx dy d.rect)) → ShiftFitsAt dx dy q
-  at None h = tt
-  at (Some n) h = h

@@ -7,7 +7,8 @@ use Rattle.rd_keys.proofs.Keys.{same_key-sound, same_key-refl}
 use Rattle.rd_tree.specs.declared.node.Node as inner
 use Rattle.rd_tree.specs.Forest.{Forest, empty, tree, has, head, starting_at, from_some, IsApart}
 use Rattle.rd_tree.specs.Internal.Links.{Node, node, Stands}
-use Rattle.rd_tree.specs.Document.{BoxKey, Item, BoxForest, AllFit}
+use Rattle.rd_tree.specs.Document.{BoxKey, Item, BoxForest}
+use Rattle.rd_tree.specs.Drawn.{AllNear}
 use Rattle.rd_tree.specs.Internal.Linked.{plain, linked, IsTree, seen, shown_of}
 use Rattle.rd_tree.specs.Shown.{Shown, shown}
 use Rattle.rd_tree.proofs.Linking.Standing.{cases, refute, never, either, from_left, from_right, differs, apart_back}
@@ -163,7 +164,8 @@ shown_begins root k x row blend f b table layers =
     let v : Option BoxKey → Option BoxKey → Summary → Bool → Option Shown = λ o n y q.
     Some (record {
       key = k;
-      rect = x.item.rect;
+      at = x.item.rect;
+      scroll = x.item.scroll;
       style = x.item.style;
       is_root = same_key k root;
       children = y.children;
@@ -206,7 +208,7 @@ looks a root k row blend t table layers = looked (value a k.slot k.generation) r
       shown_begins root k x row blend (starting_at same_key k t.boxes) b r l ∙ ap (λ f. shown root (starting_at same_key k f)) (sym e)
 
 -- The boxes from one on are within the limits where all are.
-pub fit_from : (k : BoxKey) (f : BoxForest) → AllFit f → AllFit (starting_at same_key k f)
+pub fit_from : (k : BoxKey) (f : BoxForest) → AllNear f → AllNear (starting_at same_key k f)
 fit_from k empty a = tt
 fit_from k (tree j d below rest) a =
     elim (cases (same_key k j)) [
@@ -221,7 +223,7 @@ pub record Onward (root : BoxKey) (f : BoxForest) (k : BoxKey) (v : Shown) : Typ
   pub rest : BoxForest
   pub is : starting_at same_key k f ≡ tree k item below rest
   pub key : v.key ≡ k
-  pub rect : v.rect ≡ item.rect
+  pub at : v.at ≡ item.rect
   pub style : v.style ≡ item.style
   pub touched : v.touched ≡ item.touched
   pub blends : v.blend_below ≡ blends_in below
@@ -252,7 +254,8 @@ onward root f k v a h = at (starting_at same_key k f) refl h where
       let i : k ≡ j = from_begins f k j d below rest e in
       let w : Shown = record {
         key = j;
-        rect = d.rect;
+        at = d.rect;
+        scroll = d.scroll;
         style = d.style;
         is_root = same_key j root;
         children = breadth below;
@@ -270,7 +273,7 @@ onward root f k v a h = at (starting_at same_key k f) refl h where
         rest = rest;
         is = subst (λ u. starting_at same_key k f ≡ tree u d below rest) (sym i) e;
         key = sym i;
-        rect = refl;
+        at = refl;
         style = refl;
         touched = refl;
         blends = refl;

@@ -11,9 +11,11 @@ use Rattle.rd_keys.proofs.Keys.{same_key-sound, same_key-refl}
 use Rattle.rd_tree.specs.declared.node.Node as inner
 use Rattle.rd_tree.specs.Forest.{empty, tree, has, starting_at, top, children, IsApart}
 use Rattle.rd_tree.specs.Internal.Links.{Node, Stands}
-use Rattle.rd_style.specs.Limits.{FitsRect, Fits}
-use Rattle.rd_tree.specs.Document.{BoxKey, Item, BoxForest, or_else, named, AllFit, HasIds, id_of}
+use Rattle.rd_style.specs.Limits.{Fits}
+use Rattle.rd_tree.specs.Limits.{IsNear}
+use Rattle.rd_tree.specs.Document.{BoxKey, Item, BoxForest, or_else, named, HasIds, id_of}
 use Rattle.rd_tree.specs.Ids.{is_id}
+use Rattle.rd_tree.specs.Drawn.{AllNear}
 use Rattle.rd_tree.specs.Internal.Linked.{linked, IsLinked, IsTree, seen, item_at, IsIndexed, EachFits, IsConsistent}
 use Rattle.rd_tree.proofs.Linking.Standing.{cases, never, refute, from_left, from_right}
 use Rattle.rd_tree.proofs.Linking.Children.{stands_children}
@@ -138,10 +140,10 @@ item_is a root f k l = at (linked a k) refl where
       rw b.is refl
 
 all_fit : (at : BoxKey → Option (Node BoxKey Item)) (up prev : Option BoxKey) (f : BoxForest) (first last after : Option BoxKey)
-    → Stands at up prev f first last after → EachFits (λ k. option_map (λ n. n.item) (at k)) → AllFit f
+    → Stands at up prev f first last after → EachFits (λ k. option_map (λ n. n.item) (at k)) → AllNear f
 all_fit at up prev empty first last after s h = tt
 all_fit at up prev (tree k d below rest) first last after s h =
-    let t : FitsRect d.rect × Fits d.style = h k d (rw s.4 refl) in
+    let t : IsNear d.rect × Fits d.style = h k d (rw s.4 refl) in
     (t.0, t.1, all_fit at (Some k) None below s.0 s.1 None s.5 h, all_fit at up (Some k) rest s.2 last after s.6 h)
 
 -- What the fields of a tree say of the boxes that are seen.
@@ -152,8 +154,8 @@ named_seen a root ids i s = sym (ap (named i) (seen_is a root s.tree) ∙ named_
 pub item_seen : (a : Arena inner.Node) (root k : BoxKey) → IsTree a root → item_at a k ≡ top (starting_at same_key k (seen a root))
 item_seen a root k t = sym (ap (λ f. top (starting_at same_key k f)) (seen_is a root t) ∙ item_is a root t.boxes k t.is)
 
-pub fits_seen : {Y S : Type 0} (a : Arena inner.Node) (root : BoxKey) (ids : HashMap (String Y) BoxKey S) → IsConsistent a root ids → AllFit (seen a root)
-fits_seen a root ids s = subst AllFit (sym (seen_is a root s.tree)) (all_fit (linked a) None None s.tree.boxes (Some root) (Some root) None
+pub fits_seen : {Y S : Type 0} (a : Arena inner.Node) (root : BoxKey) (ids : HashMap (String Y) BoxKey S) → IsConsistent a root ids → AllNear (seen a root)
+fits_seen a root ids s = subst AllNear (sym (seen_is a root s.tree)) (all_fit (linked a) None None s.tree.boxes (Some root) (Some root) None
     s.tree.is.stands s.fits)
 
 -- The ids of a tree are ids, and differ.

@@ -1,5 +1,5 @@
 -- Work on a box, on those below it, and on its later siblings.
-use Rattle.std.proofs.Common.{◌≡◌, refl, ap, ◌∙◌, sym, subst, ℤ, ℕ, zero, suc, max, ◌+◌, ◌<◌, ◌≤◌, Bool, true, false, ◌||◌, ◌&&◌, not, cond, arith, inl, inr}
+use Rattle.std.proofs.Common.{◌≡◌, refl, ap, ◌∙◌, sym, subst, ℤ, ℕ, zero, suc, max, List, length, ◌+◌, ◌<◌, ◌≤◌, Bool, true, false, ◌||◌, ◌&&◌, not, cond, arith, inl, inr}
 use Rattle.std.proofs.Common.{nat_cmp}
 use Rattle.std.proofs.Math.Dec.{ltb}
 use Rattle.std.proofs.lemmas.Bool.{ltb-true, ltb-false}
@@ -17,9 +17,12 @@ use Rattle.rd_tree.specs.Document.{BoxKey, Item, BoxForest}
 use Rattle.rd_tree.specs.Internal.Linked.{linked, Relinks, IsRead, seen_from}
 use Rattle.rd_tree.specs.Internal.Works.{done, Allows}
 use Rattle.rd_tree.specs.Changes.{shifted}
-use Rattle.rd_tree.specs.Internal.Works.{AllowsAt, FitsAt, ShiftFitsAt}
+use Rattle.rd_tree.specs.Internal.Works.{AllowsAt}
+use Rattle.rd_tree.specs.declared.handed.Handed.{Handed}
+use Rattle.rd_tree.specs.Internal.Hands.{hand_at, HasHands}
+use Rattle.rd_tree.specs.Internal.Laid.{laid_at, laid_by, LaidFitsAt, ShiftFitsAt}
 use Rattle.rd_tree.proofs.Linking.Standing as standing
-use Rattle.rd_tree.proofs.Linking.Standing.{cases, never, from_right, frame, agree_edit, agree_at, read-stands, differs_back, apart_back}
+use Rattle.rd_tree.proofs.Linking.Standing.{cases, from_left, from_right, frame, agree_edit, agree_at, read-stands, differs_back, apart_back}
 
 pub flip : (i j : BoxKey) → same_key i j ≡ same_key j i
 flip i j = standing.flip same_key same_key-sound same_key-refl i j
@@ -313,32 +316,39 @@ worked_below a a1 a2 k g f n r1 r2 = record {
   once g o false low h = refl
 
 -- The loop has found that those boxes fit that are told from the first one on, and no more from this one on.
-pub record Fitted (P : Item → Type 0) (a : Arena inner.Node) (first at : Option BoxKey) : Type 0 where
+pub record Fitted (P : Item → Type 0) (rows : List Handed) (a : Arena inner.Node) (first at : Option BoxKey) : Type 0 where
   pub read : IsRead a at
-  pub fits : AllItems (λ d. FitsRect d.rect) (seen_from a at)
-  pub back : AllItems P (seen_from a at) → AllItems P (seen_from a first)
-  pub forth : AllItems P (seen_from a first) → AllItems P (seen_from a at)
+  pub fits : AllItems (λ d. FitsRect d.rect) (laid_by rows (seen_from a at))
+  pub has_rows : HasHands rows (seen_from a at)
+  pub back : AllItems P (laid_by rows (seen_from a at)) → AllItems P (laid_by rows (seen_from a first))
+  pub forth : AllItems P (laid_by rows (seen_from a first)) → AllItems P (laid_by rows (seen_from a at))
   pub smaller : size (seen_from a at) ≤ size (seen_from a first)
 
 -- what a step over one box tells
-pub record FittedStep (P : Item → Type 0) (a : Arena inner.Node) (first : Option BoxKey) (k : BoxKey) (x z : Option BoxKey) : Type 0 where
+pub record FittedStep (P : Item → Type 0) (rows : List Handed) (a : Arena inner.Node) (first : Option BoxKey) (k : BoxKey) (x z : Option BoxKey) : Type 0 where
   pub read : IsRead a x
-  pub fits : AllItems (λ d. FitsRect d.rect) (seen_from a x)
+  pub fits : AllItems (λ d. FitsRect d.rect) (laid_by rows (seen_from a x))
+  pub has_rows : HasHands rows (seen_from a x)
   pub smaller : size (seen_from a x) < size (seen_from a first)
   pub later : size (seen_from a z) < size (seen_from a (Some k))
-  pub here : (n : Node BoxKey Item) → linked a k ≡ Some n → AllItems P (seen_from a first) → P n.item
-  pub below : AllItems P (seen_from a first) → AllItems P (seen_from a x)
-  pub next : ((n : Node BoxKey Item) → linked a k ≡ Some n → P n.item) → AllItems P (seen_from a x) → Fitted P a first z
+  pub here : (n : Node BoxKey Item) → linked a k ≡ Some n → AllItems P (laid_by rows (seen_from a first)) → P (laid_at (hand_at rows k) n.item)
+  pub below : AllItems P (laid_by rows (seen_from a first)) → AllItems P (laid_by rows (seen_from a x))
+  pub next : ((n : Node BoxKey Item) → linked a k ≡ Some n → P (laid_at (hand_at rows k) n.item)) → AllItems P (laid_by rows (seen_from a x)) → Fitted P rows a first z
 
-pub here_fits : (P : Item → Type 0) (a : Arena inner.Node) (first : Option BoxKey) (k : BoxKey) → Fitted P a first (Some k) → FitsAt (linked a k)
-here_fits P a first k w =
+pub here_row : (P : Item → Type 0) (rows : List Handed) (a : Arena inner.Node) (first : Option BoxKey) (k : BoxKey) → Fitted P rows a first (Some k) → k.slot < length rows
+here_row P rows a first k w =
     let h : Here a k = here a k w.read in
-    let all : AllItems (λ d. FitsRect d.rect) (tree k h.item h.below h.rest) = subst (λ f. AllItems (λ d. FitsRect d.rect) f) h.seen w.fits in
-    subst FitsAt (sym h.found) all.0
+    w.has_rows k (ap (has same_key k) h.seen ∙ from_left (same_key k k) (has same_key k h.below || has same_key k h.rest) (same_key-refl k))
 
-pub fitted_step : (P : Item → Type 0) (a : Arena inner.Node) (first : Option BoxKey) (k : BoxKey) (x z : Option BoxKey) → Fitted P a first (Some k)
-    → (x, z) ≡ child_and_sibling (linked a k) → FittedStep P a first k x z
-fitted_step P a first k x z w e =
+pub here_fits : (P : Item → Type 0) (rows : List Handed) (a : Arena inner.Node) (first : Option BoxKey) (k : BoxKey) → Fitted P rows a first (Some k) → LaidFitsAt (hand_at rows k) (linked a k)
+here_fits P rows a first k w =
+    let h : Here a k = here a k w.read in
+    let all : AllItems (λ d. FitsRect d.rect) (laid_by rows (tree k h.item h.below h.rest)) = subst (λ f. AllItems (λ d. FitsRect d.rect) (laid_by rows f)) h.seen w.fits in
+    subst (LaidFitsAt (hand_at rows k)) (sym h.found) all.0
+
+pub fitted_step : (P : Item → Type 0) (rows : List Handed) (a : Arena inner.Node) (first : Option BoxKey) (k : BoxKey) (x z : Option BoxKey) → Fitted P rows a first (Some k)
+    → (x, z) ≡ child_and_sibling (linked a k) → FittedStep P rows a first k x z
+fitted_step P rows a first k x z w e =
     let h : Here a k = here a k w.read in
     let ex : x ≡ h.x = ap (λ o. o.0) e ∙ ap (λ o. (child_and_sibling o).0) h.found in
     let ez : z ≡ h.z = ap (λ o. o.1) e ∙ ap (λ o. (child_and_sibling o).1) h.found in
@@ -364,49 +374,53 @@ fitted_step P a first k x z w e =
     } in
     let sl : seen_from a h.x ≡ h.below = seen_read a h.x low in
     let sr : seen_from a h.z ≡ h.rest = seen_read a h.z later in
-    let all : AllItems (λ d. FitsRect d.rect) (tree k h.item h.below h.rest) = subst (λ f. AllItems (λ d. FitsRect d.rect) f) h.seen w.fits in
+    let all : AllItems (λ d. FitsRect d.rect) (laid_by rows (tree k h.item h.below h.rest)) = subst (λ f. AllItems (λ d. FitsRect d.rect) (laid_by rows f)) h.seen w.fits in
+    let in_all : (j : BoxKey) → (same_key j k || (has same_key j h.below || has same_key j h.rest)) ≡ true → j.slot < length rows = λ j u. w.has_rows j (ap (has same_key j) h.seen ∙ u) in
     let n : size (seen_from a (Some k)) ≡ 1 + (size h.below + size h.rest) = ap size h.seen in
     let m : size (seen_from a h.x) ≡ size h.below = ap size sl in
     let r : size (seen_from a h.z) ≡ size h.rest = ap size sr in
-    let parts : AllItems P (seen_from a first) → AllItems P (tree k h.item h.below h.rest) = λ v. subst (λ f. AllItems P f) h.seen (w.forth v) in
-    subst (λ o. FittedStep P a first k o z) (sym ex) (subst (λ o. FittedStep P a first k h.x o) (sym ez) (record {
+    let parts : AllItems P (laid_by rows (seen_from a first)) → AllItems P (laid_by rows (tree k h.item h.below h.rest)) = λ v. subst (λ f. AllItems P (laid_by rows f)) h.seen (w.forth v) in
+    subst (λ o. FittedStep P rows a first k o z) (sym ex) (subst (λ o. FittedStep P rows a first k h.x o) (sym ez) (record {
       read = low;
-      fits = subst (λ f. AllItems (λ d. FitsRect d.rect) f) (sym sl) all.1;
+      fits = subst (λ f. AllItems (λ d. FitsRect d.rect) (laid_by rows f)) (sym sl) all.1;
+      has_rows = λ j u. in_all j (from_right (same_key j k) (has same_key j h.below || has same_key j h.rest) (from_left (has same_key j h.below) (has same_key j h.rest)
+          (sym (ap (has same_key j) sl) ∙ u)));
       smaller = omega (arith, n, m, w.smaller);
       later = omega (arith, n, r);
-      here = λ q u v. let i : node h.item h.up h.prev h.x h.y h.z ≡ q = cc (h.found, u) in subst (λ y. P y.item) i (parts v).0;
-      below = λ v. subst (λ f. AllItems P f) (sym sl) (parts v).1;
+      here = λ q u v. let i : node h.item h.up h.prev h.x h.y h.z ≡ q = cc (h.found, u) in subst (λ y. P (laid_at (hand_at rows k) y.item)) i (parts v).0;
+      below = λ v. subst (λ f. AllItems P (laid_by rows f)) (sym sl) (parts v).1;
       next = λ p v. record {
         read = later;
-        fits = subst (λ f. AllItems (λ d. FitsRect d.rect) f) (sym sr) all.2;
-        back = λ t. w.back (subst (λ f. AllItems P f) (sym h.seen) (
+        fits = subst (λ f. AllItems (λ d. FitsRect d.rect) (laid_by rows f)) (sym sr) all.2;
+        has_rows = λ j u. in_all j (from_right (same_key j k) (has same_key j h.below || has same_key j h.rest) (from_right (has same_key j h.below) (has same_key j h.rest)
+            (sym (ap (has same_key j) sr) ∙ u)));
+        back = λ t. w.back (subst (λ f. AllItems P (laid_by rows f)) (sym h.seen) (
           p (node h.item h.up h.prev h.x h.y h.z) h.found,
-          subst (λ f. AllItems P f) sl v,
-          subst
-              (λ f. AllItems P f) sr t,
+          subst (λ f. AllItems P (laid_by rows f)) sl v,
+          subst (λ f. AllItems P (laid_by rows f)) sr t,
         ));
-        forth = λ t. subst (λ f. AllItems P f) (sym sr) (parts t).2;
+        forth = λ t. subst (λ f. AllItems P (laid_by rows f)) (sym sr) (parts t).2;
         smaller = omega (arith, n, r, w.smaller);
       };
     }))
 
 -- At a node, what is said of it and of its item.
-pub at_node : (a : Arena inner.Node) (k : BoxKey) (dx dy : ℤ) → ShiftFitsAt dx dy (linked a k) → (n : Node BoxKey Item) → linked a k ≡ Some n
-    → FitsRect (shifted dx dy n.item.rect)
-at_node a k dx dy h n e = subst (λ o. ShiftFitsAt dx dy o) e h
+pub at_node : (h : Handed) (a : Arena inner.Node) (k : BoxKey) (dx dy : ℤ) → ShiftFitsAt h dx dy (linked a k) → (n : Node BoxKey Item) → linked a k ≡ Some n
+    → FitsRect (shifted dx dy (laid_at h n.item).rect)
+at_node h a k dx dy u n e = subst (λ o. ShiftFitsAt h dx dy o) e u
 
-pub none_left : (P : Item → Type 0) (a : Arena inner.Node) (first : Option BoxKey) → Fitted P a first None → AllItems P (seen_from a first)
-none_left P a first w = w.back (subst (λ f. AllItems P f) (sym (nothing a.limit)) tt) where
+pub none_left : (P : Item → Type 0) (rows : List Handed) (a : Arena inner.Node) (first : Option BoxKey) → Fitted P rows a first None → AllItems P (laid_by rows (seen_from a first))
+none_left P rows a first w = w.back (subst (λ f. AllItems P (laid_by rows f)) (sym (nothing a.limit)) tt) where
   nothing : (n : ℕ) → read n (linked a) None ≡ empty
   nothing zero = refl
   nothing (suc n) = refl
 
-pub here_said : (a : Arena inner.Node) (k : BoxKey) (dx dy : ℤ) → ((n : Node BoxKey Item) → linked a k ≡ Some n → FitsRect (shifted dx dy n.item.rect))
-    → ShiftFitsAt dx dy (linked a k)
-here_said a k dx dy h = at (linked a k) refl where
-  at : (o : Option (Node BoxKey Item)) → linked a k ≡ o → ShiftFitsAt dx dy o
+pub here_said : (h : Handed) (a : Arena inner.Node) (k : BoxKey) (dx dy : ℤ) → ((n : Node BoxKey Item) → linked a k ≡ Some n → FitsRect (shifted dx dy (laid_at h n.item).rect))
+    → ShiftFitsAt h dx dy (linked a k)
+here_said h a k dx dy u = at (linked a k) refl where
+  at : (o : Option (Node BoxKey Item)) → linked a k ≡ o → ShiftFitsAt h dx dy o
   at None e = tt
-  at (Some n) e = h n e
+  at (Some n) e = u n e
 
 -- The loop has measured those boxes that are told from the first one on, and no more from this one on.
 pub record Measured (a : Arena inner.Node) (first at : Option BoxKey) (most : ℕ) : Type 0 where

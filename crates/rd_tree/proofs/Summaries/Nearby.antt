@@ -9,7 +9,8 @@ use Rattle.rd_tree.specs.declared.node.Node as inner
 use Rattle.rd_tree.specs.declared.table.row.Summary.{Summary}
 use Rattle.rd_tree.specs.Forest.{Forest, empty, tree, has, starting_at, children, IsApart}
 use Rattle.rd_tree.specs.Internal.Links.{Node, Stands, child_and_sibling}
-use Rattle.rd_tree.specs.Document.{BoxKey, Item, BoxForest, AllFit}
+use Rattle.rd_tree.specs.Document.{BoxKey, Item, BoxForest}
+use Rattle.rd_tree.specs.Drawn.{AllNear}
 use Rattle.rd_tree.specs.Internal.Linked.{linked, IsRead, seen_from}
 use Rattle.rd_tree.specs.Internal.Summaries.{summary_first, summary_of, summary_at, is_above}
 use Rattle.rd_tree.specs.Hulls.{extent, hull_in}
@@ -95,7 +96,7 @@ hulls_right rows (tree k d below rest) h w =
     ∙ ap (λ b. (summary_first (cond b (starting_at same_key j below) (starting_at same_key j rest))).hull) o)) in
     ap (λ r. hull_of r (hulls_by rows rest)) here ∙ ap (hull_of (hull_of (extent d) (hull_in below))) later
 
-fit_stands : (at : BoxKey → Option (Node BoxKey Item)) (up prev : Option BoxKey) (f : BoxForest) (first last after : Option BoxKey) (k : BoxKey) → AllFit f
+fit_stands : (at : BoxKey → Option (Node BoxKey Item)) (up prev : Option BoxKey) (f : BoxForest) (first last after : Option BoxKey) (k : BoxKey) → AllNear f
     → Stands at up prev f first last after → has same_key k f ≡ true → IsFitAt (at k)
 fit_stands at up prev empty first last after k h s m = absurd (never false m refl)
 fit_stands at up prev (tree j d below rest) first last after k h s m =
@@ -108,14 +109,14 @@ fit_stands at up prev (tree j d below rest) first last after k h s m =
     ]
 
 module _ (a : Arena inner.Node) (root : BoxKey) (f : BoxForest) (is : IsStanding a root f) (k : BoxKey) (m : has same_key k f ≡ true) where
-  node_of : (y : Node BoxKey Item) × (linked a k ≡ Some y) × Stands (linked a) (Some k) None (children same_key k f) y.first y.last None × IsApart same_key
+  pub node_of : (y : Node BoxKey Item) × (linked a k ≡ Some y) × Stands (linked a) (Some k) None (children same_key k f) y.first y.last None × IsApart same_key
       (children same_key k f) × (has same_key k (children same_key k f) ≡ false)
   node_of = stands_children same_key same_key-sound same_key-refl (linked a) None None f (Some root) (Some root) None k is.apart is.stands m
 
   first_is : node_of.0.first ≡ (child_and_sibling (linked a k)).0
   first_is = sym (ap (λ o. (child_and_sibling o).0) node_of.1)
 
-  pub fit_at : AllFit f → IsFitAt (linked a k)
+  pub fit_at : AllNear f → IsFitAt (linked a k)
   fit_at h = fit_stands (linked a) None None f (Some root) (Some root) None k h is.stands m
 
   low_read : IsRead a node_of.0.first

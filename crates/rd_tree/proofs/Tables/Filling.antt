@@ -11,7 +11,8 @@ use Rattle.rd_tree.specs.declared.table.row.Summary.{Summary}
 use Rattle.rd_tree.specs.declared.table.fill.Gathered.{Gathered}
 use Rattle.rd_tree.specs.Forest.{empty, tree, size, has}
 use Rattle.rd_tree.specs.Internal.Links.{child_and_sibling}
-use Rattle.rd_tree.specs.Document.{BoxKey, BoxForest, AllFit}
+use Rattle.rd_tree.specs.Document.{BoxKey, BoxForest}
+use Rattle.rd_tree.specs.Drawn.{AllNear}
 use Rattle.rd_tree.specs.Internal.Linked.{linked, IsRead, seen_from}
 use Rattle.rd_tree.specs.Internal.Summaries.{summary_of, summary_at}
 use Rattle.rd_tree.specs.Hulls.{breadth, hull_in, extent, touched_in}
@@ -40,7 +41,7 @@ hull_in_normal (tree k d below rest) = normal_hull (hull_of (extent d) (hull_in 
 -- The loop has written the rows of those boxes that are told from the first one on, and no more from this one on.
 pub record Filled (a : Arena inner.Node) (old new : List Summary) (first at : Option BoxKey) (all : Gathered) : Type 0 where
   pub read : IsRead a at
-  pub fits : AllFit (seen_from a at)
+  pub fits : AllNear (seen_from a at)
   pub has_rows : HasRows old (seen_from a at)
   pub within : (j : BoxKey) → has same_key j (seen_from a at) ≡ true → has same_key j (seen_from a first) ≡ true
   pub later : (j : BoxKey) → has same_key j (seen_from a at) ≡ true → summary_of j (seen_from a first) ≡ summary_of j (seen_from a at)
@@ -54,7 +55,7 @@ pub record Filled (a : Arena inner.Node) (old new : List Summary) (first at : Op
       at))) (summary_of k (seen_from a first)) (summary_at old k)
   pub same_length : length new ≡ length old
 
-pub filled_begun : (a : Arena inner.Node) (old : List Summary) (first : Option BoxKey) → IsRead a first → AllFit (seen_from a first) → HasRows old
+pub filled_begun : (a : Arena inner.Node) (old : List Summary) (first : Option BoxKey) → IsRead a first → AllNear (seen_from a first) → HasRows old
     (seen_from a first) → Filled a old old first first (gathered_in empty)
 filled_begun a old first r f h = record {
   read = r;
@@ -112,7 +113,7 @@ pub record BelowFill (a : Arena inner.Node) (rows : List Summary) (first : Optio
   pub smaller : size (seen_from a x) < size (seen_from a first)
   pub read : IsRead a x
   pub has_rows : HasRows rows (seen_from a x)
-  pub fits : AllFit (seen_from a x)
+  pub fits : AllNear (seen_from a x)
   pub here : k.slot < length rows
   pub fit_here : IsFitAt (linked a k)
 
@@ -144,8 +145,8 @@ module _ (a : Arena inner.Node) (old new : List Summary) (first : Option BoxKey)
   has_here : (j : BoxKey) → has same_key j (seen_from a (Some k)) ≡ (same_key j k || (has same_key j h.below || has same_key j h.rest))
   has_here j = ap (has same_key j) h.seen
 
-  fit_here : AllFit (tree k h.item h.below h.rest)
-  fit_here = subst AllFit h.seen w.fits
+  fit_here : AllNear (tree k h.item h.below h.rest)
+  fit_here = subst AllNear h.seen w.fits
 
   pub below_fill : BelowFill a new first k x
   below_fill =
@@ -160,7 +161,7 @@ module _ (a : Arena inner.Node) (old new : List Summary) (first : Option BoxKey)
           w.has_rows j (has_here j ∙ from_right (same_key j k) (has same_key j h.below || has same_key j
               h.rest) (from_left (has same_key j h.below) (has same_key j h.rest) (sym (ap (has same_key j) seen_low) ∙ u))),
         );
-        fits = subst AllFit (sym seen_low) fit_here.2;
+        fits = subst AllNear (sym seen_low) fit_here.2;
         here = omega (
           arith,
           w.same_length,
@@ -219,7 +220,7 @@ module _ (a : Arena inner.Node) (old new : List Summary) (first : Option BoxKey)
         less = omega (arith, n, m);
         next = λ new1 new2 all2 g l1 p l2 e1 e2 e3. record {
           read = subst (λ o. IsRead a o) (sym next_is) read_next;
-          fits = subst AllFit (sym seen_next) fit_here.3;
+          fits = subst AllNear (sym seen_next) fit_here.3;
           has_rows = λ j u. w.has_rows j (has_here j ∙ from_right (same_key j k) (has same_key j h.below || has same_key j h.rest) (from_right
               (has same_key j h.below) (has same_key j h.rest) (sym (ap (has same_key j) seen_next) ∙ u)));
           within = λ j u. w.within j (has_here j ∙ from_right (same_key j k) (has same_key j h.below || has same_key j h.rest) (from_right (has same_key j

@@ -132,7 +132,7 @@ module _ (rows : List Summary) (f g : BoxForest) (k : BoxKey) (a : IsApart same_
   ]
 
 -- What is below a box stays where it alone changes.
-box_kept : (h : Item → Item) (k : BoxKey) (f : BoxForest) → IsApart same_key f → children same_key k (at_box same_key k h f) ≡ children same_key k f
+pub box_kept : (h : Item → Item) (k : BoxKey) (f : BoxForest) → IsApart same_key f → children same_key k (at_box same_key k h f) ≡ children same_key k f
 box_kept h k f a = children_kept (λ i. same_key i k) h k f (λ i v. differs same_key same_key-sound same_key-refl (children same_key k f) i k v
     (not_own same_key same_key-sound same_key-refl k f a))
 

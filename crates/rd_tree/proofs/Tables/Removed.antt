@@ -12,7 +12,8 @@ use Rattle.rd_tree.specs.declared.table.row.Summary.{Summary}
 use Rattle.rd_tree.specs.declared.table.whole.Whole.{Whole}
 use Rattle.rd_tree.specs.Forest.{empty, tree, has, children, without_branch, branch, IsApart}
 use Rattle.rd_tree.specs.Internal.Links.{Node, Stands, parent_of, unlinked}
-use Rattle.rd_tree.specs.Document.{BoxKey, Item, BoxForest, Slot, AllFit, with_left, with_all_left}
+use Rattle.rd_tree.specs.Document.{BoxKey, Item, BoxForest, Slot, with_left, with_all_left}
+use Rattle.rd_tree.specs.Drawn.{AllNear}
 use Rattle.rd_tree.specs.Internal.Linked.{linked, marks, mark_of, Relinks, IsTree, IsConsistent, seen}
 use Rattle.rd_tree.specs.Internal.Summaries.{summary_of, summary_at}
 use Rattle.rd_tree.specs.Internal.Rows.{IsStanding, IsTabled, IsLosing, IsRight, CanClimb, whole_in}
@@ -72,7 +73,7 @@ is_parent a root k p t m not_root e =
 
 -- ---- the rows once a branch is cut out
 
-fit_without : (k : BoxKey) (f : BoxForest) → AllFit f → AllFit (without_branch same_key k f)
+fit_without : (k : BoxKey) (f : BoxForest) → AllNear f → AllNear (without_branch same_key k f)
 fit_without k empty h = tt
 fit_without k (tree j d below rest) h = elim (cases (same_key k j)) [
   | inl e ↦ rw e h.3
@@ -85,7 +86,7 @@ fit_without k (tree j d below rest) h = elim (cases (same_key k j)) [
   )
 ]
 
-length-left : (m : List Slot) (ks : List BoxKey) → length (with_all_left m ks) ≡ length m
+pub length-left : (m : List Slot) (ks : List BoxKey) → length (with_all_left m ks) ≡ length m
 length-left m [] = refl
 length-left m (k ∷ ks) = length-left (with_left m k) ks ∙ length-set m k.slot _
 

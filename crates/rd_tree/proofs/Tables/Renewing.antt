@@ -11,7 +11,8 @@ use Rattle.rd_tree.specs.declared.table.whole.Whole.{Whole}
 use Rattle.rd_tree.specs.declared.table.fill.Gathered.{Gathered}
 use Rattle.rd_tree.specs.Forest.{empty, tree, top, has, starting_at, children, item_of, in_subtree, branch, IsApart}
 use Rattle.rd_tree.specs.Internal.Links.{Node, Stands, child_and_sibling, parent_of}
-use Rattle.rd_tree.specs.Document.{BoxKey, Item, BoxForest, AllFit}
+use Rattle.rd_tree.specs.Document.{BoxKey, Item, BoxForest}
+use Rattle.rd_tree.specs.Drawn.{AllNear}
 use Rattle.rd_tree.specs.Internal.Linked.{linked, seen_from}
 use Rattle.rd_tree.specs.Hulls.{breadth, hull_in, extent, touched_in}
 use Rattle.rd_tree.specs.Internal.Summaries.{summary_of, summary_at, is_above}
@@ -42,10 +43,10 @@ at_most_one (Some n) = one n.item.touched where
   one false = omega arith
 
 -- All below a box are within the limits where all are.
-pub fit_children : (k : BoxKey) (f : BoxForest) → IsApart same_key f → has same_key k f ≡ true → AllFit f → AllFit (children same_key k f)
-fit_children k f a m h = subst AllFit (sym (children-from same_key same_key-sound same_key-refl k f a m)) (low (starting_at same_key k f) (fit_from k f h))
+pub fit_children : (k : BoxKey) (f : BoxForest) → IsApart same_key f → has same_key k f ≡ true → AllNear f → AllNear (children same_key k f)
+fit_children k f a m h = subst AllNear (sym (children-from same_key same_key-sound same_key-refl k f a m)) (low (starting_at same_key k f) (fit_from k f h))
   where
-    low : (g : BoxForest) → AllFit g → AllFit (below_first g)
+    low : (g : BoxForest) → AllNear g → AllNear (below_first g)
     low empty u = tt
     low (tree j d below rest) u = u.2
 

@@ -12,7 +12,8 @@ use Rattle.rd_tree.specs.Forest.{size, has, IsApart}
 use Rattle.rd_tree.specs.Internal.Links.{Node, Stands, read}
 use Rattle.rd_tree.specs.Document.{BoxKey, Item, BoxForest, Slot}
 use Rattle.rd_tree.specs.Ids.{is_id}
-use Rattle.rd_style.specs.Limits.{FitsRect, Fits}
+use Rattle.rd_style.specs.Limits.{Fits}
+use Rattle.rd_tree.specs.Limits.{IsNear}
 use Rattle.rd_tree.specs.declared.table.row.Summary.{Summary}
 use Rattle.rd_tree.specs.Shown.{Shown}
 
@@ -76,7 +77,7 @@ AddsText i k old new = (is_id i ≡ true) × ((j : List ℕ) → get_by_text new
     i j then Some k else get_by_text old j))
 
 abbrev pub EachFits : (BoxKey → Option Item) → Type 0
-EachFits at = (k : BoxKey) (d : Item) → at k ≡ Some d → FitsRect d.rect × Fits d.style
+EachFits at = (k : BoxKey) (d : Item) → at k ≡ Some d → IsNear d.rect × Fits d.style
 
 -- What the nodes, the root and the index of a tree always keep.
 pub record IsConsistent {Y S : Type 0} (a : Arena inner.Node) (root : BoxKey) (ids : HashMap
@@ -95,7 +96,8 @@ abbrev pub shown_of : BoxKey → Bool → inner.Node → Summary → Bool → Sh
 shown_of k is_root n row blend =
     record {
       key = k;
-      rect = n.item.rect;
+      at = n.item.rect;
+      scroll = n.item.scroll;
       style = n.item.style;
       is_root = is_root;
       children = row.children;

@@ -9,9 +9,10 @@ use Rattle.rd_style.specs.Changes.{whole, names_any}
 use Rattle.rd_keys.specs.Keys.{same_key}
 use Rattle.rd_tree.specs.declared.reach.Reach.{Reach}
 use Rattle.rd_tree.specs.declared.reach.Reach.TheVariants.{Nothing, Alone, Subtree}
-use Rattle.rd_tree.specs.Forest.{has, item_of, at_box, at_subtree}
+use Rattle.rd_tree.specs.declared.scroll.Scroll.{Scroll}
+use Rattle.rd_tree.specs.Forest.{has, children, item_of, at_box, at_subtree, map_where}
 use Rattle.rd_tree.specs.Document.{BoxKey, BoxForest}
-use Rattle.rd_tree.specs.Changes.{restyle, with_rect, put_elsewhere}
+use Rattle.rd_tree.specs.Changes.{restyle, with_rect, with_scroll, put_elsewhere}
 use Rattle.rd_tree.specs.Touching.{touch}
 
 abbrev pub style_reach : Style → Bool → StyleChange → Reach
@@ -45,3 +46,9 @@ replaced root k r f = touch_reached (option_map_or (λ d. rect_reach d.style (sa
 -- the boxes once k is touched with all below it, and then moved with it
 abbrev pub moved : BoxKey → BoxKey → Option BoxKey → BoxForest → BoxForest
 moved k p before f = put_elsewhere k p before (at_subtree same_key k touch f)
+
+-- the boxes once k has another scroll offset
+abbrev pub scrolled : BoxKey → BoxKey → Scroll → BoxForest → BoxForest
+scrolled root k s f = if option_map_or (λ d. clips d.style (same_key k root)) (item_of same_key k f) false
+    then map_where (λ j. has same_key j (children same_key k f)) touch (at_box same_key k (with_scroll s) f)
+    else at_box same_key k (with_scroll s) f

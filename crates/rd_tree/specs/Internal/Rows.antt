@@ -6,11 +6,13 @@ use Rattle.rd_keys.specs.Arena.{Arena}
 use Rattle.rd_tree.specs.declared.node.Node as inner
 use Rattle.rd_tree.specs.declared.table.row.Summary.{Summary}
 use Rattle.rd_tree.specs.declared.table.whole.Whole.{Whole}
-use Rattle.rd_style.specs.Limits.{FitsRect, Fits}
+use Rattle.rd_style.specs.Limits.{Fits}
+use Rattle.rd_tree.specs.Limits.{IsNear}
 use Rattle.rd_tree.specs.Figures.{max_boxes}
 use Rattle.rd_tree.specs.Forest.{empty, tree, size, has, in_subtree, IsApart}
 use Rattle.rd_tree.specs.Internal.Links.{Node, Stands, child_and_sibling}
-use Rattle.rd_tree.specs.Document.{BoxKey, Item, BoxForest, AllFit}
+use Rattle.rd_tree.specs.Document.{BoxKey, Item, BoxForest}
+use Rattle.rd_tree.specs.Drawn.{AllNear}
 use Rattle.rd_tree.specs.Internal.Linked.{linked, seen_from}
 use Rattle.rd_tree.specs.Internal.Summaries.{summary_of, summary_at, is_above}
 use Rattle.rd_tree.specs.Hulls.{extent, hull_in, touched_in}
@@ -82,7 +84,7 @@ pub record CanMove (a : Arena inner.Node) (rows : List Summary) (from : Option B
     pub is : IsStanding a root boxes
     pub there : IsIn from boxes
     pub has_rows : HasRows rows boxes
-    pub fits : AllFit boxes
+    pub fits : AllNear boxes
 
 -- From this box up each row has the hull of what is lost and of the rest, where it is to have that of what is gained and
 -- of the rest. All other rows have their hulls.
@@ -123,7 +125,7 @@ extent_under (Some n) = extent n.item
 
 abbrev pub IsFitAt : Option (Node BoxKey Item) → Type 0
 IsFitAt None = Unit {0}
-IsFitAt (Some n) = FitsRect n.item.rect × Fits n.item.style
+IsFitAt (Some n) = IsNear n.item.rect × Fits n.item.style
 
 -- the hull of a box by its own extent and by the rows of its children
 abbrev pub hull_anew_of : Arena inner.Node → List Summary → BoxKey → Rectangle
@@ -163,7 +165,7 @@ pub record CanSwap (a : Arena inner.Node) (rows : List Summary) (from : Option B
   pub is : IsStanding a root boxes
   pub there : IsIn from boxes
   pub has_rows : HasRows rows boxes
-  pub fits : AllFit boxes
+  pub fits : AllNear boxes
   pub few : a.limit ≡ max_boxes
   pub swapping : IsSwapping rows boxes from old new
 
@@ -209,7 +211,7 @@ pub record CanClimb (a : Arena inner.Node) (rows : List Summary) (p : BoxKey) (Q
   pub is : IsStanding a root boxes
   pub there : has same_key p boxes ≡ true
   pub has_rows : HasRows rows boxes
-  pub fits : AllFit boxes
+  pub fits : AllNear boxes
   pub few : a.limit ≡ max_boxes
   pub ready : Q boxes
 

@@ -1,6 +1,7 @@
 -- What is done to each box of a subtree.
 use Rattle.std.specs.Prelude.{ℤ, true, IfSome, Option, Some, None, option_map}
 use Rattle.rd_style.specs.Limits.{FitsRect}
+use Rattle.rd_tree.specs.Limits.{IsNear}
 use Rattle.rd_tree.specs.declared.links.walk.Work.{Work}
 use Rattle.rd_tree.specs.declared.links.walk.Work.TheVariants.{Touch, Settle, Shift}
 use Rattle.rd_keys.specs.Keys.{same_key}
@@ -23,7 +24,7 @@ done (Shift dx dy) d = move_by dx dy d
 abbrev pub Allows : Work → Item → Type 0
 Allows Touch d = Unit {0}
 Allows Settle d = Unit {0}
-Allows (Shift dx dy) d = FitsRect (shifted dx dy d.rect)
+Allows (Shift dx dy) d = IsNear (shifted dx dy d.rect)
 
 -- The same of the box of a node.
 abbrev pub AllowsAt : Work → Option (Node BoxKey Item) → Type 0
@@ -34,18 +35,14 @@ AllowsAt work (Some n) = Allows work n.item
 abbrev pub item_under : Option (Node BoxKey Item) → Option Item
 item_under o = option_map (λ n. n.item) o
 
--- The box of the node has a rectangle within the limits.
-abbrev pub FitsAt : Option (Node BoxKey Item) → Type 0
-FitsAt None = Unit {0}
-FitsAt (Some n) = FitsRect n.item.rect
+-- The rectangles of a box and of all below it are near once they are shifted.
+abbrev pub ShiftNear : ℤ → ℤ → BoxKey → BoxForest → Type 0
+ShiftNear dx dy k f =
+    IfSome (item_of same_key k f) (λ d. IsNear (shifted dx dy d.rect))
+    × AllItems (λ d. IsNear (shifted dx dy d.rect)) (children same_key k f)
 
 -- The rectangles of a box and of all below it are within the limits once they are shifted.
 abbrev pub ShiftFits : ℤ → ℤ → BoxKey → BoxForest → Type 0
 ShiftFits dx dy k f =
     IfSome (item_of same_key k f) (λ d. FitsRect (shifted dx dy d.rect))
     × AllItems (λ d. FitsRect (shifted dx dy d.rect)) (children same_key k f)
-
--- So it has once it is moved.
-abbrev pub ShiftFitsAt : ℤ → ℤ → Option (Node BoxKey Item) → Type 0
-ShiftFitsAt dx dy None = Unit {0}
-ShiftFitsAt dx dy (Some n) = FitsRect (shifted dx dy n.item.rect)

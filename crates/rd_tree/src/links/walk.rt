@@ -1,5 +1,5 @@
 //! Work on all boxes of a subtree.
-ghost use Rattle.std.specs.Prelude.{◌≡◌, ◌↔◌, ◌||◌, ◌≤◌, ◌+ℤ◌, ◌-ℤ◌, ◌≤ℤ◌, pos, false, IsTrue};
+ghost use Rattle.std.specs.Prelude.{◌≡◌, ◌↔◌, ◌&&◌, ◌||◌, ◌≤◌, ◌+ℤ◌, ◌-ℤ◌, ◌≤ℤ◌, ◌<◌, length, pos, false, IsTrue};
 ghost use Rattle.rd_keys.specs.Keys.{same_key};
 ghost use Rattle.rd_tree.specs.Forest.{has, height, AllItems};
 ghost use Rattle.rd_tree.specs.Internal.Links.{edit, with_item, on_each, child_and_sibling};
@@ -8,7 +8,10 @@ ghost use Rattle.rd_tree.specs.Internal.Works.{done, Allows};
 ghost use Rattle.rd_tree.specs.Changes.{shifted};
 ghost use Rattle.rd_tree.specs.Touching.{touch};
 ghost use Rattle.rd_style.specs.Limits.{FitsRect};
-ghost use Rattle.rd_tree.specs.Internal.Works.{AllowsAt, FitsAt, ShiftFitsAt, item_under};
+ghost use Rattle.rd_tree.specs.Internal.Works.{AllowsAt, item_under};
+ghost use Rattle.rd_tree.specs.Internal.Laid.{laid_by, LaidFitsAt, ShiftFitsAt};
+ghost use Rattle.rd_tree.specs.Internal.Hands.{hand_at, HasHands};
+ghost use Rattle.rd_tree.specs.Limits.{IsNear};
 ghost use Rattle.rd_tree.specs.Internal.Reaching.{reached};
 ghost use Rattle.rd_tree.specs.Changes as changes;
 ghost use Rattle.rd_tree.specs.Internal.Reaching as reaching;
@@ -16,9 +19,11 @@ ghost use Rattle.std.specs.Option.{option_map_or};
 ghost use Rattle.rd_style.specs.Figures.{max_coordinate};
 ghost use Rattle.rd_tree.specs.Figures.{max_boxes};
 
+use crate::handed::Handed;
 use crate::held::Nodes;
 use crate::node::Item;
 use crate::reach::Reach;
+use crate::scroll::Scroll;
 use rd_geom::Rect;
 use rd_keys::BoxKey;
 use rd_style::MAX_COORDINATE;
@@ -44,15 +49,15 @@ impl Work {
 }
 
 fn shift_side(at: i32, by: i32) -> i32
-    requires low { (pos 0 -ℤ max_coordinate) ≤ℤ (at +ℤ by) }
-    requires high { (at +ℤ by) ≤ℤ max_coordinate }
+    requires low { (pos 0 -ℤ pos 257000000) ≤ℤ (at +ℤ by) }
+    requires high { (at +ℤ by) ≤ℤ pos 257000000 }
     ensures { result ≡ at +ℤ by }
 {
     at + by
 }
 
 fn shift_rect(r: &Rect, dx: i32, dy: i32) -> Rect
-    requires { FitsRect (shifted dx dy r.now) }
+    requires { IsNear (shifted dx dy r.now) }
     ensures { result ≡ shifted dx dy r.now }
 {
     match Rect::new(shift_side(r.x(), dx), shift_side(r.y(), dy), r.w(), r.h()) {
@@ -151,6 +156,17 @@ pub(crate) fn touch(nodes: &mut Nodes, key: BoxKey, reach: Reach)
     }
 }
 
+/// Touches a box, those below it, and its later siblings with theirs, where that is asked for.
+pub(crate) fn touch_where(nodes: &mut Nodes, first: Option<BoxKey>, asked: bool)
+    requires { IsRead nodes.old first }
+    ensures { Relinks nodes.old nodes.new (on_each (λ j. asked && has same_key j (seen_from nodes.old
+        first)) touch (linked nodes.old)) }
+{
+    if asked {
+        work_from(nodes, first, Work::Touch);
+    }
+}
+
 /// How far boxes are moved right and down, in canvas pixels.
 #[derive(Clone, Copy)]
 pub(crate) struct Offset {
@@ -178,13 +194,21 @@ fn side_fits(at: i32, by: i32) -> bool
     -most <= sum && sum <= most
 }
 
-/// Does the rectangle stay within the limits once it is moved?
-fn shift_fits(r: &Rect, by: &Offset) -> bool
-    requires { FitsRect r.now }
-    ensures { IsTrue result ↔ FitsRect (shifted by.now.dx by.now.dy r.now) }
+fn sum(at: i32, by: i32) -> i32
+    requires low { (pos 0 -ℤ pos 1000000000) ≤ℤ (at +ℤ by) }
+    requires high { (at +ℤ by) ≤ℤ pos 1000000000 }
+    ensures { result ≡ at +ℤ by }
 {
-    let x = r.x();
-    let y = r.y();
+    at + by
+}
+
+/// Does a rectangle that is scrolled so far stay within the limits once it is moved?
+fn shift_fits(r: &Rect, far: Scroll, by: &Offset) -> bool
+    requires { FitsRect (record r.now { x = r.now.x +ℤ far.x; y = r.now.y +ℤ far.y }) }
+    ensures { IsTrue result ↔ FitsRect (shifted by.now.dx by.now.dy (record r.now { x = r.now.x +ℤ far.x; y = r.now.y +ℤ far.y })) }
+{
+    let x = sum(r.x(), far.x);
+    let y = sum(r.y(), far.y);
     let across = side_fits(x, by.dx);
     let down = side_fits(y, by.dy);
     across && down
@@ -193,16 +217,19 @@ fn shift_fits(r: &Rect, by: &Offset) -> bool
 /// Does a box stay within the limits once it is moved? Its first child and its next sibling.
 pub(crate) fn shift_one_fits(
     nodes: &Nodes,
+    rows: &[Handed],
     key: BoxKey,
     by: &Offset,
 ) -> (bool, Option<BoxKey>, Option<BoxKey>)
-    requires { FitsAt (linked nodes.now key) }
-    ensures fits { IsTrue result.0 ↔ ShiftFitsAt by.now.dx by.now.dy (linked nodes.now key) }
+    requires here { key.slot < length rows.now }
+    requires fits { LaidFitsAt (hand_at rows.now key) (linked nodes.now key) }
+    ensures fits { IsTrue result.0 ↔ ShiftFitsAt (hand_at rows.now key) by.now.dx by.now.dy (linked nodes.now key) }
     ensures onward { (result.1, result.2) ≡ child_and_sibling (linked nodes.now key) }
 {
+    let handed = rows[key.slot() as usize];
     match nodes.get(key) {
         Some(node) => (
-            shift_fits(&node.item.rect, by),
+            shift_fits(&node.item.rect, handed.offset(node.item.style.position), by),
             node.links.first,
             node.links.next,
         ),
@@ -211,19 +238,25 @@ pub(crate) fn shift_one_fits(
 }
 
 /// Do a box, those below it, and its later siblings with theirs stay within the limits once they are moved?
-pub(crate) fn shift_from_fits(nodes: &Nodes, first: Option<BoxKey>, by: &Offset) -> bool
+pub(crate) fn shift_from_fits(
+    nodes: &Nodes,
+    rows: &[Handed],
+    first: Option<BoxKey>,
+    by: &Offset,
+) -> bool
     requires read { IsRead nodes.now first }
-    requires fits { AllItems (λ d. FitsRect d.rect) (seen_from nodes.now first) }
+    requires has_rows { HasHands rows.now (seen_from nodes.now first) }
+    requires fits { AllItems (λ d. FitsRect d.rect) (laid_by rows.now (seen_from nodes.now first)) }
     ensures { IsTrue result ↔ AllItems (λ d. FitsRect (shifted by.now.dx by.now.dy d.rect))
-        (seen_from nodes.now first) }
+        (laid_by rows.now (seen_from nodes.now first)) }
 {
     let mut at = first;
     while let Some(key) = at {
-        let (fits, below, next) = shift_one_fits(nodes, key, by);
+        let (fits, below, next) = shift_one_fits(nodes, rows, key, by);
         if !fits {
             return false;
         }
-        if !shift_from_fits(nodes, below, by) {
+        if !shift_from_fits(nodes, rows, below, by) {
             return false;
         }
         at = next;

@@ -2,7 +2,7 @@
 ghost use Rattle.std.specs.Prelude.{◌≡◌, ◌+◌, ◌<◌, ◌≤◌, length};
 ghost use Rattle.rd_geom.specs.Plane.{hull_of};
 ghost use Rattle.rd_tree.specs.Forest.{empty};
-ghost use Rattle.rd_tree.specs.Document.{AllFit};
+ghost use Rattle.rd_tree.specs.Drawn.{AllNear};
 ghost use Rattle.rd_tree.specs.Internal.Linked.{IsRead, linked, seen_from};
 ghost use Rattle.rd_tree.specs.Internal.Rows.{HasRows, IsFitAt, extent_under, touched_under};
 ghost use Rattle.rd_tree.specs.Internal.Gathers.{Gathers, gathered_in, row_over};
@@ -79,7 +79,7 @@ pub(crate) fn gather(table: &mut Vec<Summary>, nodes: &Nodes, first: Option<BoxK
     requires read { IsRead nodes.now first }
     requires small { nodes.now.limit ≤ max_boxes }
     requires has_rows { HasRows table.old.items (seen_from nodes.now first) }
-    requires fits { AllFit (seen_from nodes.now first) }
+    requires fits { AllNear (seen_from nodes.now first) }
     ensures told { result ≡ gathered_in (seen_from nodes.now first) }
     ensures rows { Gathers nodes.now table.old.items table.new.items (seen_from nodes.now first) }
     ensures same_length { length table.new.items ≡ length table.old.items }

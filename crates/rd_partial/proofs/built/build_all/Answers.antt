@@ -1,8 +1,10 @@
-use Rattle.std.proofs.Common.{◌∙◌, ap, subst, arith, length, ◌≡◌, ◌+◌, ◌≤◌}
+use Rattle.std.proofs.Common.{◌∙◌, ap, subst, arith, [], length, ◌≡◌, ◌+◌, ◌≤◌}
 use Rattle.std.specs.Prelude.{IfOk, OnOk}
 use Rattle.rd_geom.specs.Plane.{meets}
 use Rattle.rd_geom.specs.Canvas.{canvas_of}
 use Rattle.rd_list.specs.Entries.{flat}
+use Rattle.rd_tree.specs.Drawn.{drawn}
+use Rattle.rd_tree.proofs.Drawing.{size-drawn}
 use Rattle.rd_partial.specs.Numbered.{numbered}
 use Rattle.rd_partial.proofs.Pass.Everything.{all_wanted}
 use Rattle.rd_partial.proofs.Visits.{root_size}
@@ -25,6 +27,7 @@ returns-clause-most g c =
 
 pub returns-clause-looks : goal.returns-clause-looks
 returns-clause-looks g c =
-    let h = root_size (meets c.rect.result) c.args.tree.now.boxes in
+    let h = root_size (meets c.rect.result) (drawn c.args.tree.now).boxes in
+    let n = size-drawn [] c.args.tree.now.boxes in
     let k = c.build_wanted.ensures.looks in
-    omega (arith, h, k)
+    omega (arith, h, n, k)

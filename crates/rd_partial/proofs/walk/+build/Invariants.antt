@@ -4,46 +4,47 @@ use Rattle.rd_tree.specs.Forest.{from_some, size, head}
 use Rattle.rd_partial.specs.Internal.Held.{held}
 use Rattle.rd_partial.proofs.Kids.{Kept}
 use Rattle.rd_partial.proofs.walk.+build.Given as goal
+use Rattle.rd_tree.specs.Drawn.{drawn}
 
 abbrev pub decreases-context : goal.decreases-context
-decreases-context g l = 6 * size (from_some same_key l.first l.tree.now.boxes) + 2
+decreases-context g l = 6 * size (from_some same_key l.first (drawn l.tree.now).boxes) + 2
 
 abbrev pub decreases-those_below : goal.decreases-those_below
-decreases-those_below g l = 6 * size (from_some same_key l.first l.tree.now.boxes) + 1
+decreases-those_below g l = 6 * size (from_some same_key l.first (drawn l.tree.now).boxes) + 1
 
 abbrev pub decreases-aside : goal.decreases-aside
-decreases-aside g l = 6 * size (from_some same_key l.first l.tree.now.boxes) + 2
+decreases-aside g l = 6 * size (from_some same_key l.first (drawn l.tree.now).boxes) + 2
 
 abbrev pub decreases-float : goal.decreases-float
-decreases-float g l = 6 * size (from_some same_key l.first l.tree.now.boxes) + 3
+decreases-float g l = 6 * size (from_some same_key l.first (drawn l.tree.now).boxes) + 3
 
 abbrev pub decreases-atom : goal.decreases-atom
-decreases-atom g l = 6 * size (from_some same_key l.first l.tree.now.boxes) + 3
+decreases-atom g l = 6 * size (from_some same_key l.first (drawn l.tree.now).boxes) + 3
 
 abbrev pub decreases-inline : goal.decreases-inline
-decreases-inline g l = 6 * size (from_some same_key l.first l.tree.now.boxes) + 3
+decreases-inline g l = 6 * size (from_some same_key l.first (drawn l.tree.now).boxes) + 3
 
 abbrev pub decreases-block : goal.decreases-block
-decreases-block g l = 6 * size (from_some same_key l.first l.tree.now.boxes) + 3
+decreases-block g l = 6 * size (from_some same_key l.first (drawn l.tree.now).boxes) + 3
 
 abbrev pub decreases-real_layer : goal.decreases-real_layer
-decreases-real_layer g l = 6 * size (from_some same_key l.first l.tree.now.boxes) + 3
+decreases-real_layer g l = 6 * size (from_some same_key l.first (drawn l.tree.now).boxes) + 3
 
 abbrev pub decreases-auto_layer : goal.decreases-auto_layer
-decreases-auto_layer g l = 6 * size (from_some same_key l.first l.tree.now.boxes) + 3
+decreases-auto_layer g l = 6 * size (from_some same_key l.first (drawn l.tree.now).boxes) + 3
 
 abbrev pub decreases-layer : goal.decreases-layer
-decreases-layer g l = 6 * size (from_some same_key l.first l.tree.now.boxes) + 4
+decreases-layer g l = 6 * size (from_some same_key l.first (drawn l.tree.now).boxes) + 4
 
 abbrev pub decreases-one : goal.decreases-one
-decreases-one g l = 6 * size (from_some same_key l.first l.tree.now.boxes) + 5
+decreases-one g l = 6 * size (from_some same_key l.first (drawn l.tree.now).boxes) + 5
 
 abbrev pub decreases-children : goal.decreases-children
-decreases-children g l = 6 * size (from_some same_key l.first l.tree.now.boxes)
+decreases-children g l = 6 * size (from_some same_key l.first (drawn l.tree.now).boxes)
 
 abbrev pub decreases-children-loop-looked : goal.decreases-children-loop-looked
-decreases-children-loop-looked g l = size (from_some same_key l.at l.tree.boxes)
+decreases-children-loop-looked g l = size (from_some same_key l.at (drawn l.tree).boxes)
 
 abbrev pub invariant-children-loop-looked : goal.invariant-children-loop-looked
 invariant-children-loop-looked g l =
-    (l.at ≡ head (from_some same_key l.at l.tree.boxes)) × Kept (g.W.Wanted.wants l.wanted) l.number l.s l.tree.boxes (from_some same_key l.fn.first l.tree.boxes) (from_some same_key l.at l.tree.boxes) (held l.fn.local l.fn.layers) (held l.local l.layers) l.fn.made l.made l.fn.looks l.looks
+    (l.at ≡ head (from_some same_key l.at (drawn l.tree).boxes)) × Kept (g.W.Wanted.wants l.wanted) l.number l.s (drawn l.tree).boxes (from_some same_key l.fn.first (drawn l.tree).boxes) (from_some same_key l.at (drawn l.tree).boxes) (held l.fn.local l.fn.layers) (held l.local l.layers) l.fn.made l.made l.fn.looks l.looks

@@ -1,16 +1,17 @@
 use Rattle.std.proofs.Common.{arith}
+use Rattle.rd_tree.specs.Drawn.{drawn}
 use Rattle.rd_stack.proofs.Walk.Going.{go_on, sizes, next_sibling_is}
 use Rattle.rd_stack.proofs.fresh.+paint.Goals as goal
 
 pub paint_all-loop-next-preserved : goal.paint_all-loop-next-preserved
 paint_all-loop-next-preserved g t c =
     let w = c.in-Some-look_at.ensures.seen in
-    let on = go_on c.args.canvas.now c.args.tree.now.boxes c.args.above.now c.loop-next.next c.in-Some.key c.in-Some-look_at.visit.here c.in-Some-look_at.visit.first_child c.in-Some-look_at.visit.next_sibling
+    let on = go_on c.args.canvas.now (drawn c.args.tree.now).boxes c.args.above.now c.loop-next.next c.in-Some.key c.in-Some-look_at.visit.here c.in-Some-look_at.visit.first_child c.in-Some-look_at.visit.next_sibling
     _ c.loop-next.all.items c.append.new.self.items c.in_ok-painted.painted.items _
     w c.in-Some.is (c.loop-next.invariant.0, c.loop-next.invariant.1) c.in_ok-painted.ensures.painted c.in_ok-append.ensures.items in
-    let s = sizes c.args.tree.now.boxes c.loop-next.next c.in-Some.key c.in-Some-look_at.visit.here c.in-Some-look_at.visit.first_child c.in-Some-look_at.visit.next_sibling w c.in-Some.is in (
+    let s = sizes (drawn c.args.tree.now).boxes c.loop-next.next c.in-Some.key c.in-Some-look_at.visit.here c.in-Some-look_at.visit.first_child c.in-Some-look_at.visit.next_sibling w c.in-Some.is in (
       on.0,
       on.1,
-      next_sibling_is c.args.tree.now.boxes c.in-Some.key c.in-Some-look_at.visit.here c.in-Some-look_at.visit.first_child c.in-Some-look_at.visit.next_sibling w,
+      next_sibling_is (drawn c.args.tree.now).boxes c.in-Some.key c.in-Some-look_at.visit.here c.in-Some-look_at.visit.first_child c.in-Some-look_at.visit.next_sibling w,
       omega (arith, s, c.paint_one.ensures.looks, c.in-Some-look_at.ensures.looks, c.loop-next.invariant.3),
     )

@@ -1,4 +1,4 @@
-use Rattle.std.proofs.Common.{◌≡◌, Bool, true, false, not, IsTrue, refl, sym, ap, ◌∙◌}
+use Rattle.std.proofs.Common.{◌≡◌, true, false, sym, ap, ◌∙◌}
 use Rattle.rd_geom.specs.Plane.{IsWithin, meets}
 use Rattle.rd_item.specs.declared.leaf.Shape.{Shape}
 use Rattle.rd_tiles.proofs.Lids.{all_covered, covered_clear, covered_within, not_true, true_not}

@@ -1,4 +1,4 @@
-use Rattle.std.proofs.Common.{◌≡◌, ◌<◌, ◌≤◌, ℕ, get_or, length}
+use Rattle.std.proofs.Common.{◌≡◌, ◌<◌, ◌≤◌, ℕ, get_or}
 use Rattle.rd_list.specs.EntryNames.{kept_leaves}
 use Rattle.rd_tiles.specs.Internal.Changing.{IsTileRepainted}
 use Rattle.rd_tiles.specs.Tiling.{met_among}

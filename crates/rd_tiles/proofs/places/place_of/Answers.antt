@@ -1,4 +1,4 @@
-use Rattle.std.proofs.Common.{arith, FitsSigned, w32, rules}
+use Rattle.std.proofs.Common.{arith, FitsSigned, w32}
 use Rattle.std.specs.Prelude.{unsigned_abs}
 use Rattle.std.proofs.lemmas.Int.{ints, to_z-of_z}
 use Rattle.rd_tiles.proofs.Placing.{place_made, place_placed, side_fits, tile_is}

@@ -1,23 +1,19 @@
 use Rattle.std.proofs.Common.{◌≡◌, ◌∙◌, arith, refl, sym, subst}
 use Rattle.std.proofs.lemmas.Int.{ints}
 use Rattle.rd_geom.specs.Plane.{Rectangle, IsPlaced}
-use Rattle.rd_style.specs.Limits.{FitsRect}
-use Rattle.rd_style.proofs.Bounds.{RectBounds, fits_rect-open}
+use Rattle.rd_tree.specs.Limits.{IsNear}
 use Rattle.rd_tree.specs.Changes.{shifted}
 use Rattle.rd_tree.proofs.links.walk.shift_rect.Goals as goal
 
-fits_is_placed : (r : Rectangle) → FitsRect r → IsPlaced r
-fits_is_placed r e =
-    let f : RectBounds r = fits_rect-open r e in
-    record {
-      wide = f.w.from;
-      high = f.h.from;
-      from_left = omega (arith, ints, f.x.from);
-      from_top = omega (arith, ints, f.y.from);
-      to_right = omega
-          (arith, ints, f.x.to, f.w.to);
-      to_bottom = omega (arith, ints, f.y.to, f.h.to);
-    }
+near_is_placed : (r : Rectangle) → IsNear r → IsPlaced r
+near_is_placed r f = record {
+  wide = f.wide;
+  high = f.high;
+  from_left = omega (arith, ints, f.left);
+  from_top = omega (arith, ints, f.up);
+  to_right = omega (arith, ints, f.right, f.broad);
+  to_bottom = omega (arith, ints, f.down, f.tall);
+}
 
 same_sides : (a b : Rectangle) → a.x ≡ b.x → a.y ≡ b.y → a.w ≡ b.w → a.h ≡ b.h → a ≡ b
 same_sides a b x y w h = rw (sym x, sym y, sym w, sym h) refl
@@ -32,7 +28,7 @@ unreachable-requires c =
       ints,
       c.w.ensures.value,
     )) (omega (arith, ints, c.h.ensures.value)))
-    (fits_is_placed (shifted c.args.dx c.args.dy c.args.r.now) c.requires))
+    (near_is_placed (shifted c.args.dx c.args.dy c.args.r.now) c.requires))
 
 pub returns : goal.returns
 returns c =
@@ -45,13 +41,13 @@ returns c =
     )) (omega (arith, ints, c.w.ensures.value)) (omega (arith, ints, c.h.ensures.value))
 
 pub shift_side-requires-clause-low : goal.shift_side-requires-clause-low
-shift_side-requires-clause-low c = omega (arith, ints, c.x.ensures.value, (fits_rect-open _ c.requires).x.from)
+shift_side-requires-clause-low c = omega (arith, ints, c.x.ensures.value, c.requires.left)
 
 pub shift_side-requires-clause-high : goal.shift_side-requires-clause-high
-shift_side-requires-clause-high c = omega (arith, ints, c.x.ensures.value, (fits_rect-open _ c.requires).x.to)
+shift_side-requires-clause-high c = omega (arith, ints, c.x.ensures.value, c.requires.right)
 
 pub shift_side-requires-2-clause-low : goal.shift_side-requires-2-clause-low
-shift_side-requires-2-clause-low c = omega (arith, ints, c.y.ensures.value, (fits_rect-open _ c.requires).y.from)
+shift_side-requires-2-clause-low c = omega (arith, ints, c.y.ensures.value, c.requires.up)
 
 pub shift_side-requires-2-clause-high : goal.shift_side-requires-2-clause-high
-shift_side-requires-2-clause-high c = omega (arith, ints, c.y.ensures.value, (fits_rect-open _ c.requires).y.to)
+shift_side-requires-2-clause-high c = omega (arith, ints, c.y.ensures.value, c.requires.down)

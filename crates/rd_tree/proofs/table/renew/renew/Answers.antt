@@ -1,6 +1,6 @@
 use Rattle.std.proofs.Common.{sym, subst}
 use Rattle.rd_tree.specs.declared.table.renew.Stale.TheVariants.{Hull}
-use Rattle.rd_tree.specs.Document.{AllFit}
+use Rattle.rd_tree.specs.Drawn.{AllNear}
 use Rattle.rd_tree.specs.Internal.Renews.{IsStale}
 use Rattle.rd_tree.proofs.Summaries.Nearby.{fit_at, below_read, below_rows, below_seen}
 use Rattle.rd_tree.proofs.Tables.Renewing.{fit_children, put_outside, hull_renewed, branch_renewed, branch_outside}
@@ -25,7 +25,7 @@ gather-low-requires-clause-has_rows c = let r = c.requires in rw c.child_and_sib
     c.args.key r.there c.args.table.now.items r.has_rows)
 
 pub gather-low-requires-clause-fits : goal.gather-low-requires-clause-fits
-gather-low-requires-clause-fits c = let r = c.requires in rw c.child_and_sibling-below.ensures (subst AllFit (sym (below_seen c.args.nodes.now r.root
+gather-low-requires-clause-fits c = let r = c.requires in rw c.child_and_sibling-below.ensures (subst AllNear (sym (below_seen c.args.nodes.now r.root
     r.boxes r.is c.args.key r.there)) (fit_children c.args.key r.boxes r.is.apart r.there r.fits))
 
 pub row_of-row-requires : goal.row_of-row-requires

@@ -1,13 +1,8 @@
-use Rattle.std.proofs.Common.{◌∙◌, sym, arith}
-use Rattle.rd_keys.proofs.Calls.{live_occupied}
-use Rattle.rd_tree.proofs.Nodes.Grow.{size_seen}
+use Rattle.std.proofs.Common.{◌∙◌, sym}
+use Rattle.rd_tree.specs.Internal.Hands.{hand_at}
+use Rattle.rd_tree.specs.Internal.Laid.{laid_at}
+use Rattle.rd_tree.proofs.Forests.ByKey.{size-by}
 use Rattle.rd_tree.proofs.tree.Tree.boxes.Goals as goal
 
 pub returns-clause-count : goal.returns-clause-count
-returns-clause-count g c = rw (← c.self.view_is) (c.live.ensures ∙ sym (size_seen c.self.inside.nodes c.self.inside.root c.self.invariant.sound.tree))
-
-pub returns-clause-most : goal.returns-clause-most
-returns-clause-most g c =
-    let most = c.self.invariant.sound.tree.most in
-    let limit = c.self.invariant.sound.limit in
-    omega (arith, c.live.ensures, most, limit, live_occupied c.self.inside.nodes)
+returns-clause-count g c = rw (← c.self.view_is) (c.boxes.ensures.count ∙ sym (size-by (λ k d. laid_at (hand_at c.self.inside.hands.items k) d) c.self.inside.drawn.boxes))

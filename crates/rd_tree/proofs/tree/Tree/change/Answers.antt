@@ -1,37 +1,67 @@
-use Rattle.std.proofs.Common.{refl, ◌&&◌, ◌||◌, Bool}
-use Rattle.rd_style.specs.Changes.{names_class}
-use Rattle.rd_tree.specs.Changes.{styling, after}
-use Rattle.rd_tree.specs.Contexts.{context_round, holds_blended}
-use Rattle.rd_tree.proofs.Contexts.Marks.{IsChosen, found_one, found_none, touch_ready, all_touched}
-use Rattle.rd_tree.proofs.Contexts.Regroups.{styling_leaves}
-use Rattle.rd_tree.proofs.tree.Tree.change.Given.{Over}
-use Rattle.rd_tree.proofs.tree.Tree.change.Goals.{After-restyle, then-regroups, else-regroups}
+use Rattle.std.proofs.Common.{◌≡◌, ◌∙◌, ap, sym, subst, true}
+use Rattle.rd_keys.specs.Keys.{same_key}
+use Rattle.rd_tree.specs.Forest.{has, item_of, children}
+use Rattle.rd_tree.specs.Changes.{styling}
+use Rattle.rd_tree.specs.Touching.{edited}
+use Rattle.rd_tree.specs.Internal.Handing.{IsFar}
+use Rattle.rd_tree.specs.Internal.Hands.{hand_at}
+use Rattle.rd_tree.specs.Internal.Laid.{laid_at, own_from, CanDraw, passed_from, IsHandedDown}
+use Rattle.rd_tree.proofs.Forests.ByKey.{has-by}
+use Rattle.rd_tree.proofs.Laying.Kept.{own_far}
+use Rattle.rd_tree.proofs.Laying.Ends.{IsRedrawn, style_can, style_done, style_there, can_restyle, style_below}
 use Rattle.rd_tree.proofs.tree.Tree.change.Goals as goal
 
--- Is something regrouped?
-abbrev regroups : (g : Over) → After-restyle g → Bool
-regroups g c = names_class c.args.c.now && (holds_blended c.args.key c.args.self.now || holds_blended c.args.key (after (styling c.args.key c.args.c.now) c.args.self.now))
+pub hand-own-requires-clause-live : goal.hand-own-requires-clause-live
+hand-own-requires-clause-live g c = (sym (has-by (λ k d. laid_at (hand_at c.self.inside.hands.items k) d) same_key c.args.key c.self.inside.drawn.boxes) ∙ (rw (← c.self.view_is) at c.requires.live))
 
--- the context that is asked for
-chosen_here : (g : Over) (c : After-restyle g) → IsChosen (regroups g c) (context_round c.args.key c.args.self.now) c.args.self.now c.if-regroups.round
-chosen_here g c =
-    elim c.if-regroups.branch [
-      | then-regroups w ↦ found_one (regroups g c) c.regroups.result (context_round c.args.key c.args.self.now) c.args.self.now c.if-regroups.round
-          w.context_round-round.result c.regroups.ensures w.if-regroups.true w.round-is w.context_round-round.ensures.context
-          w.context_round-round.ensures.rooted w.context_round-round.ensures.apart
-      | else-regroups w ↦ found_none (regroups g c) c.regroups.result (context_round c.args.key c.args.self.now) c.args.self.now c.if-regroups.round
-          c.regroups.ensures w.if-regroups.false w.round-is
-    ]
+pub hand-own-requires-clause-handing : goal.hand-own-requires-clause-handing
+hand-own-requires-clause-handing g c = rw c.deref.ensures.value c.self.invariant
 
-pub touch_context-requires : goal.touch_context-requires
-touch_context-requires g c =
-    let a = (goal.at.touch_context-requires g c).After-restyle in
-    touch_ready (styling c.args.key c.args.c.now) c.args.self.now c.restyle.new.self (regroups g a) (context_round c.args.key c.args.self.now) c.if-regroups.round
-    c.restyle.ensures (chosen_here g a) (λ n p. styling_leaves c.args.self.now n p c.args.key c.args.c.now (regroups g a))
+pub change-requires-clause-live : goal.change-requires-clause-live
+change-requires-clause-live g c = (sym (has-by (λ k d. laid_at (hand_at c.self.inside.hands.items k) d) same_key c.args.key c.self.inside.drawn.boxes) ∙ (rw (← c.self.view_is) at c.requires.live))
+
+pub draw_anew-requires-clause-live : goal.draw_anew-requires-clause-live
+draw_anew-requires-clause-live g c = subst (λ z. has same_key c.args.key z.boxes ≡ true) (sym c.change.ensures) (style_there c.self.inside.drawn c.args.key c.args.c.now (sym (has-by (λ k d. laid_at (hand_at c.self.inside.hands.items k) d) same_key c.args.key c.self.inside.drawn.boxes) ∙ (rw (← c.self.view_is) at c.requires.live)))
+
+pub draw_anew-requires-clause-old : goal.draw_anew-requires-clause-old
+draw_anew-requires-clause-old g c = subst (IsFar 256) (sym c.own_offset-old.ensures) (own_far c.hand-own.result (item_of same_key c.args.key c.self.inside.drawn.boxes) c.hand-own.ensures.few)
+
+pub draw_anew-requires-clause-can : goal.draw_anew-requires-clause-can
+draw_anew-requires-clause-can g c =
+    subst (λ z. CanDraw z c.self.inside.hands.items c.args.key c.own_offset-old.result c.hand-own.result) (sym c.change.ensures)
+    (subst (λ o. CanDraw (edited (styling c.args.key c.args.c.now) c.self.inside.drawn) c.self.inside.hands.items c.args.key c.own_offset-old.result o) (sym (c.hand-own.ensures.hand ∙ ap (λ z. hand_at z c.args.key) c.deref.ensures.value)) (style_can c.self.inside.drawn c.self.inside.hands.items (record { rooted = c.known.ensures.rooted; apart = c.known.ensures.apart; keyed = c.known.ensures.keyed; shallow = c.known.ensures.depth }) c.self.invariant c.args.key (sym (has-by (λ k d. laid_at (hand_at c.self.inside.hands.items k) d) same_key c.args.key c.self.inside.drawn.boxes) ∙ (rw (← c.self.view_is) at c.requires.live)) c.own_offset-old.result (c.own_offset-old.ensures ∙ ap (λ z. own_from z (item_of same_key c.args.key c.self.inside.drawn.boxes)) (c.hand-own.ensures.hand ∙ ap (λ z. hand_at z c.args.key) c.deref.ensures.value)) c.args.c.now (rw (← c.self.view_is) at c.requires.fits)))
+
+pub invariant_of-self : goal.invariant_of-self
+invariant_of-self g c =
+    let redrawn : IsRedrawn c.change.new.self c.draw_anew.new.drawn c.self.inside.hands.items c.draw_anew.new.hands.items c.args.key c.own_offset-old.result c.hand-own.result = record {
+      drawn = c.draw_anew.ensures.drawn;
+      handed = c.draw_anew.ensures.handed;
+      same_length = c.draw_anew.ensures.same_length;
+    } in
+    (style_done c.self.inside.drawn c.self.inside.hands.items (record { rooted = c.known.ensures.rooted; apart = c.known.ensures.apart; keyed = c.known.ensures.keyed; shallow = c.known.ensures.depth }) c.self.invariant c.args.key (sym (has-by (λ k d. laid_at (hand_at c.self.inside.hands.items k) d) same_key c.args.key c.self.inside.drawn.boxes) ∙ (rw (← c.self.view_is) at c.requires.live)) c.own_offset-old.result (c.own_offset-old.ensures ∙ ap (λ z. own_from z (item_of same_key c.args.key c.self.inside.drawn.boxes)) (c.hand-own.ensures.hand ∙ ap (λ z. hand_at z c.args.key) c.deref.ensures.value)) c.args.c.now (rw (← c.self.view_is) at c.requires.fits) c.draw_anew.new.drawn c.draw_anew.new.hands.items (subst (λ o. IsRedrawn (edited (styling c.args.key c.args.c.now) c.self.inside.drawn) c.draw_anew.new.drawn c.self.inside.hands.items c.draw_anew.new.hands.items c.args.key c.own_offset-old.result o) (c.hand-own.ensures.hand ∙ ap (λ z. hand_at z c.args.key) c.deref.ensures.value)
+    (subst (λ z. IsRedrawn z c.draw_anew.new.drawn c.self.inside.hands.items c.draw_anew.new.hands.items c.args.key c.own_offset-old.result c.hand-own.result) c.change.ensures redrawn)) (record { rooted = c.known-2.ensures.rooted; apart = c.known-2.ensures.apart; keyed = c.known-2.ensures.keyed; shallow = c.known-2.ensures.depth })).0
 
 pub returns : goal.returns
 returns g c =
-    let a = (goal.at.returns g c).After-restyle in
-    all_touched (styling c.args.key c.args.c.now) c.args.self.now c.restyle.new.self (regroups g a) (context_round c.args.key c.args.self.now) c.if-regroups.round
-    c.restyle.ensures (chosen_here g a) (λ n p. styling_leaves c.args.self.now n p c.args.key c.args.c.now (regroups g a)) c.touch_context.new.self
-    c.touch_context.ensures (λ j. refl)
+    let redrawn : IsRedrawn c.change.new.self c.draw_anew.new.drawn c.self.inside.hands.items c.draw_anew.new.hands.items c.args.key c.own_offset-old.result c.hand-own.result = record {
+      drawn = c.draw_anew.ensures.drawn;
+      handed = c.draw_anew.ensures.handed;
+      same_length = c.draw_anew.ensures.same_length;
+    } in
+    (style_done c.self.inside.drawn c.self.inside.hands.items (record { rooted = c.known.ensures.rooted; apart = c.known.ensures.apart; keyed = c.known.ensures.keyed; shallow = c.known.ensures.depth }) c.self.invariant c.args.key (sym (has-by (λ k d. laid_at (hand_at c.self.inside.hands.items k) d) same_key c.args.key c.self.inside.drawn.boxes) ∙ (rw (← c.self.view_is) at c.requires.live)) c.own_offset-old.result (c.own_offset-old.ensures ∙ ap (λ z. own_from z (item_of same_key c.args.key c.self.inside.drawn.boxes)) (c.hand-own.ensures.hand ∙ ap (λ z. hand_at z c.args.key) c.deref.ensures.value)) c.args.c.now (rw (← c.self.view_is) at c.requires.fits) c.draw_anew.new.drawn c.draw_anew.new.hands.items (subst (λ o. IsRedrawn (edited (styling c.args.key c.args.c.now) c.self.inside.drawn) c.draw_anew.new.drawn c.self.inside.hands.items c.draw_anew.new.hands.items c.args.key c.own_offset-old.result o) (c.hand-own.ensures.hand ∙ ap (λ z. hand_at z c.args.key) c.deref.ensures.value)
+    (subst (λ z. IsRedrawn z c.draw_anew.new.drawn c.self.inside.hands.items c.draw_anew.new.hands.items c.args.key c.own_offset-old.result c.hand-own.result) c.change.ensures redrawn)) (record { rooted = c.known-2.ensures.rooted; apart = c.known-2.ensures.apart; keyed = c.known-2.ensures.keyed; shallow = c.known-2.ensures.depth })).1 ∙ ap (edited (styling c.args.key c.args.c.now)) c.self.view_is
+
+pub change-requires-clause-fits : goal.change-requires-clause-fits
+change-requires-clause-fits g c = can_restyle c.self.inside.hands.items c.self.inside.drawn c.args.key c.args.c.now (rw (← c.self.view_is) at c.requires.fits)
+
+pub hand_inside-below-requires-clause-live : goal.hand_inside-below-requires-clause-live
+hand_inside-below-requires-clause-live g c = (sym (has-by (λ k d. laid_at (hand_at c.self.inside.hands.items k) d) same_key c.args.key c.self.inside.drawn.boxes) ∙ (rw (← c.self.view_is) at c.requires.live))
+
+pub hand_inside-below-requires-clause-handing : goal.hand_inside-below-requires-clause-handing
+hand_inside-below-requires-clause-handing g c = rw c.deref-2.ensures.value c.self.invariant
+
+pub draw_anew-requires-clause-below : goal.draw_anew-requires-clause-below
+draw_anew-requires-clause-below g c =
+    subst (λ z. IsHandedDown c.self.inside.hands.items c.hand_inside-below.result (children same_key c.args.key z.boxes)) (sym c.change.ensures)
+    (subst (λ h. IsHandedDown c.self.inside.hands.items h (children same_key c.args.key (edited (styling c.args.key c.args.c.now) c.self.inside.drawn).boxes)) (sym (c.hand_inside-below.ensures.inside ∙ ap (λ z. passed_from (same_key c.args.key c.self.inside.drawn.root) (hand_at z c.args.key) (item_of same_key c.args.key c.self.inside.drawn.boxes)) c.deref-2.ensures.value))
+    (style_below c.self.inside.drawn c.self.inside.hands.items (record { rooted = c.known.ensures.rooted; apart = c.known.ensures.apart; keyed = c.known.ensures.keyed; shallow = c.known.ensures.depth }) c.self.invariant c.args.key (sym (has-by (λ k d. laid_at (hand_at c.self.inside.hands.items k) d) same_key c.args.key c.self.inside.drawn.boxes) ∙ (rw (← c.self.view_is) at c.requires.live)) c.own_offset-old.result (c.own_offset-old.ensures ∙ ap (λ z. own_from z (item_of same_key c.args.key c.self.inside.drawn.boxes)) (c.hand-own.ensures.hand ∙ ap (λ z. hand_at z c.args.key) c.deref.ensures.value)) c.args.c.now (rw (← c.self.view_is) at c.requires.fits)))

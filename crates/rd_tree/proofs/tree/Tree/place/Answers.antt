@@ -1,139 +1,49 @@
-use Rattle.std.proofs.Common.{◌≡◌, ◌∙◌, sym, ap, refl, true}
+use Rattle.std.proofs.Common.{◌≡◌, ◌∙◌, ap, sym, subst}
 use Rattle.rd_keys.specs.Keys.{same_key}
-use Rattle.rd_tree.specs.declared.reach.Reach.TheVariants.{Nothing}
-use Rattle.std.specs.Option.{option_map_or}
-use Rattle.rd_tree.specs.Forest.{has, top, starting_at, at_box}
-use Rattle.rd_tree.specs.Internal.Linked.{marks, seen, IsConsistent}
-use Rattle.rd_tree.specs.Internal.Reaching.{touch_reached, replaced, rect_reach}
-use Rattle.rd_tree.specs.Changes.{with_rect}
-use Rattle.rd_tree.proofs.Nodes.Each.{under_box}
-use Rattle.rd_tree.proofs.Nodes.Editing.{put, touched_sound, still_has, reach_of}
-use Rattle.rd_tree.specs.Internal.Renews.{whole_at, IsStale}
-use Rattle.rd_tree.proofs.Tables.OneBranch.{Edited, still_touched}
-use Rattle.rd_tree.proofs.Tables.Renewed.{fit_here, row_here, few_here, renews, renewed, box_edited, box_stale}
-use Rattle.rd_tree.proofs.Blending.Edits.{same_blending, reached_blending}
-use Rattle.rd_tree.proofs.Changing.Effects.{by_that, edited-placing}
-use Rattle.rd_tree.proofs.Changing.Shallow.{shallow_each}
+use Rattle.rd_tree.specs.Forest.{item_of}
+use Rattle.rd_tree.specs.Limits.{IsNear}
+use Rattle.rd_tree.specs.Changes.{unscrolled, placing}
+use Rattle.rd_tree.specs.Touching.{edited}
+use Rattle.rd_tree.specs.Internal.Handing.{IsFar, offset_in}
+use Rattle.rd_tree.specs.Internal.Hands.{hand_at}
+use Rattle.rd_tree.specs.Internal.Redraws.{drawn_anew}
+use Rattle.rd_tree.specs.Internal.Laid.{laid_at, own_from}
+use Rattle.rd_tree.proofs.Forests.ByKey.{has-by}
+use Rattle.rd_tree.proofs.Offsets.{far_none}
+use Rattle.rd_tree.proofs.Laying.Near.{near_far, near_is_placed}
+use Rattle.rd_tree.proofs.Laying.Added.{from-none}
+use Rattle.rd_tree.proofs.Laying.Kept.{own_far, replacing}
 use Rattle.rd_tree.proofs.tree.Tree.place.Goals as goal
 
-pub touch-requires-clause-read : goal.touch-requires-clause-read
-touch-requires-clause-read g c =
-    let m : has same_key c.args.key (seen c.self.inside.nodes c.self.inside.root) ≡ true = (rw (← c.self.view_is) at c.requires.live) in
-    let s1 : IsConsistent c.put_rect-reach.new.self c.self.inside.root c.self.inside.ids × (seen c.put_rect-reach.new.self c.self.inside.root
-    ≡ at_box same_key c.args.key (with_rect c.args.rect) (seen c.self.inside.nodes c.self.inside.root)) = put c.self.inside.nodes
-    c.put_rect-reach.new.self c.self.inside.root c.args.key c.self.inside.ids c.args.rect c.self.invariant.sound c.requires.fits
-    c.put_rect-reach.ensures.put in
-    let m1 : has same_key c.args.key (seen c.put_rect-reach.new.self c.self.inside.root) ≡ true = still_has (λ j. same_key j c.args.key)
-    (with_rect c.args.rect) c.args.key (seen c.self.inside.nodes c.self.inside.root) (seen c.put_rect-reach.new.self c.self.inside.root) s1.1 m in
-    (under_box c.put_rect-reach.new.self c.self.inside.root c.args.key s1.0.tree m1).read
+pub hand-own-requires-clause-live : goal.hand-own-requires-clause-live
+hand-own-requires-clause-live g c = (sym (has-by (λ k d. laid_at (hand_at c.self.inside.hands.items k) d) same_key c.args.key c.self.inside.drawn.boxes) ∙ (rw (← c.self.view_is) at c.requires.live))
 
-pub touch-requires-clause-apart : goal.touch-requires-clause-apart
-touch-requires-clause-apart g c =
-    let m : has same_key c.args.key (seen c.self.inside.nodes c.self.inside.root) ≡ true = (rw (← c.self.view_is) at c.requires.live) in
-    let s1 : IsConsistent c.put_rect-reach.new.self c.self.inside.root c.self.inside.ids × (seen c.put_rect-reach.new.self c.self.inside.root
-    ≡ at_box same_key c.args.key (with_rect c.args.rect) (seen c.self.inside.nodes c.self.inside.root)) = put c.self.inside.nodes
-    c.put_rect-reach.new.self c.self.inside.root c.args.key c.self.inside.ids c.args.rect c.self.invariant.sound c.requires.fits
-    c.put_rect-reach.ensures.put in
-    let m1 : has same_key c.args.key (seen c.put_rect-reach.new.self c.self.inside.root) ≡ true = still_has (λ j. same_key j c.args.key)
-    (with_rect c.args.rect) c.args.key (seen c.self.inside.nodes c.self.inside.root) (seen c.put_rect-reach.new.self c.self.inside.root) s1.1 m in
-    (under_box c.put_rect-reach.new.self c.self.inside.root c.args.key s1.0.tree m1).out
+pub hand-own-requires-clause-handing : goal.hand-own-requires-clause-handing
+hand-own-requires-clause-handing g c = rw c.deref.ensures.value c.self.invariant
+
+pub anew-requires-clause-old : goal.anew-requires-clause-old
+anew-requires-clause-old g c = subst (IsFar 256) (sym c.unscrolled.ensures) (far_none 256)
+
+pub anew-requires-clause-new : goal.anew-requires-clause-new
+anew-requires-clause-new g c = (subst (IsFar 256) (sym c.own_offset-far.ensures) (own_far c.hand-own.result (item_of same_key c.args.key c.self.inside.drawn.boxes) c.hand-own.ensures.few))
+
+pub anew-requires-clause-fits : goal.anew-requires-clause-fits
+anew-requires-clause-fits g c = near_is_placed (drawn_anew c.unscrolled.result c.own_offset-far.result c.args.rect)
+    (subst IsNear (sym (ap (λ z. drawn_anew z c.own_offset-far.result c.args.rect) c.unscrolled.ensures ∙ from-none c.own_offset-far.result c.args.rect))
+    (near_far c.own_offset-far.result c.args.rect (subst (IsFar 256) (sym c.own_offset-far.ensures) (own_far c.hand-own.result (item_of same_key c.args.key c.self.inside.drawn.boxes) c.hand-own.ensures.few)) c.requires.fits))
+
+pub place-requires-clause-live : goal.place-requires-clause-live
+place-requires-clause-live g c = (sym (has-by (λ k d. laid_at (hand_at c.self.inside.hands.items k) d) same_key c.args.key c.self.inside.drawn.boxes) ∙ (rw (← c.self.view_is) at c.requires.live))
+
+pub place-requires-clause-fits : goal.place-requires-clause-fits
+place-requires-clause-fits g c = subst IsNear (sym (c.anew.ensures ∙ (ap (λ z. drawn_anew z c.own_offset-far.result c.args.rect) c.unscrolled.ensures ∙ from-none c.own_offset-far.result c.args.rect))) (near_far c.own_offset-far.result c.args.rect (subst (IsFar 256) (sym c.own_offset-far.ensures) (own_far c.hand-own.result (item_of same_key c.args.key c.self.inside.drawn.boxes) c.hand-own.ensures.few)) c.requires.fits)
 
 pub invariant_of-self : goal.invariant_of-self
-invariant_of-self g c =
-    let m : has same_key c.args.key (seen c.self.inside.nodes c.self.inside.root) ≡ true = (rw (← c.self.view_is) at c.requires.live) in
-    let s1 = put c.self.inside.nodes c.put_rect-reach.new.self c.self.inside.root c.args.key c.self.inside.ids c.args.rect c.self.invariant.sound
-    c.requires.fits c.put_rect-reach.ensures.put in
-    let m1 = still_has (λ j. same_key j c.args.key) (with_rect c.args.rect) c.args.key (seen c.self.inside.nodes c.self.inside.root)
-    (seen c.put_rect-reach.new.self c.self.inside.root) s1.1 m in
-    let s2 = touched_sound c.put_rect-reach.new.self c.touch.new.nodes c.self.inside.root c.args.key c.self.inside.ids c.put_rect-reach.result s1.0 m1
-    c.touch.ensures in
-    let slots : marks c.touch.new.nodes ≡ marks c.self.inside.nodes = c.touch.ensures.same_slots ∙ c.put_rect-reach.ensures.put.same_slots in
-    let e : Edited c.args.key (seen c.self.inside.nodes c.self.inside.root) (seen c.touch.new.nodes c.self.inside.root) = box_edited c.self.inside.nodes
-    c.put_rect-reach.new.self c.touch.new.nodes c.self.inside.root c.args.key c.self.inside.ids c.self.inside.table.items (with_rect c.args.rect)
-    c.put_rect-reach.result c.stale_by-stale.result c.self.invariant.sound s2.0 s1.1 s2.1 c.self.invariant.table m in
-    let o : c.whole_of-old.result ≡ whole_at c.self.inside.nodes c.self.inside.table.items c.args.key = rw c.deref.ensures.value at c.whole_of-old.ensures in
-    let st : IsStale c.stale_by-stale.result c.self.inside.table.items (seen c.touch.new.nodes c.self.inside.root) c.args.key =
-    box_stale c.self.inside.nodes c.put_rect-reach.new.self c.touch.new.nodes c.self.inside.root c.args.key c.self.inside.ids c.self.inside.table.items
-    (with_rect c.args.rect) c.put_rect-reach.result c.stale_by-stale.result c.self.invariant.sound s2.0 s1.1 s2.1 c.self.invariant.table m
-    c.stale_by-stale.ensures.branch (λ n. sym c.extent_of-before.ensures ∙ (c.stale_by-stale.ensures.nothing n ∙ c.extent_of-after.ensures)) in
-    let placed = same_blending c.self.inside.nodes c.put_rect-reach.new.self c.self.inside.blends.items (seen c.self.inside.nodes c.self.inside.root)
-    (seen c.put_rect-reach.new.self c.self.inside.root) (λ j. same_key j c.args.key) (with_rect c.args.rect) (λ d. refl) s1.1
-    c.put_rect-reach.ensures.put.same_slots c.self.invariant.blending in
-    record {
-      sound = s2.0;
-      blending = reached_blending c.put_rect-reach.new.self c.touch.new.nodes c.self.inside.blends.items c.put_rect-reach.result c.args.key
-          (seen c.put_rect-reach.new.self c.self.inside.root) (seen c.touch.new.nodes c.self.inside.root) s2.1 c.touch.ensures.same_slots placed;
-      shallow = shallow_each (λ j. same_key j c.args.key) (with_rect c.args.rect) c.put_rect-reach.result c.args.key
-          (seen c.self.inside.nodes c.self.inside.root) (seen c.put_rect-reach.new.self c.self.inside.root) (seen c.touch.new.nodes c.self.inside.root) s1.1
-          s2.1 c.self.invariant.shallow;
-      table = renewed c.self.inside.nodes c.touch.new.nodes c.self.inside.root c.args.key c.self.inside.ids c.self.inside.table.items c.stale_by-stale.result
-          c.whole_of-old.result c.self.invariant.sound s2.0 slots c.self.invariant.table m e o st c.renew_up.new.table.items c.renew_up.ensures.right
-          c.renew_up.ensures.same_length;
-    }
+invariant_of-self g c = (replacing c.self.inside.drawn c.place.new.self c.self.inside.hands.items (record { rooted = c.known.ensures.rooted; apart = c.known.ensures.apart; keyed = c.known.ensures.keyed; shallow = c.known.ensures.depth }) c.self.invariant c.known-2.ensures.rooted c.known-2.ensures.apart c.args.key c.own_offset-far.result c.args.rect c.requires.fits
+    (λ d v. sym (c.own_offset-far.ensures ∙ (ap (own_from c.hand-own.result) v ∙ ap (λ z. offset_in z d.style.position) (c.hand-own.ensures.hand ∙ ap (λ z. hand_at z c.args.key) c.deref.ensures.value))))
+    (c.place.ensures ∙ ap (λ z. edited (placing c.args.key z) c.self.inside.drawn) (c.anew.ensures ∙ (ap (λ z. drawn_anew z c.own_offset-far.result c.args.rect) c.unscrolled.ensures ∙ from-none c.own_offset-far.result c.args.rect)))).0
 
 pub returns : goal.returns
-returns g c =
-    let m : has same_key c.args.key (seen c.self.inside.nodes c.self.inside.root) ≡ true = (rw (← c.self.view_is) at c.requires.live) in
-    let s1 : IsConsistent c.put_rect-reach.new.self c.self.inside.root c.self.inside.ids × (seen c.put_rect-reach.new.self c.self.inside.root
-    ≡ at_box same_key c.args.key (with_rect c.args.rect) (seen c.self.inside.nodes c.self.inside.root)) = put c.self.inside.nodes
-    c.put_rect-reach.new.self c.self.inside.root c.args.key c.self.inside.ids c.args.rect c.self.invariant.sound c.requires.fits
-    c.put_rect-reach.ensures.put in
-    let m1 : has same_key c.args.key (seen c.put_rect-reach.new.self c.self.inside.root) ≡ true = still_has (λ j. same_key j c.args.key)
-    (with_rect c.args.rect) c.args.key (seen c.self.inside.nodes c.self.inside.root) (seen c.put_rect-reach.new.self c.self.inside.root) s1.1 m in
-    let s2 : IsConsistent c.touch.new.nodes c.self.inside.root c.self.inside.ids × (seen c.touch.new.nodes c.self.inside.root
-    ≡ touch_reached c.put_rect-reach.result c.args.key (seen c.put_rect-reach.new.self c.self.inside.root)) = touched_sound c.put_rect-reach.new.self
-    c.touch.new.nodes c.self.inside.root c.args.key c.self.inside.ids c.put_rect-reach.result s1.0 m1 c.touch.ensures in
-    let r : c.put_rect-reach.result ≡ option_map_or (λ d. rect_reach d.style (same_key c.args.key c.self.inside.root)) (top (starting_at same_key
-    c.args.key (seen c.self.inside.nodes c.self.inside.root))) Nothing =
-    reach_of c.self.inside.nodes c.self.inside.root c.args.key c.put_rect-reach.result c.is-is_root.result (λ b d. rect_reach d.style b)
-    c.self.invariant.sound.tree c.is-is_root.ensures c.put_rect-reach.ensures.reach in
-    let b : seen c.touch.new.nodes c.self.inside.root ≡ replaced c.self.inside.root c.args.key c.args.rect (seen c.self.inside.nodes c.self.inside.root) =
-    s2.1 ∙ (ap (touch_reached c.put_rect-reach.result c.args.key) s1.1 ∙ ap (λ q. touch_reached q c.args.key (at_box same_key c.args.key
-    (with_rect c.args.rect) (seen c.self.inside.nodes c.self.inside.root))) r) in
-    let k : marks c.touch.new.nodes ≡ marks c.self.inside.nodes = c.touch.ensures.same_slots ∙ c.put_rect-reach.ensures.put.same_slots in
-    by_that _ _ _ (edited-placing c.args.key c.args.rect c.args.self.now) (rw (← c.self.view_is, b, k) refl)
-
-pub whole_of-old-requires-clause-here : goal.whole_of-old-requires-clause-here
-whole_of-old-requires-clause-here g c = rw c.deref.ensures.value (row_here c.self.inside.nodes c.self.inside.root c.args.key c.self.inside.ids
-    c.self.invariant.sound (rw (← c.self.view_is) at c.requires.live) c.self.inside.table.items c.self.invariant.table)
-
-pub whole_of-old-requires-clause-few : goal.whole_of-old-requires-clause-few
-whole_of-old-requires-clause-few g c = rw c.deref.ensures.value (few_here c.self.inside.nodes c.self.inside.root c.args.key c.self.inside.ids
-    c.self.invariant.sound (rw (← c.self.view_is) at c.requires.live) c.self.inside.table.items c.self.invariant.table)
-
-pub extent_of-before-requires : goal.extent_of-before-requires
-extent_of-before-requires g c = fit_here c.self.inside.nodes c.self.inside.root c.args.key c.self.inside.ids c.self.invariant.sound (rw (← c.self.view_is)
-    at c.requires.live)
-
-pub extent_of-after-requires : goal.extent_of-after-requires
-extent_of-after-requires g c =
-    let m : has same_key c.args.key (seen c.self.inside.nodes c.self.inside.root) ≡ true = (rw (← c.self.view_is) at c.requires.live) in
-    let s1 = put c.self.inside.nodes c.put_rect-reach.new.self c.self.inside.root c.args.key c.self.inside.ids c.args.rect c.self.invariant.sound
-    c.requires.fits c.put_rect-reach.ensures.put in
-    let m1 = still_has (λ j. same_key j c.args.key) (with_rect c.args.rect) c.args.key (seen c.self.inside.nodes c.self.inside.root)
-    (seen c.put_rect-reach.new.self c.self.inside.root) s1.1 m in
-    let s2 = touched_sound c.put_rect-reach.new.self c.touch.new.nodes c.self.inside.root c.args.key c.self.inside.ids c.put_rect-reach.result s1.0 m1
-    c.touch.ensures in
-    fit_here c.touch.new.nodes c.self.inside.root c.args.key c.self.inside.ids s2.0 (still_touched c.args.key c.put_rect-reach.result
-    (seen c.put_rect-reach.new.self c.self.inside.root) (seen c.touch.new.nodes c.self.inside.root) s2.1 m1)
-
-pub renew_up-requires : goal.renew_up-requires
-renew_up-requires g c =
-    let m : has same_key c.args.key (seen c.self.inside.nodes c.self.inside.root) ≡ true = (rw (← c.self.view_is) at c.requires.live) in
-    let s1 = put c.self.inside.nodes c.put_rect-reach.new.self c.self.inside.root c.args.key c.self.inside.ids c.args.rect c.self.invariant.sound
-    c.requires.fits c.put_rect-reach.ensures.put in
-    let m1 = still_has (λ j. same_key j c.args.key) (with_rect c.args.rect) c.args.key (seen c.self.inside.nodes c.self.inside.root)
-    (seen c.put_rect-reach.new.self c.self.inside.root) s1.1 m in
-    let s2 = touched_sound c.put_rect-reach.new.self c.touch.new.nodes c.self.inside.root c.args.key c.self.inside.ids c.put_rect-reach.result s1.0 m1
-    c.touch.ensures in
-    let slots : marks c.touch.new.nodes ≡ marks c.self.inside.nodes = c.touch.ensures.same_slots ∙ c.put_rect-reach.ensures.put.same_slots in
-    let e : Edited c.args.key (seen c.self.inside.nodes c.self.inside.root) (seen c.touch.new.nodes c.self.inside.root) = box_edited c.self.inside.nodes
-    c.put_rect-reach.new.self c.touch.new.nodes c.self.inside.root c.args.key c.self.inside.ids c.self.inside.table.items (with_rect c.args.rect)
-    c.put_rect-reach.result c.stale_by-stale.result c.self.invariant.sound s2.0 s1.1 s2.1 c.self.invariant.table m in
-    let o : c.whole_of-old.result ≡ whole_at c.self.inside.nodes c.self.inside.table.items c.args.key = rw c.deref.ensures.value at c.whole_of-old.ensures in
-    let st : IsStale c.stale_by-stale.result c.self.inside.table.items (seen c.touch.new.nodes c.self.inside.root) c.args.key =
-    box_stale c.self.inside.nodes c.put_rect-reach.new.self c.touch.new.nodes c.self.inside.root c.args.key c.self.inside.ids c.self.inside.table.items
-    (with_rect c.args.rect) c.put_rect-reach.result c.stale_by-stale.result c.self.invariant.sound s2.0 s1.1 s2.1 c.self.invariant.table m
-    c.stale_by-stale.ensures.branch (λ n. sym c.extent_of-before.ensures ∙ (c.stale_by-stale.ensures.nothing n ∙ c.extent_of-after.ensures)) in
-    renews c.self.inside.nodes c.touch.new.nodes c.self.inside.root c.args.key c.self.inside.ids c.self.inside.table.items c.stale_by-stale.result
-    c.whole_of-old.result c.self.invariant.sound s2.0 slots c.self.invariant.table m e o st
+returns g c = (replacing c.self.inside.drawn c.place.new.self c.self.inside.hands.items (record { rooted = c.known.ensures.rooted; apart = c.known.ensures.apart; keyed = c.known.ensures.keyed; shallow = c.known.ensures.depth }) c.self.invariant c.known-2.ensures.rooted c.known-2.ensures.apart c.args.key c.own_offset-far.result c.args.rect c.requires.fits
+    (λ d v. sym (c.own_offset-far.ensures ∙ (ap (own_from c.hand-own.result) v ∙ ap (λ z. offset_in z d.style.position) (c.hand-own.ensures.hand ∙ ap (λ z. hand_at z c.args.key) c.deref.ensures.value))))
+    (c.place.ensures ∙ ap (λ z. edited (placing c.args.key z) c.self.inside.drawn) (c.anew.ensures ∙ (ap (λ z. drawn_anew z c.own_offset-far.result c.args.rect) c.unscrolled.ensures ∙ from-none c.own_offset-far.result c.args.rect)))).1 ∙ ap (edited (placing c.args.key c.args.rect)) c.self.view_is

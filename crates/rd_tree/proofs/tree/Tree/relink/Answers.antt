@@ -1,62 +1,87 @@
-use Rattle.std.proofs.Common.{refl, ap}
+use Rattle.std.proofs.Common.{◌≡◌, ◌∙◌, ap, sym, subst, true}
+use Rattle.rd_keys.specs.Keys.{same_key}
+use Rattle.rd_tree.specs.Forest.{has, item_of, children, IsApart}
 use Rattle.rd_tree.specs.Changes.{moving}
-use Rattle.rd_tree.specs.Contexts.{context_of, context_round, holds_blended}
-use Rattle.rd_tree.proofs.Contexts.Marks.{IsChosen, found_one, found_none, touch_ready, touch_second, both_touched}
-use Rattle.rd_tree.proofs.Contexts.Regroups.{moving_leaves_from, moving_leaves_to}
-use Rattle.rd_tree.proofs.tree.Tree.relink.Given.{Over}
-use Rattle.rd_tree.proofs.tree.Tree.relink.Goals.{After-move_to, then-holds_blended, else-holds_blended}
+use Rattle.rd_tree.specs.Touching.{edited}
+use Rattle.rd_tree.specs.Internal.Handing.{IsFar}
+use Rattle.rd_tree.specs.Internal.Hands.{hand_at}
+use Rattle.rd_tree.specs.Internal.Laid.{laid_at, own_from, passed_from, CanDraw, IsHandedDown}
+use Rattle.rd_tree.proofs.Forests.ByKey.{has-by, subtree-by}
+use Rattle.rd_tree.proofs.Laying.Kept.{own_far}
+use Rattle.rd_tree.proofs.Laying.Shown.{place_laid, depth_laid}
+use Rattle.rd_tree.proofs.Laying.Ends.{IsRedrawn}
+use Rattle.rd_tree.proofs.Laying.Moved.{move_can, move_there, move_below, move_done}
 use Rattle.rd_tree.proofs.tree.Tree.relink.Goals as goal
 
--- the context round the old place,
-from_here : (g : Over) (c : After-move_to g) → IsChosen (holds_blended c.args.key c.args.self.now) (context_round c.args.key c.args.self.now) c.args.self.now
-    c.if-holds_blended.from.0
-from_here g c =
-    elim c.if-holds_blended.branch [
-      | then-holds_blended w ↦ found_one (holds_blended c.args.key c.args.self.now) c.holds_blended.result (context_round c.args.key c.args.self.now)
-          c.args.self.now c.if-holds_blended.from.0 w.context_round.result c.holds_blended.ensures.holds w.if-holds_blended.true (ap (λ o. o.0) w.from-is)
-          w.context_round.ensures.context w.context_round.ensures.rooted w.context_round.ensures.apart
-      | else-holds_blended w ↦ found_none (holds_blended c.args.key c.args.self.now) c.holds_blended.result (context_round c.args.key c.args.self.now)
-          c.args.self.now c.if-holds_blended.from.0 c.holds_blended.ensures.holds w.if-holds_blended.false (ap (λ o. o.0) w.from-is)
-    ]
+pub hand-own-requires-clause-live : goal.hand-own-requires-clause-live
+hand-own-requires-clause-live g c = (sym (has-by (λ k d. laid_at (hand_at c.self.inside.hands.items k) d) same_key c.args.key c.self.inside.drawn.boxes) ∙ (rw (← c.self.view_is) at c.requires.live))
 
--- and that round the new one
-to_here : (g : Over) (c : After-move_to g) → IsChosen (holds_blended c.args.key c.args.self.now) (context_of c.args.parent c.args.self.now) c.args.self.now
-    c.if-holds_blended.from.1
-to_here g c =
-    elim c.if-holds_blended.branch [
-      | then-holds_blended w ↦ found_one (holds_blended c.args.key c.args.self.now) c.holds_blended.result (context_of c.args.parent c.args.self.now)
-          c.args.self.now c.if-holds_blended.from.1 w.context_of.result c.holds_blended.ensures.holds w.if-holds_blended.true (ap (λ o. o.1) w.from-is)
-          w.context_of.ensures.context w.context_of.ensures.rooted w.context_of.ensures.apart
-      | else-holds_blended w ↦ found_none (holds_blended c.args.key c.args.self.now) c.holds_blended.result (context_of c.args.parent c.args.self.now)
-          c.args.self.now c.if-holds_blended.from.1 c.holds_blended.ensures.holds w.if-holds_blended.false (ap (λ o. o.1) w.from-is)
-    ]
+pub hand-own-requires-clause-handing : goal.hand-own-requires-clause-handing
+hand-own-requires-clause-handing g c = rw c.deref.ensures.value c.self.invariant
 
-pub touch_context-requires : goal.touch_context-requires
-touch_context-requires g c =
-    touch_ready (moving c.args.key c.args.parent c.args.before) c.args.self.now c.move_to.new.self (holds_blended c.args.key c.args.self.now)
-    (context_round c.args.key c.args.self.now) c.if-holds_blended.from.0 c.move_to.ensures (from_here g (goal.at.touch_context-requires g c).After-move_to)
-    (λ n p. moving_leaves_from c.args.self.now n p c.args.key c.args.parent c.args.before c.requires.live c.requires.below c.requires.parent
-    c.requires.outside c.requires.place c.requires.other (holds_blended c.args.key c.args.self.now))
+pub hand_inside-inside-requires-clause-live : goal.hand_inside-inside-requires-clause-live
+hand_inside-inside-requires-clause-live g c = (sym (has-by (λ k d. laid_at (hand_at c.self.inside.hands.items k) d) same_key c.args.parent c.self.inside.drawn.boxes) ∙ (rw (← c.self.view_is) at c.requires.parent))
 
-pub touch_context-requires-2 : goal.touch_context-requires-2
-touch_context-requires-2 g c =
-    touch_second (moving c.args.key c.args.parent c.args.before) c.args.self.now c.move_to.new.self (holds_blended c.args.key c.args.self.now)
-    (context_round c.args.key c.args.self.now) c.if-holds_blended.from.0 c.move_to.ensures (from_here g (goal.at.touch_context-requires-2 g c).After-move_to)
-    (λ n p. moving_leaves_from c.args.self.now n p c.args.key c.args.parent c.args.before c.requires.live c.requires.below c.requires.parent
-    c.requires.outside c.requires.place c.requires.other (holds_blended c.args.key c.args.self.now))
-    (context_of c.args.parent c.args.self.now) c.if-holds_blended.from.1 c.touch_context.new.self c.touch_context.ensures
-    (to_here g (goal.at.touch_context-requires-2 g c).After-move_to)
-    (λ n p. moving_leaves_to c.args.self.now n p c.args.key c.args.parent c.args.before c.requires.live c.requires.below c.requires.parent
-    c.requires.outside c.requires.place c.requires.other (holds_blended c.args.key c.args.self.now))
+pub hand_inside-inside-requires-clause-handing : goal.hand_inside-inside-requires-clause-handing
+hand_inside-inside-requires-clause-handing g c = rw c.deref-2.ensures.value c.self.invariant
+
+pub relink-requires-clause-live : goal.relink-requires-clause-live
+relink-requires-clause-live g c = (sym (has-by (λ k d. laid_at (hand_at c.self.inside.hands.items k) d) same_key c.args.key c.self.inside.drawn.boxes) ∙ (rw (← c.self.view_is) at c.requires.live))
+
+pub relink-requires-clause-below : goal.relink-requires-clause-below
+relink-requires-clause-below g c = (rw (← c.self.view_is) at c.requires.below)
+
+pub relink-requires-clause-parent : goal.relink-requires-clause-parent
+relink-requires-clause-parent g c = (sym (has-by (λ k d. laid_at (hand_at c.self.inside.hands.items k) d) same_key c.args.parent c.self.inside.drawn.boxes) ∙ (rw (← c.self.view_is) at c.requires.parent))
+
+pub relink-requires-clause-outside : goal.relink-requires-clause-outside
+relink-requires-clause-outside g c = (sym (subtree-by (λ k d. laid_at (hand_at c.self.inside.hands.items k) d) same_key c.args.parent c.args.key c.self.inside.drawn.boxes) ∙ (rw (← c.self.view_is) at c.requires.outside))
+
+pub relink-requires-clause-place : goal.relink-requires-clause-place
+relink-requires-clause-place g c = (place_laid c.self.inside.hands.items c.args.before c.args.parent c.self.inside.drawn.boxes (rw (← c.self.view_is) at c.requires.place))
+
+pub relink-requires-clause-depth : goal.relink-requires-clause-depth
+relink-requires-clause-depth g c = (depth_laid c.self.inside.hands.items c.args.parent c.args.key c.self.inside.drawn.boxes (rw (← c.self.view_is) at c.requires.depth))
+
+pub draw_anew-requires-clause-live : goal.draw_anew-requires-clause-live
+draw_anew-requires-clause-live g c = subst (λ z. has same_key c.args.key z.boxes ≡ true) (sym c.relink.ensures) (move_there c.self.inside.drawn c.self.inside.hands.items (record { rooted = c.known.ensures.rooted; apart = c.known.ensures.apart; keyed = c.known.ensures.keyed; shallow = c.known.ensures.depth }) c.self.invariant c.args.key c.args.parent c.args.before (sym (has-by (λ k d. laid_at (hand_at c.self.inside.hands.items k) d) same_key c.args.key c.self.inside.drawn.boxes) ∙ (rw (← c.self.view_is) at c.requires.live)) (rw (← c.self.view_is) at c.requires.below) (sym (has-by (λ k d. laid_at (hand_at c.self.inside.hands.items k) d) same_key c.args.parent c.self.inside.drawn.boxes) ∙ (rw (← c.self.view_is) at c.requires.parent)) (sym (subtree-by (λ k d. laid_at (hand_at c.self.inside.hands.items k) d) same_key c.args.parent c.args.key c.self.inside.drawn.boxes) ∙ (rw (← c.self.view_is) at c.requires.outside)) (place_laid c.self.inside.hands.items c.args.before c.args.parent c.self.inside.drawn.boxes (rw (← c.self.view_is) at c.requires.place)) c.requires.other c.hand_inside-inside.result (c.hand_inside-inside.ensures.inside ∙ ap (λ z. passed_from (same_key c.args.parent c.self.inside.drawn.root) (hand_at z c.args.parent) (item_of same_key c.args.parent c.self.inside.drawn.boxes)) c.deref-2.ensures.value))
+
+pub draw_anew-requires-clause-old : goal.draw_anew-requires-clause-old
+draw_anew-requires-clause-old g c = subst (IsFar 256) (sym c.own_offset-old.ensures) (own_far c.hand-own.result (item_of same_key c.args.key c.self.inside.drawn.boxes) c.hand-own.ensures.few)
+
+pub draw_anew-requires-clause-can : goal.draw_anew-requires-clause-can
+draw_anew-requires-clause-can g c =
+    subst (λ z. CanDraw z c.self.inside.hands.items c.args.key c.own_offset-old.result c.hand_inside-inside.result) (sym c.relink.ensures)
+    (move_can c.self.inside.drawn c.self.inside.hands.items (record { rooted = c.known.ensures.rooted; apart = c.known.ensures.apart; keyed = c.known.ensures.keyed; shallow = c.known.ensures.depth }) c.self.invariant c.args.key c.args.parent c.args.before (sym (has-by (λ k d. laid_at (hand_at c.self.inside.hands.items k) d) same_key c.args.key c.self.inside.drawn.boxes) ∙ (rw (← c.self.view_is) at c.requires.live)) (rw (← c.self.view_is) at c.requires.below) (sym (has-by (λ k d. laid_at (hand_at c.self.inside.hands.items k) d) same_key c.args.parent c.self.inside.drawn.boxes) ∙ (rw (← c.self.view_is) at c.requires.parent)) (sym (subtree-by (λ k d. laid_at (hand_at c.self.inside.hands.items k) d) same_key c.args.parent c.args.key c.self.inside.drawn.boxes) ∙ (rw (← c.self.view_is) at c.requires.outside)) (place_laid c.self.inside.hands.items c.args.before c.args.parent c.self.inside.drawn.boxes (rw (← c.self.view_is) at c.requires.place)) c.requires.other c.hand_inside-inside.result (c.hand_inside-inside.ensures.inside ∙ ap (λ z. passed_from (same_key c.args.parent c.self.inside.drawn.root) (hand_at z c.args.parent) (item_of same_key c.args.parent c.self.inside.drawn.boxes)) c.deref-2.ensures.value) c.own_offset-old.result (c.own_offset-old.ensures ∙ ap (λ z. own_from z (item_of same_key c.args.key c.self.inside.drawn.boxes)) (c.hand-own.ensures.hand ∙ ap (λ z. hand_at z c.args.key) c.deref.ensures.value)) c.hand_inside-inside.ensures.few (depth_laid c.self.inside.hands.items c.args.parent c.args.key c.self.inside.drawn.boxes (rw (← c.self.view_is) at c.requires.depth)))
+
+pub invariant_of-self : goal.invariant_of-self
+invariant_of-self g c =
+    let redrawn : IsRedrawn c.relink.new.self c.draw_anew.new.drawn c.self.inside.hands.items c.draw_anew.new.hands.items c.args.key c.own_offset-old.result c.hand_inside-inside.result = record {
+      drawn = c.draw_anew.ensures.drawn;
+      handed = c.draw_anew.ensures.handed;
+      same_length = c.draw_anew.ensures.same_length;
+    } in
+    (move_done c.self.inside.drawn c.self.inside.hands.items (record { rooted = c.known.ensures.rooted; apart = c.known.ensures.apart; keyed = c.known.ensures.keyed; shallow = c.known.ensures.depth }) c.self.invariant c.args.key c.args.parent c.args.before (sym (has-by (λ k d. laid_at (hand_at c.self.inside.hands.items k) d) same_key c.args.key c.self.inside.drawn.boxes) ∙ (rw (← c.self.view_is) at c.requires.live)) (rw (← c.self.view_is) at c.requires.below) (sym (has-by (λ k d. laid_at (hand_at c.self.inside.hands.items k) d) same_key c.args.parent c.self.inside.drawn.boxes) ∙ (rw (← c.self.view_is) at c.requires.parent)) (sym (subtree-by (λ k d. laid_at (hand_at c.self.inside.hands.items k) d) same_key c.args.parent c.args.key c.self.inside.drawn.boxes) ∙ (rw (← c.self.view_is) at c.requires.outside)) (place_laid c.self.inside.hands.items c.args.before c.args.parent c.self.inside.drawn.boxes (rw (← c.self.view_is) at c.requires.place)) c.requires.other c.hand_inside-inside.result (c.hand_inside-inside.ensures.inside ∙ ap (λ z. passed_from (same_key c.args.parent c.self.inside.drawn.root) (hand_at z c.args.parent) (item_of same_key c.args.parent c.self.inside.drawn.boxes)) c.deref-2.ensures.value) c.own_offset-old.result (c.own_offset-old.ensures ∙ ap (λ z. own_from z (item_of same_key c.args.key c.self.inside.drawn.boxes)) (c.hand-own.ensures.hand ∙ ap (λ z. hand_at z c.args.key) c.deref.ensures.value)) (subst (λ z. IsApart same_key z.boxes) c.relink.ensures c.known-2.ensures.apart) c.draw_anew.new.drawn c.draw_anew.new.hands.items
+    (subst (λ z. IsRedrawn z c.draw_anew.new.drawn c.self.inside.hands.items c.draw_anew.new.hands.items c.args.key c.own_offset-old.result c.hand_inside-inside.result) c.relink.ensures redrawn) (record { rooted = c.known-3.ensures.rooted; apart = c.known-3.ensures.apart; keyed = c.known-3.ensures.keyed; shallow = c.known-3.ensures.depth })).0
 
 pub returns : goal.returns
 returns g c =
-    both_touched (moving c.args.key c.args.parent c.args.before) c.args.self.now c.move_to.new.self (holds_blended c.args.key c.args.self.now)
-    (context_round c.args.key c.args.self.now) c.if-holds_blended.from.0 c.move_to.ensures (from_here g (goal.at.returns g c).After-move_to)
-    (λ n p. moving_leaves_from c.args.self.now n p c.args.key c.args.parent c.args.before c.requires.live c.requires.below c.requires.parent
-    c.requires.outside c.requires.place c.requires.other (holds_blended c.args.key c.args.self.now))
-    (context_of c.args.parent c.args.self.now) c.if-holds_blended.from.1 c.touch_context.new.self c.touch_context.ensures
-    (to_here g (goal.at.returns g c).After-move_to)
-    (λ n p. moving_leaves_to c.args.self.now n p c.args.key c.args.parent c.args.before c.requires.live c.requires.below c.requires.parent
-    c.requires.outside c.requires.place c.requires.other (holds_blended c.args.key c.args.self.now))
-    c.touch_context-2.new.self c.touch_context-2.ensures (λ j. refl)
+    let redrawn : IsRedrawn c.relink.new.self c.draw_anew.new.drawn c.self.inside.hands.items c.draw_anew.new.hands.items c.args.key c.own_offset-old.result c.hand_inside-inside.result = record {
+      drawn = c.draw_anew.ensures.drawn;
+      handed = c.draw_anew.ensures.handed;
+      same_length = c.draw_anew.ensures.same_length;
+    } in
+    (move_done c.self.inside.drawn c.self.inside.hands.items (record { rooted = c.known.ensures.rooted; apart = c.known.ensures.apart; keyed = c.known.ensures.keyed; shallow = c.known.ensures.depth }) c.self.invariant c.args.key c.args.parent c.args.before (sym (has-by (λ k d. laid_at (hand_at c.self.inside.hands.items k) d) same_key c.args.key c.self.inside.drawn.boxes) ∙ (rw (← c.self.view_is) at c.requires.live)) (rw (← c.self.view_is) at c.requires.below) (sym (has-by (λ k d. laid_at (hand_at c.self.inside.hands.items k) d) same_key c.args.parent c.self.inside.drawn.boxes) ∙ (rw (← c.self.view_is) at c.requires.parent)) (sym (subtree-by (λ k d. laid_at (hand_at c.self.inside.hands.items k) d) same_key c.args.parent c.args.key c.self.inside.drawn.boxes) ∙ (rw (← c.self.view_is) at c.requires.outside)) (place_laid c.self.inside.hands.items c.args.before c.args.parent c.self.inside.drawn.boxes (rw (← c.self.view_is) at c.requires.place)) c.requires.other c.hand_inside-inside.result (c.hand_inside-inside.ensures.inside ∙ ap (λ z. passed_from (same_key c.args.parent c.self.inside.drawn.root) (hand_at z c.args.parent) (item_of same_key c.args.parent c.self.inside.drawn.boxes)) c.deref-2.ensures.value) c.own_offset-old.result (c.own_offset-old.ensures ∙ ap (λ z. own_from z (item_of same_key c.args.key c.self.inside.drawn.boxes)) (c.hand-own.ensures.hand ∙ ap (λ z. hand_at z c.args.key) c.deref.ensures.value)) (subst (λ z. IsApart same_key z.boxes) c.relink.ensures c.known-2.ensures.apart) c.draw_anew.new.drawn c.draw_anew.new.hands.items
+    (subst (λ z. IsRedrawn z c.draw_anew.new.drawn c.self.inside.hands.items c.draw_anew.new.hands.items c.args.key c.own_offset-old.result c.hand_inside-inside.result) c.relink.ensures redrawn) (record { rooted = c.known-3.ensures.rooted; apart = c.known-3.ensures.apart; keyed = c.known-3.ensures.keyed; shallow = c.known-3.ensures.depth })).1 ∙ ap (edited (moving c.args.key c.args.parent c.args.before)) c.self.view_is
+
+pub hand_inside-below-requires-clause-live : goal.hand_inside-below-requires-clause-live
+hand_inside-below-requires-clause-live g c = (sym (has-by (λ k d. laid_at (hand_at c.self.inside.hands.items k) d) same_key c.args.key c.self.inside.drawn.boxes) ∙ (rw (← c.self.view_is) at c.requires.live))
+
+pub hand_inside-below-requires-clause-handing : goal.hand_inside-below-requires-clause-handing
+hand_inside-below-requires-clause-handing g c = rw c.deref-3.ensures.value c.self.invariant
+
+pub draw_anew-requires-clause-below : goal.draw_anew-requires-clause-below
+draw_anew-requires-clause-below g c =
+    subst (λ z. IsHandedDown c.self.inside.hands.items c.hand_inside-below.result (children same_key c.args.key z.boxes)) (sym c.relink.ensures)
+    (subst (λ h. IsHandedDown c.self.inside.hands.items h (children same_key c.args.key (edited (moving c.args.key c.args.parent c.args.before) c.self.inside.drawn).boxes)) (sym (c.hand_inside-below.ensures.inside ∙ ap (λ z. passed_from (same_key c.args.key c.self.inside.drawn.root) (hand_at z c.args.key) (item_of same_key c.args.key c.self.inside.drawn.boxes)) c.deref-3.ensures.value))
+    (move_below c.self.inside.drawn c.self.inside.hands.items (record { rooted = c.known.ensures.rooted; apart = c.known.ensures.apart; keyed = c.known.ensures.keyed; shallow = c.known.ensures.depth }) c.self.invariant c.args.key c.args.parent c.args.before (sym (has-by (λ k d. laid_at (hand_at c.self.inside.hands.items k) d) same_key c.args.key c.self.inside.drawn.boxes) ∙ (rw (← c.self.view_is) at c.requires.live)) (rw (← c.self.view_is) at c.requires.below) (sym (has-by (λ k d. laid_at (hand_at c.self.inside.hands.items k) d) same_key c.args.parent c.self.inside.drawn.boxes) ∙ (rw (← c.self.view_is) at c.requires.parent)) (sym (subtree-by (λ k d. laid_at (hand_at c.self.inside.hands.items k) d) same_key c.args.parent c.args.key c.self.inside.drawn.boxes) ∙ (rw (← c.self.view_is) at c.requires.outside)) (place_laid c.self.inside.hands.items c.args.before c.args.parent c.self.inside.drawn.boxes (rw (← c.self.view_is) at c.requires.place)) c.requires.other c.hand_inside-inside.result (c.hand_inside-inside.ensures.inside ∙ ap (λ z. passed_from (same_key c.args.parent c.self.inside.drawn.root) (hand_at z c.args.parent) (item_of same_key c.args.parent c.self.inside.drawn.boxes)) c.deref-2.ensures.value)))
