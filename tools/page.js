@@ -93,6 +93,13 @@ function showTree() {
   }));
 }
 
+// How far a box is scrolled, and where it is drawn itself, where that is not where it stands.
+function scrollsOf(box) {
+  const own = box.scroll.some((way) => way !== 0) ? [["scrolled to", box.scroll.join(", ")]] : [];
+  const isElsewhere = box.at.some((side, place) => side !== box.rect[place]);
+  return isElsewhere ? [["drawn at", box.at.slice(0, 2).join(", ")], ...own] : own;
+}
+
 const boxNow = (id) => tree().map(([number]) => data.boxes[number]).find((box) => box.id === id);
 
 function showBox() {
@@ -105,7 +112,7 @@ function showBox() {
     return;
   }
   const [x, y, w, h] = box.rect;
-  const values = [["border box", `${w} × ${h} at ${x}, ${y}`], ...Object.entries(box.style)];
+  const values = [["border box", `${w} × ${h} at ${x}, ${y}`], ...scrollsOf(box), ...Object.entries(box.style)];
   const terms = values.flatMap(([name, value]) =>
     [element("dt", "", name), element("dd", "", String(Array.isArray(value) ? value.join(" ") : value ?? "none"))]);
   by("box").replaceChildren(element("h3", "", element("code", "", box.id)), element("dl", "", ...terms));
@@ -298,7 +305,7 @@ function outline(on, [x, y, w, h], color, dash) {
 function drawMarks(on) {
   for (const [id, dash] of [[step().box, [5, 4]], [now.box, []], [now.over, []]]) {
     const box = id && boxNow(id);
-    if (box) outline(on, box.rect, "#6b4fbb", dash);
+    if (box) outline(on, box.at, "#6b4fbb", dash);
   }
   if (now.pixel) {
     const [x, y] = now.pixel;

@@ -23,7 +23,8 @@ MOST_STEPS = 300
 MOST_BOXES = 1_000
 MOST_PIXELS = 200_000_000
 MOST_PROBES = 15_000
-EDITS = ("insert", "remove", "move", "style", "rect", "shift")
+EDITS = ("insert", "remove", "move", "style", "rect", "shift", "scroll")
+CLIPPING = ("hidden", "scroll", "auto")
 
 # ---------------------------------------------------------------------------------------------------------------------
 # The program
@@ -97,7 +98,7 @@ def with_dumps(commands):
 
 
 class Tree:
-    """The boxes by id, each with its parent, its children in their order, its rectangle and its style."""
+    """The boxes by id, each with its parent, its children in their order, its rectangle, its style and how far it is scrolled."""
 
     def __init__(self, boxes):
         self.boxes = {}
@@ -106,7 +107,8 @@ class Tree:
         self.root = boxes[0]["id"]
 
     def put(self, box, before):
-        self.boxes[box["id"]] = {"children": [], "rect": list(box["rect"]), "style": dict(box.get("style", {}))}
+        own = {"rect": list(box["rect"]), "style": dict(box.get("style", {})), "scroll": [0, 0]}
+        self.boxes[box["id"]] = {"children": [], **own}
         self.hang(box["id"], box["parent"], before)
 
     def hang(self, name, parent, before):
@@ -142,8 +144,35 @@ class Tree:
             self.boxes[name]["style"].update(edit["style"])
         elif kind == "rect":
             self.boxes[name]["rect"] = list(edit["rect"])
+        elif kind == "scroll":
+            self.boxes[name]["scroll"] = [edit["x"], edit["y"]]
         else:
             self.shift(name, edit["dx"], edit["dy"])
+
+    def clips(self, name):
+        """Neither the root clips, nor an inline box that stands in the flow (docs/DEFINITIONS.md)."""
+        style = self.boxes[name]["style"]
+        is_out = style.get("position") in ("absolute", "fixed") or style.get("float", "none") != "none"
+        is_blocky = is_out or style.get("display", "block") != "inline"
+        return name != self.root and is_blocky and style.get("overflow", "visible") in CLIPPING
+
+    def chain(self, name):
+        """The containing block of a box, the one of that, and so on."""
+        position = self.boxes[name]["style"].get("position", "static")
+        name = None if position == "fixed" else self.boxes[name]["parent"]
+        while position == "absolute" and name is not None and self.boxes[name]["style"].get("position", "static") == "static":
+            name = self.boxes[name]["parent"]
+        return [] if name is None else [name, *self.chain(name)]
+
+    def at(self, name):
+        """Where a box is drawn: its border box less the scroll offsets of the boxes that clip it."""
+        x, y, w, h = self.boxes[name]["rect"]
+        offsets = [self.boxes[each]["scroll"] for each in self.chain(name) if self.clips(each)]
+        return [x - sum(dx for dx, _ in offsets), y - sum(dy for _, dy in offsets), w, h]
+
+    def shown(self, name):
+        """What the page tells of a box."""
+        return {"id": name, "at": self.at(name), **{key: self.boxes[name][key] for key in ("rect", "scroll", "style")}}
 
     def shift(self, name, dx, dy):
         for each, _ in self.below(name):
@@ -163,7 +192,7 @@ REFUSALS = {
     6: "a box has this id",
     7: "a box would be deeper than 256",
     8: "there are 20,000 boxes",
-    9: "a rectangle would break the limits",
+    9: "a rectangle or a scroll offset would break the limits",
 }
 QUESTIONS = {"paint": "paint", "dump": "what is in the list?", "shot": "which digest has the picture?"}
 
@@ -199,6 +228,7 @@ def in_words(command):
         "move": lambda: f"`{name}` goes {place_in_words(command)}",
         "style": lambda: f"`{name}` gets {style_in_words(command['style'])}",
         "shift": lambda: f"`{name}` and all below it shift by {command['dx']}, {command['dy']}",
+        "scroll": lambda: f"what `{name}` clips is scrolled to {command['x']}, {command['y']}",
     }[kind]()
 
 
@@ -463,7 +493,7 @@ class Story:
     def step(self, words, command, lines, is_paint=False):
         """One row of the page."""
         tree = [
-            [self.boxes.number({"id": name, **{key: self.tree.boxes[name][key] for key in ("rect", "style")}}), depth]
+            [self.boxes.number(self.tree.shown(name)), depth]
             for name, depth in self.tree.below(self.tree.root)
         ]
         kind = command["do"] if command else "start"
