@@ -45,6 +45,15 @@ joins_same p q a b e h = record {
 pub joins_none : (p : Test) (a : Region) → ((x y : ℤ) → p x y ≡ false) → Joins p a a
 joins_none p a e = record { size = refl; pixels = λ x y. sym (ap (λ z. (z && holds_pixel (canvas_of a.size) x y) || in_area a x y) (e x y)) }
 
+-- by a test that no pixel of the canvas passes
+pub joins_off : (p : Test) (a : Region) → ((x y : ℤ) → holds_pixel (canvas_of a.size) x y ≡ true → p x y ≡ false) → Joins p a a
+joins_off p a e = record { size = refl; pixels = λ x y. sym (by (p x y) (holds_pixel (canvas_of a.size) x y) (in_area a x y) (e x y)) }
+  where
+    by : (t h o : Bool) → (h ≡ true → t ≡ false) → ((t && h) || o) ≡ o
+    by t true o f = ap (λ z. (z && true) || o) (f refl)
+    by true false o f = refl
+    by false false o f = refl
+
 -- the pixels of a rectangle
 pub joins_rect : (r : Rectangle) (a b : Region) → b.size ≡ a.size → ((x y : ℤ) → in_area b x y ≡ (holds_pixel (meet r (canvas_of a.size)) x y || in_area a x y)) → Joins (λ x y. holds_pixel r x y) a b
 joins_rect r a b e h = record { size = e; pixels = λ x y. h x y ∙ ap (λ z. z || in_area a x y) (common_pixels r (canvas_of a.size) x y) }

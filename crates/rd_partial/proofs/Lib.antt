@@ -8,6 +8,7 @@ pub mod Adding
 pub mod Listing
 pub mod Parted
 pub mod Touching
+pub mod Unseen
 pub mod Searching
 pub mod Framed
 pub mod Marked

@@ -1,21 +1,18 @@
 -- A leaf of a box may be seen somewhere, and inside its shape.
 use Rattle.std.proofs.Common.{◌≡◌, refl, subst, Bool, true, false, cond}
-use Rattle.std.specs.Prelude.{Option, Some, None, IsTrue}
-use Rattle.rd_geom.specs.Plane.{Rectangle, meet, has_none, holds_pixel, IsWithin}
+use Rattle.std.specs.Prelude.{Option, Some, None}
+use Rattle.rd_geom.specs.Plane.{Rectangle, meet, has_none, IsWithin}
 use Rattle.rd_geom.specs.declared.color.Color.{Color}
-use Rattle.rd_geom.proofs.Pixels.{common_pixels, left_of}
 use Rattle.rd_keys.specs.declared.entry.Part.{Part}
 use Rattle.rd_item.specs.declared.leaf.Leaf.{Leaf}
 use Rattle.rd_item.specs.declared.leaf.Shape.{Shape}
 use Rattle.rd_stack.specs.Paths.{BoxData}
 use Rattle.rd_stack.specs.Parts.{leaf_of, shown, shape_of, is_seen, takes_hits}
+use Rattle.rd_partial.proofs.Pass.Reach.{within_first}
 
 pub record Shows (l : Leaf) : Type 0 where
   pub some : has_none l.visible ≡ false
   pub within : IsWithin l.visible l.shape.outer
-
-within_first : (a b : Rectangle) → IsWithin (meet a b) a
-within_first a b x y h = left_of (holds_pixel a x y) (holds_pixel b x y) (subst (λ t. IsTrue t) (common_pixels a b x y) h)
 
 of_shown : (clip : Rectangle) (b : BoxData) (part : Part) (o : Option (Shape × Color)) (l : Leaf) → shown clip b part o ≡ Some l → Shows l
 of_shown clip b part None l e = cc

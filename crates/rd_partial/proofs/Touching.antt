@@ -12,7 +12,7 @@ use Rattle.rd_stack.specs.Fresh.{box_data}
 use Rattle.rd_partial.specs.Internal.Counting.{looks_below}
 use Rattle.rd_partial.specs.Internal.Looked.{Onward, here_of}
 use Rattle.rd_partial.specs.Internal.Standing.{Standing, below}
-use Rattle.rd_partial.specs.Internal.Touched.{Joins, HasMarks, box_shows, touched_shows, own_shows, shows_below, leads_to_touched, marks_from, looks_under}
+use Rattle.rd_partial.specs.Internal.Touched.{Joins, HasMarks, box_shows, touched_shows, own_shows, shows_below, branch_shows, leads_to_touched, marks_from, looks_under}
 use Rattle.rd_partial.specs.declared.look.Looked.{Looked}
 use Rattle.rd_partial.proofs.Adding.{joins_then, joins_same, joins_none}
 
@@ -68,7 +68,10 @@ module _ (s : Standing) (t : Document) (k : BoxKey) (v : Looked) (w : Onward t.b
   own_is : (x y : ℤ) → own_shows s v x y ≡ (w.item.touched && box_shows s (box_data k w.item) x y)
   own_is x y = ap (λ b. v.touched && box_shows s b x y) w.data_is ∙ ap (λ z. z && box_shows s (box_data k w.item) x y) marks.0
 
-  here_shows : (x y : ℤ) → ((own_shows s v x y || shows_below s v t x y) || touched_shows s (from_some same_key v.next_sibling t.boxes) x y) ≡ touched_shows s (starting_at same_key k t.boxes) x y
+  pub branch_is : (x y : ℤ) → branch_shows s v t x y ≡ ((w.item.touched && box_shows s (box_data k w.item) x y) || touched_shows (below s (box_data k w.item)) w.below x y)
+  branch_is x y = ap (λ z. z || shows_below s v t x y) (own_is x y) ∙ ap (λ z. (w.item.touched && box_shows s (box_data k w.item) x y) || z) (below_is x y)
+
+  here_shows : (x y : ℤ) → (branch_shows s v t x y || touched_shows s (from_some same_key v.next_sibling t.boxes) x y) ≡ touched_shows s (starting_at same_key k t.boxes) x y
   here_shows x y =
       three (own_shows s v x y) (shows_below s v t x y) (touched_shows s (from_some same_key v.next_sibling t.boxes) x y)
       ∙ ap (λ z. z || (shows_below s v t x y || touched_shows s (from_some same_key v.next_sibling t.boxes) x y)) (own_is x y)
@@ -95,18 +98,18 @@ module _ (s : Standing) (t : Document) (k : BoxKey) (v : Looked) (w : Onward t.b
   size_more : size (starting_at same_key k t.boxes) ≡ 1 + (size (from_some same_key v.first_child t.boxes) + size (from_some same_key v.next_sibling t.boxes))
   size_more = rw (w.is, w.child, w.next) refl
 
-  pub added_one : (first : BoxForest) (before now one two : Region) (looks0 looks looks1 looks2 : ℕ) (o : Option BoxKey) → o ≡ Some k
-      → Added s first (from_some same_key o t.boxes) before now looks0 looks → Joins (own_shows s v) now one → Joins (shows_below s v t) one two
+  pub added_one : (first : BoxForest) (before now two : Region) (looks0 looks looks1 looks2 : ℕ) (o : Option BoxKey) → o ≡ Some k
+      → Added s first (from_some same_key o t.boxes) before now looks0 looks → Joins (branch_shows s v t) now two
       → looks1 ≡ looks + 1 → looks2 ≤ looks1 + looks_under v t → Added s first (from_some same_key v.next_sibling t.boxes) before two looks0 looks2
-  added_one first before now one two looks0 looks looks1 looks2 o e i h l c u =
+  added_one first before now two looks0 looks looks1 looks2 o e i h c u =
       let j : Added s first (starting_at same_key k t.boxes) before now looks0 looks = subst (λ z. Added s first (from_some same_key z t.boxes) before now looks0 looks) e i in
       let sm = size_more in
       let lm = looks_more in
       record {
         fewer = omega (arith, sm, j.fewer);
         then = λ r n.
-            j.then r (joins_same (λ x y. (own_shows s v x y || shows_below s v t x y) || touched_shows s (from_some same_key v.next_sibling t.boxes) x y) (touched_shows s (starting_at same_key k t.boxes)) now r here_shows
-            (joins_then (λ x y. own_shows s v x y || shows_below s v t x y) (touched_shows s (from_some same_key v.next_sibling t.boxes)) now two r (joins_then (own_shows s v) (shows_below s v t) now one two h l) n));
+            j.then r (joins_same (λ x y. branch_shows s v t x y || touched_shows s (from_some same_key v.next_sibling t.boxes) x y) (touched_shows s (starting_at same_key k t.boxes)) now r here_shows
+            (joins_then (branch_shows s v t) (touched_shows s (from_some same_key v.next_sibling t.boxes)) now two r h n));
         looks_is = omega (arith, lm, j.looks_is, c, u);
       }
 

@@ -2,10 +2,11 @@
 ghost use Rattle.std.specs.Prelude.{◌≡◌};
 ghost use Rattle.rd_stack.specs.Parts.{background, solid};
 ghost use Rattle.rd_geom.specs.Canvas.{IsCanvas, canvas_of};
+ghost use Rattle.rd_geom.specs.Plane as plane;
 ghost use Rattle.rd_partial.specs.Internal.Standing as spec;
 
 use rd_clip::Clips;
-use rd_geom::{Rect, Size};
+use rd_geom::{Rect, Size, meets};
 use rd_item::{Leaf, Shape};
 use rd_keys::Part;
 use rd_stack::{BoxData, back_of, leaf_of};
@@ -60,6 +61,14 @@ impl Standing {
             root: false,
             clips: self.clips.enter(b.style(), b.rect(), self.root),
         }
+    }
+
+    /// Has the rectangle a pixel of the canvas?
+    #[inline(always)]
+    pub(crate) fn may_show(&self, r: Rect) -> bool
+        ensures { result ≡ plane.meets self.now.canvas r }
+    {
+        meets(self.canvas, r)
     }
 
     /// What may be seen of a box.

@@ -1,6 +1,7 @@
 //! The area that touched boxes invalidate.
-ghost use Rattle.std.specs.Prelude.{◌≡◌, ◌≤◌, ◌+◌, ℤ, Some, IfOk, OnOk};
+ghost use Rattle.std.specs.Prelude.{◌≡◌, ◌≤◌, ◌+◌, ℤ, Some, false, IfOk, OnOk};
 ghost use Rattle.rd_geom.specs.Areas.{in_area};
+ghost use Rattle.rd_geom.specs.Canvas.{canvas_of};
 ghost use Rattle.rd_list.specs.EntryNames.{kept_leaves};
 ghost use Rattle.rd_tree.specs.Document.{IsRooted};
 ghost use Rattle.rd_stack.specs.Internal.Looks.{IsFirst};
@@ -9,7 +10,7 @@ ghost use Rattle.rd_partial.specs.Looks.{holds_touched, looks_bound};
 ghost use Rattle.rd_partial.specs.Invalid.{is_invalid};
 ghost use Rattle.rd_partial.specs.Internal.Standing.{leaf_in};
 ghost use Rattle.rd_partial.specs.Internal.Looked.{here_of};
-ghost use Rattle.rd_partial.specs.Internal.Touched.{Joins, leaf_shows, box_shows, own_shows, shows_below, shows_from, marks_from, touched_looks, looks_under};
+ghost use Rattle.rd_partial.specs.Internal.Touched.{Joins, IsTold, leaf_shows, box_shows, own_shows, branch_shows, shows_below, shows_from, marks_from, touched_looks, looks_under};
 ghost use Rattle.rd_tree.specs.Drawn.{drawn};
 
 use crate::listed::add_list;
@@ -75,6 +76,7 @@ fn add_below<B: Ledger>(
     requires live { IsFirst looked.now.first_child (drawn tree.now) }
     requires fits { OutlineFits (here_of looked.now) }
     requires marks { looked.now.touched_below ≡ marks_from looked.now.first_child (drawn tree.now) }
+    requires canvas { s.now.canvas ≡ canvas_of area.old.size }
     ensures area { OnOk result (Joins (shows_below s.now looked.now (drawn tree.now)) area.old area.new) }
     ensures looks { looks.new ≤ looks.old + looks_under looked.now (drawn tree.now) }
 {
@@ -92,6 +94,32 @@ fn add_below<B: Ledger>(
     }
 }
 
+/// Adds what may be seen of a box that is not the root, if it is touched, and of the touched boxes below it. Where their hull
+/// has no pixel of the canvas nothing of them may be seen, and no box is looked at.
+#[cycle(touching)]
+#[inline(always)]
+fn add_branch<B: Ledger>(
+    tree: &Tree<B>,
+    area: &mut Area,
+    s: &Standing,
+    looked: &Looked<'_>,
+    looks: &mut Steps<B>,
+) -> Result<(), NoMemory>
+    requires below { s.now.root ≡ false }
+    requires canvas { s.now.canvas ≡ canvas_of area.old.size }
+    requires fits { OutlineFits (here_of looked.now) }
+    requires told { IsTold (drawn tree.now) looked.now }
+    ensures area { OnOk result (Joins (branch_shows s.now looked.now (drawn tree.now)) area.old area.new) }
+    ensures looks { looks.new ≤ looks.old + looks_under looked.now (drawn tree.now) }
+{
+    if !s.may_show(looked.hull) {
+        return Ok(());
+    }
+    add_if_touched(area, s, looked)?;
+    add_below(tree, area, s, looked, looks)?;
+    Ok(())
+}
+
 /// Adds what may be seen of the touched ones of some siblings, and of the touched boxes below them. So many marks are all
 /// that they have, and no sibling is looked at after the last one.
 #[cycle(touching)]
@@ -103,6 +131,8 @@ fn add_siblings<B: Ledger>(
     marks: u32,
     looks: &mut Steps<B>,
 ) -> Result<(), NoMemory>
+    requires below { s.now.root ≡ false }
+    requires canvas { s.now.canvas ≡ canvas_of area.old.size }
     requires live { IsFirst first (drawn tree.now) }
     requires marks { marks ≡ marks_from first (drawn tree.now) }
     ensures area { OnOk result (Joins (shows_from s.now first (drawn tree.now)) area.old area.new) }
@@ -115,8 +145,7 @@ fn add_siblings<B: Ledger>(
             Some(looked) => looked,
             None => unreachable!(),
         };
-        add_if_touched(area, s, &looked)?;
-        add_below(tree, area, s, &looked, looks)?;
+        add_branch(tree, area, s, &looked, looks)?;
         left -= looked.own_marks() + looked.touched_below;
         at = looked.next_sibling;
     }
@@ -133,6 +162,7 @@ fn add_root<B: Ledger>(
 ) -> Result<(), NoMemory>
     requires root { root ≡ tree.now.root }
     requires rooted { IsRooted (drawn tree.now) }
+    requires canvas { s.now.canvas ≡ canvas_of area.old.size }
     ensures area { OnOk result (Joins (shows_from s.now (Some root) (drawn tree.now)) area.old area.new) }
     ensures looks { looks.new ≤ looks.old + touched_looks (Some root) (drawn tree.now) }
 {
@@ -147,7 +177,7 @@ fn add_root<B: Ledger>(
 
 /// The pixels of the canvas in the visible rectangle of a leaf of a touched box, in a list that was painted before or in
 /// the fresh list of the tree. The list is read once, but for blocks of untouched boxes, and no box of the tree is entered that is not touched and has no
-/// touched box below it. Looks are counted in `looks`, also where memory is wanting.
+/// touched box below it, or whose hull is off the canvas. Looks are counted in `looks`, also where memory is wanting.
 pub fn touched_area<A: Ledger, B: Ledger>(
     alloc: Global,
     tree: &Tree<B>,

@@ -22,10 +22,10 @@ use Rattle.rd_partial.specs.Internal.Standing.{below, clip_in}
 use Rattle.rd_partial.specs.Internal.Given.{gives, if_wanted}
 use Rattle.rd_partial.proofs.Pass.Pruned.{GiveNone}
 
-within_through : (a b c : Rectangle) → IsWithin a b → IsWithin b c → IsWithin a c
+pub within_through : (a b c : Rectangle) → IsWithin a b → IsWithin b c → IsWithin a c
 within_through a b c h k x y p = k x y (h x y p)
 
-within_first : (a b : Rectangle) → IsWithin (meet a b) a
+pub within_first : (a b : Rectangle) → IsWithin (meet a b) a
 within_first a b x y h = left_of (holds_pixel a x y) (holds_pixel b x y) (subst (λ t. IsTrue t) (common_pixels a b x y) h)
 
 pub hull_left : (a b : Rectangle) → IsWithin a (hull_of a b)
@@ -61,6 +61,21 @@ in_padding b x y h =
     let q : At b.rect (x +ℤ pos w.right) (y +ℤ pos w.bottom) = holds_at b.rect (x +ℤ pos w.right) (y +ℤ pos w.bottom) (right_of f l both) in
     at_holds b.rect x y (record { left = omega (arith, ints, p.left); right = omega (arith, ints, q.right); top = omega (arith, ints, p.top); bottom = omega (arith, ints, q.bottom) })
 
+-- The shape of a part of a box lies in H.
+abbrev pub OuterIn : Rectangle → Option (Shape × Color) → Type 0
+OuterIn H None = Unit {0}
+OuterIn H (Some s) = IsWithin s.0.outer H
+
+module _ (H : Rectangle) (s : Standing) (b : BoxData) (root : s.root ≡ false) (held : IsWithin (outset b.rect b.style.outline_width) H) where
+  in_rect : IsWithin b.rect H
+  in_rect = within_through b.rect (outset b.rect b.style.outline_width) H (in_grown b.rect b.style.outline_width) held
+
+  pub outer_in : (part : Part) → OuterIn H (shape_of s.canvas s.root b part)
+  outer_in Back = subst (λ t. IsWithin (cond t s.canvas b.rect) H) (sym root) in_rect
+  outer_in Border = elim (has_border b.style.border_width) as (λ t. OuterIn H (cond t (Some (frame b.rect (padding_box b), b.style.border_color)) None)) [ true ↦ in_rect | false ↦ tt ]
+  outer_in Content = elim b.style.content as (λ o. OuterIn H (option_map (λ c. (solid (padding_box b), c)) o)) [ None ↦ tt | Some c ↦ within_through (padding_box b) b.rect H (in_padding b) in_rect ]
+  outer_in Outline = elim (nat_lt 0 b.style.outline_width) as (λ t. OuterIn H (cond t (Some (frame (outset b.rect b.style.outline_width) b.rect, b.style.outline_color)) None)) [ true ↦ held | false ↦ tt ]
+
 module _ (wants : Rectangle → Bool) (n : ℕ) (grows : (a b : Rectangle) → IsWithin a b → wants a ≡ true → wants b ≡ true) (H : Rectangle) (unwanted : wants H ≡ false) where
   not_wanted : (r : Rectangle) → IsWithin r H → wants r ≡ false
   not_wanted r w = elim (cases (wants r)) [
@@ -68,11 +83,7 @@ module _ (wants : Rectangle → Bool) (n : ℕ) (grows : (a b : Rectangle) → I
     | inr t ↦ t
   ]
 
-  abbrev OuterIn : Option (Shape × Color) → Type 0
-  OuterIn None = Unit {0}
-  OuterIn (Some s) = IsWithin s.0.outer H
-
-  none_shown : (clip : Rectangle) (b : BoxData) (part : Part) (q : Option (Shape × Color)) → OuterIn q → if_wanted wants n (shown clip b part q) ≡ None
+  none_shown : (clip : Rectangle) (b : BoxData) (part : Part) (q : Option (Shape × Color)) → OuterIn H q → if_wanted wants n (shown clip b part q) ≡ None
   none_shown clip b part None h = refl
   none_shown clip b part (Some s) h =
       elim (has_none (meet s.0.outer clip)) as (λ t. if_wanted wants n (cond t None (Some (record { owner = b.key; part = part; visible = meet s.0.outer clip; shape = s.0; color = s.1; hits = takes_hits b.style.pointer }))) ≡ None) [
@@ -81,18 +92,9 @@ module _ (wants : Rectangle → Bool) (n : ℕ) (grows : (a b : Rectangle) → I
       ]
 
   module _ (s : Standing) (b : BoxData) (root : s.root ≡ false) (held : IsWithin (outset b.rect b.style.outline_width) H) where
-    in_rect : IsWithin b.rect H
-    in_rect = within_through b.rect (outset b.rect b.style.outline_width) H (in_grown b.rect b.style.outline_width) held
-
-    outer_in : (part : Part) → OuterIn (shape_of s.canvas s.root b part)
-    outer_in Back = subst (λ t. IsWithin (cond t s.canvas b.rect) H) (sym root) in_rect
-    outer_in Border = elim (has_border b.style.border_width) as (λ t. OuterIn (cond t (Some (frame b.rect (padding_box b), b.style.border_color)) None)) [ true ↦ in_rect | false ↦ tt ]
-    outer_in Content = elim b.style.content as (λ o. OuterIn (option_map (λ c. (solid (padding_box b), c)) o)) [ None ↦ tt | Some c ↦ within_through (padding_box b) b.rect H (in_padding b) in_rect ]
-    outer_in Outline = elim (nat_lt 0 b.style.outline_width) as (λ t. OuterIn (cond t (Some (frame (outset b.rect b.style.outline_width) b.rect, b.style.outline_color)) None)) [ true ↦ held | false ↦ tt ]
-
     none_part : (part : Part) → gives wants n s b part ≡ nil
     none_part part = ap option_entry (elim (is_seen b.style.visibility) as (λ t. if_wanted wants n (cond t (shown (clip_in s b.style) b part (shape_of s.canvas s.root b part)) None) ≡ None) [
-      | true ↦ none_shown (clip_in s b.style) b part (shape_of s.canvas s.root b part) (outer_in part)
+      | true ↦ none_shown (clip_in s b.style) b part (shape_of s.canvas s.root b part) (outer_in H s b root held part)
       | false ↦ refl
     ])
 

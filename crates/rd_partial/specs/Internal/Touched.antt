@@ -6,7 +6,7 @@ use Rattle.rd_geom.specs.Areas.{Region, in_area}
 use Rattle.rd_keys.specs.Keys.{BoxKey, same_key}
 use Rattle.rd_keys.specs.declared.entry.Part.TheVariants.{Back, Border, Content, Outline}
 use Rattle.rd_item.specs.declared.leaf.Leaf.{Leaf}
-use Rattle.rd_tree.specs.Forest.{empty, tree, from_some}
+use Rattle.rd_tree.specs.Forest.{empty, tree, starting_at, from_some}
 use Rattle.rd_tree.specs.Document.{BoxForest, Document}
 use Rattle.rd_tree.specs.Hulls.{any_touched, touched_in}
 use Rattle.rd_stack.specs.Paths.{BoxData}
@@ -16,7 +16,7 @@ use Rattle.rd_partial.specs.Internal.Counting.{looks_below}
 use Rattle.rd_partial.specs.Internal.Standing.{Standing, leaf_in}
 use Rattle.rd_partial.specs.Internal.Standing as standing
 use Rattle.rd_partial.specs.declared.look.Looked.{Looked}
-use Rattle.rd_partial.specs.Internal.Looked.{here_of}
+use Rattle.rd_partial.specs.Internal.Looked.{Onward, here_of}
 
 -- the new area is the old one with the pixels of its canvas that pass a test
 pub record Joins (shows : ℤ → ℤ → Bool) (old new : Region) : Type 0 where
@@ -57,6 +57,16 @@ own_shows s v x y = v.touched && box_shows s (here_of v) x y
 -- what the touched boxes below it show
 abbrev pub shows_below : Standing → Looked → Document → ℤ → ℤ → Bool
 shows_below s v t x y = nat_lt 0 v.touched_below && touched_shows (standing.below s (here_of v)) (from_some same_key v.first_child t.boxes) x y
+
+-- A look told this of a box of a tree.
+pub record IsTold (t : Document) (v : Looked) : Type 0 where
+  pub key : BoxKey
+  pub told : Onward t.boxes key (here_of v) v.first_child v.next_sibling v.hull
+  pub marks : HasMarks (starting_at same_key key t.boxes) v.touched v.touched_below
+
+-- what it and the touched boxes below it show
+abbrev pub branch_shows : Standing → Looked → Document → ℤ → ℤ → Bool
+branch_shows s v t x y = own_shows s v x y || shows_below s v t x y
 
 -- what the touched ones of some siblings show, and those below them, from one on
 abbrev pub shows_from : Standing → Option BoxKey → Document → ℤ → ℤ → Bool

@@ -7,10 +7,13 @@ use Rattle.rd_partial.proofs.touched.+touching.Given as goal
 use Rattle.rd_tree.specs.Drawn.{drawn}
 
 abbrev pub decreases-add_below : goal.decreases-add_below
-decreases-add_below g l = 2 * size (from_some same_key l.looked.now.first_child (drawn l.tree.now).boxes) + 1
+decreases-add_below g l = 3 * size (from_some same_key l.looked.now.first_child (drawn l.tree.now).boxes) + 1
+
+abbrev pub decreases-add_branch : goal.decreases-add_branch
+decreases-add_branch g l = 3 * size (from_some same_key l.looked.now.first_child (drawn l.tree.now).boxes) + 2
 
 abbrev pub decreases-add_siblings : goal.decreases-add_siblings
-decreases-add_siblings g l = 2 * size (from_some same_key l.first (drawn l.tree.now).boxes)
+decreases-add_siblings g l = 3 * size (from_some same_key l.first (drawn l.tree.now).boxes)
 
 abbrev pub decreases-add_siblings-loop-left : goal.decreases-add_siblings-loop-left
 decreases-add_siblings-loop-left g l = size (from_some same_key l.at (drawn l.tree).boxes)
@@ -20,3 +23,4 @@ invariant-add_siblings-loop-left g l =
     (l.at ≡ head (from_some same_key l.at (drawn l.tree).boxes))
     × (l.left ≡ marks_from l.at (drawn l.tree))
     × Added l.s (from_some same_key l.fn.first (drawn l.tree).boxes) (from_some same_key l.at (drawn l.tree).boxes) l.fn.area l.area l.fn.looks l.looks
+    × (l.area.size ≡ l.fn.area.size)
