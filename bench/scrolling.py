@@ -2,10 +2,11 @@
 """What a scroll with its paint costs: `python3 bench/scrolling.py PROGRAM [OTHER]`.
 
 A list of rows of four boxes stands in a box of 600 pixels that clips, and is scrolled down by 3 pixels, by 60 or by a page, a
-paint after each; with a header the same under a fixed box. Each scene comes with K and with 2K scrolls, the first K of them
-the same, and the difference over K is told in thousand instructions, as callgrind of valgrind counts them, and in
-milliseconds of processor time. OTHER is a program of version 1, which has no scroll offsets: for it the box round the rows
-is shifted up, which shows the same. The last scenes grow, and what shows of them stays the same.
+paint after each, from its end on from the top again; with a header the same under a fixed box. Each scene comes with K and
+with 2K scrolls, the first K of them the same, and the difference over K is told: in thousand instructions, as callgrind of
+valgrind counts them, for 20 scrolls, and in milliseconds of processor time, the least of three runs, for 500. OTHER is a
+program of version 1, which has no scroll offsets: for it the box round the rows is shifted up, which shows the same. The
+last scenes grow, and what shows of them stays the same.
 Run by hand; nothing in the gate looks at time.
 """
 import json
@@ -15,7 +16,7 @@ import tempfile
 from paints import box, instructions, seconds, written
 
 WIDTH, HEIGHT, TOP, ROW = 400, 660, 60, 24
-SCROLLS = 20
+COUNTED, TIMED = 20, 500
 
 
 def boxes(rows, header):
@@ -40,11 +41,12 @@ def boxes(rows, header):
 def script(rows, header, step, count, shifted):
     """The rows painted, and then scrolled so often, or shifted up."""
     commands = [{"do": "paint"}]
-    for i in range(1, count + 1):
+    places = [step * i % (rows * ROW - 600) for i in range(count + 1)]
+    for before, now in zip(places, places[1:]):
         if shifted:
-            commands.append({"do": "shift", "id": "rows", "dx": 0, "dy": -step})
+            commands.append({"do": "shift", "id": "rows", "dx": 0, "dy": before - now})
         else:
-            commands.append({"do": "scroll", "id": "list", "x": 0, "y": step * i})
+            commands.append({"do": "scroll", "id": "list", "x": 0, "y": now})
         commands.append({"do": "paint"})
     value = {"version": 1 if shifted else 2, "canvas": {"w": WIDTH, "h": HEIGHT}}
     return json.dumps({**value, "boxes": boxes(rows, header), "script": commands})
@@ -59,11 +61,13 @@ SCENES = [
 ]
 
 
-def cost(program, texts, folder):
-    """Thousand instructions and milliseconds of a scroll with its paint."""
-    once, twice = (written(folder, name, text) for name, text in zip(("once", "twice"), texts))
-    counted = (instructions(program, twice) - instructions(program, once)) / SCROLLS / 1000
-    return counted, 1000 * (seconds(program, twice) - seconds(program, once)) / SCROLLS
+def cost(program, measure, count, one):
+    """What a scroll with its paint costs by a measure of a program and a script; `one` is all but the count of scrolls."""
+    rows, header, step, shifted = one
+    with tempfile.TemporaryDirectory() as folder:
+        paths = [written(folder, str(k), script(rows, header, step, k * count, shifted)) for k in (1, 2)]
+        once, twice = (measure(program, path) for path in paths)
+    return (twice - once) / count
 
 
 def main():
@@ -76,10 +80,9 @@ def main():
     for name, rows, header, step in SCENES:
         cells = []
         for program, shifted in programs:
-            texts = [script(rows, header, step, count, shifted) for count in (SCROLLS, 2 * SCROLLS)]
-            with tempfile.TemporaryDirectory() as folder:
-                counted, milliseconds = cost(program, texts, folder)
-            cells.append(f"{counted:.0f} | {milliseconds:.2f}")
+            one = (rows, header, step, shifted)
+            counted = cost(program, instructions, COUNTED, one) / 1000
+            cells.append(f"{counted:.0f} | {1000 * cost(program, seconds, TIMED, one):.2f}")
         print(f"| {name} | " + " | ".join(cells) + " |", flush=True)
 
 
