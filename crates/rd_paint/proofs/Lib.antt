@@ -3,7 +3,7 @@ pub mod Places
 pub mod Depths
 pub mod Laying
 pub mod Pieces
-pub mod Repainting
+pub mod SpanTests
 pub mod Picking
 pub mod Choosing
 pub mod Showing
@@ -16,3 +16,8 @@ pub mod Framing
 pub mod Seen
 pub mod Changing
 pub mod Beside
+pub mod Changes
+pub mod Cutting
+pub mod Casting
+pub mod CutSpans
+pub mod Standing

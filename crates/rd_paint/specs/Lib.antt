@@ -1,5 +1,6 @@
 pub mod Pictures
 pub mod Lending
 pub mod Parts
+pub mod Changed
 pub mod Repainted
 pub mod Internal

@@ -1,23 +1,23 @@
 //! Painting bands of rows, each with picks of those entries alone that may show in it.
 
-ghost use Rattle.std.specs.Prelude.{◌≡◌, ℕ, ℤ, pos, ◌+◌, ◌-◌, ◌*◌, ◌^◌, ◌≤◌, ◌<◌, ◌+ℤ◌, ◌≤ℤ◌, ◌<ℤ◌, ◌∷◌, [], IsTrue, IsFalse, IfSome, length, get_or, take, unsigned_abs, vec_capacity};
+ghost use Rattle.std.specs.Prelude.{◌≡◌, ℕ, pos, ◌+◌, ◌-◌, ◌*◌, ◌^◌, ◌≤◌, ◌<◌, ◌≤ℤ◌, IsTrue, IsFalse, IfSome, length, take, vec_capacity};
+ghost use Rattle.std.specs.Int.{int_max, int_min};
 ghost use Rattle.rd_geom.specs.Areas.{spans_at};
-ghost use Rattle.rd_area.specs.Rows.{IsRising};
 ghost use Rattle.rd_list.specs.Blocks.{Covers};
 ghost use Rattle.rd_list.specs.Displayed.{shown};
 ghost use Rattle.rd_list.specs.EntryNames.{kept_leaves};
 ghost use Rattle.rd_list.specs.KeptView.{kept_entries};
 ghost use Rattle.rd_list.specs.Lists.{pixel};
 ghost use Rattle.rd_list.specs.Views.{levels};
-ghost use Rattle.rd_paint.specs.Internal.Bands.{IsBandPainted};
+ghost use Rattle.rd_paint.specs.Internal.Bands.{IsBandPainted, IsPainted};
 ghost use Rattle.rd_paint.specs.Internal.Blocks.{IsBlockChanged, IsRunPainted};
 ghost use Rattle.rd_paint.specs.Internal.Picks.{InAreaWithin, SameWhere, picked};
-ghost use Rattle.rd_paint.specs.Pictures.{size_of};
-ghost use Rattle.rd_paint.specs.Repainted.{IsRepainted};
+ghost use Rattle.rd_paint.specs.Parts.{entry_count, entries_from};
 
 use crate::blocks::{lay_picks_in, whiten};
-use crate::buffers::{ROOMS, fill_room, open_for};
+use crate::buffers::{ROOMS, fill_room, open_for, upper};
 use crate::canvas::Canvas;
+use crate::corner::Corner;
 use crate::covering::cover;
 use crate::frame::{frame_of, meets_part};
 use crate::gathering::gather;
@@ -32,6 +32,7 @@ use std::sync::ledger::Ledger;
 /// It begins with the topmost opaque leaf that covers all of them.
 fn paint_block<A: Ledger>(
     canvas: &mut Canvas,
+    corner: Corner,
     entries: &[Entry<A>],
     picks: &[Pick],
     span: Span,
@@ -40,29 +41,68 @@ fn paint_block<A: Ledger>(
     rows: &mut [Px],
 )
     requires order_rows { y0 ≤ y1 }
-    requires on { y1 ≤ canvas.old.height }
-    requires wide { canvas.old.width ≤ 4096 }
-    requires high { canvas.old.height ≤ 4096 }
-    requires from { pos 0 ≤ℤ span.x0 }
+    requires above { corner.top ≤ y0 }
+    requires on { y1 ≤ corner.top + canvas.old.height }
+    requires wide { corner.left + canvas.old.width ≤ 4096 }
+    requires high { corner.top + canvas.old.height ≤ 4096 }
+    requires from { pos corner.left ≤ℤ span.x0 }
     requires order { span.x0 ≤ℤ span.x1 }
-    requires within { span.x1 ≤ℤ pos canvas.old.width }
+    requires within { span.x1 ≤ℤ pos (corner.left + canvas.old.width) }
     requires rows { canvas.old.width * (levels (picked picks.now (shown entries.now)) - 1) ≤ length rows.old }
-    ensures { IsBlockChanged (λ x y p. pixel (picked picks.now (shown entries.now)) (pos x) (pos y))
+    ensures { IsBlockChanged corner (λ x y p. pixel (picked picks.now (shown entries.now)) (pos x) (pos y))
         span y0 y1 canvas.old canvas.new }
 {
     let count = (span.x1 - span.x0) as usize;
     match cover(entries, picks, y0 as i32, y1 as i32, span.x0, count) {
-        Some(i) => lay_picks_in(canvas, entries, &picks[i..], span, y0, y1, rows),
+        Some(i) => lay_picks_in(canvas, corner, entries, &picks[i..], span, y0, y1, rows),
         None => {
-            whiten(canvas, span, y0, y1);
-            lay_picks_in(canvas, entries, picks, span, y0, y1, rows);
+            whiten(canvas, corner, span, y0, y1);
+            lay_picks_in(canvas, corner, entries, picks, span, y0, y1, rows);
         }
+    }
+}
+
+/// The columns of a span that are among others; none where it ends at its start or before.
+fn cut(span: Span, columns: Span) -> Span
+    ensures { result ≡ record { x0 = int_max span.x0 columns.x0; x1 = int_min span.x1 columns.x1 } }
+{
+    Span {
+        x0: span.x0.max(columns.x0),
+        x1: span.x1.min(columns.x1),
+    }
+}
+
+/// Paints the same, of the columns of the span that are on the canvas.
+fn paint_span_in<A: Ledger>(
+    canvas: &mut Canvas,
+    corner: Corner,
+    entries: &[Entry<A>],
+    picks: &[Pick],
+    span: Span,
+    y0: usize,
+    y1: usize,
+    rows: &mut [Px],
+)
+    requires order_rows { y0 ≤ y1 }
+    requires above { corner.top ≤ y0 }
+    requires on { y1 ≤ corner.top + canvas.old.height }
+    requires wide { corner.left + canvas.old.width ≤ 4096 }
+    requires high { corner.top + canvas.old.height ≤ 4096 }
+    requires rows { canvas.old.width * (levels (picked picks.now (shown entries.now)) - 1) ≤ length rows.old }
+    ensures { IsBlockChanged corner (λ x y p. pixel (picked picks.now (shown entries.now)) (pos x) (pos y))
+        span y0 y1 canvas.old canvas.new }
+{
+    let width = canvas.size().w as usize;
+    let part = cut(span, corner.columns(width));
+    if part.x0 < part.x1 {
+        paint_block(canvas, corner, entries, picks, part, y0, y1, rows);
     }
 }
 
 /// Paints the pixels of the rows `y0` up to `y1` that are in the spans.
 fn paint_run<A: Ledger>(
     canvas: &mut Canvas,
+    corner: Corner,
     entries: &[Entry<A>],
     picks: &[Pick],
     spans: &[Span],
@@ -71,15 +111,15 @@ fn paint_run<A: Ledger>(
     rows: &mut [Px],
 )
     requires order_rows { y0 ≤ y1 }
-    requires on { y1 ≤ canvas.old.height }
-    requires wide { canvas.old.width ≤ 4096 }
-    requires high { canvas.old.height ≤ 4096 }
-    requires rising { IsRising (pos 0) (pos canvas.old.width) spans.now }
+    requires above { corner.top ≤ y0 }
+    requires on { y1 ≤ corner.top + canvas.old.height }
+    requires wide { corner.left + canvas.old.width ≤ 4096 }
+    requires high { corner.top + canvas.old.height ≤ 4096 }
     requires rows { canvas.old.width * (levels (picked picks.now (shown entries.now)) - 1) ≤ length rows.old }
-    ensures { IsRunPainted (picked picks.now (shown entries.now)) spans.now y0 y1 canvas.old canvas.new }
+    ensures { IsRunPainted corner (picked picks.now (shown entries.now)) spans.now y0 y1 canvas.old canvas.new }
 {
     for span in spans {
-        paint_block(canvas, entries, picks, *span, y0, y1, rows);
+        paint_span_in(canvas, corner, entries, picks, *span, y0, y1, rows);
     }
 }
 
@@ -118,6 +158,7 @@ fn same_spans(a: &[Span], b: &[Span]) -> bool
 /// Paints the rows `y0` up to `y1`: those that have the same spans together.
 fn paint_rows<A: Ledger>(
     canvas: &mut Canvas,
+    corner: Corner,
     entries: &[Entry<A>],
     picks: &[Pick],
     area: &Area,
@@ -126,18 +167,19 @@ fn paint_rows<A: Ledger>(
     rows: &mut [Px],
 )
     requires order { y0 ≤ y1 }
-    requires within { y1 ≤ canvas.old.height }
-    requires wide { canvas.old.width ≤ 4096 }
-    requires high { canvas.old.height ≤ 4096 }
-    requires area { area.now.size ≡ size_of canvas.old }
+    requires above { corner.top ≤ y0 }
+    requires within { y1 ≤ corner.top + canvas.old.height }
+    requires wide { corner.left + canvas.old.width ≤ 4096 }
+    requires high { corner.top + canvas.old.height ≤ 4096 }
     requires rows { canvas.old.width * (levels (picked picks.now (shown entries.now)) - 1) ≤ length rows.old }
-    ensures { IsBandPainted (picked picks.now (shown entries.now)) area.now y0 y1 canvas.old canvas.new }
+    ensures { IsBandPainted corner (picked picks.now (shown entries.now)) area.now y0 y1 canvas.old canvas.new }
 {
     let mut row = y0;
     while row < y1 {
         let end = alike_until(area, row, y1.min(row + FEW));
         paint_run(
             canvas,
+            corner,
             entries,
             picks,
             area.spans(row as i32),
@@ -156,6 +198,7 @@ const FEW: usize = 16;
 #[cycle(halving)]
 fn paint_band<A: Ledger>(
     canvas: &mut Canvas,
+    corner: Corner,
     entries: &[Entry<A>],
     picks: &[Pick],
     area: &Area,
@@ -165,31 +208,32 @@ fn paint_band<A: Ledger>(
     room: &mut [Pick],
 )
     requires order { y0 ≤ y1 }
-    requires within { y1 ≤ canvas.old.height }
-    requires wide { canvas.old.width ≤ 4096 }
-    requires high { canvas.old.height ≤ 4096 }
-    requires area { area.now.size ≡ size_of canvas.old }
+    requires above { corner.top ≤ y0 }
+    requires within { y1 ≤ corner.top + canvas.old.height }
+    requires wide { corner.left + canvas.old.width ≤ 4096 }
+    requires high { corner.top + canvas.old.height ≤ 4096 }
     requires rows { canvas.old.width * (levels (picked picks.now (shown entries.now)) - 1) ≤ length rows.old }
     requires few { length picks.now < 2 ^ 32 }
-    ensures { IsBandPainted (picked picks.now (shown entries.now)) area.now y0 y1 canvas.old canvas.new }
+    ensures { IsBandPainted corner (picked picks.now (shown entries.now)) area.now y0 y1 canvas.old canvas.new }
 {
     let width = canvas.size().w as usize;
-    if !meets_part(area, 0, width, y0, y1) {
+    if !meets_part(area, corner.left, corner.left + width, y0, y1) {
         return;
     }
     if y1 - y0 <= FEW || room.len() < picks.len() {
-        paint_rows(canvas, entries, picks, area, y0, y1, rows);
+        paint_rows(canvas, corner, entries, picks, area, y0, y1, rows);
         return;
     }
     let middle = y0 + (y1 - y0) / 2;
-    paint_half(canvas, entries, picks, area, y0, middle, rows, room);
-    paint_half(canvas, entries, picks, area, middle, y1, rows, room);
+    paint_half(canvas, corner, entries, picks, area, y0, middle, rows, room);
+    paint_half(canvas, corner, entries, picks, area, middle, y1, rows, room);
 }
 
 /// Paints the rows `y0` up to `y1` with those of the picks whose entries may show there.
 #[cycle(halving)]
 fn paint_half<A: Ledger>(
     canvas: &mut Canvas,
+    corner: Corner,
     entries: &[Entry<A>],
     picks: &[Pick],
     area: &Area,
@@ -199,18 +243,18 @@ fn paint_half<A: Ledger>(
     room: &mut [Pick],
 )
     requires order { y0 ≤ y1 }
-    requires within { y1 ≤ canvas.old.height }
-    requires wide { canvas.old.width ≤ 4096 }
-    requires high { canvas.old.height ≤ 4096 }
-    requires area { area.now.size ≡ size_of canvas.old }
+    requires above { corner.top ≤ y0 }
+    requires within { y1 ≤ corner.top + canvas.old.height }
+    requires wide { corner.left + canvas.old.width ≤ 4096 }
+    requires high { corner.top + canvas.old.height ≤ 4096 }
     requires rows { canvas.old.width * (levels (picked picks.now (shown entries.now)) - 1) ≤ length rows.old }
     requires few { length picks.now < 2 ^ 32 }
     requires room { length picks.now ≤ length room.old }
-    ensures { IsBandPainted (picked picks.now (shown entries.now)) area.now y0 y1 canvas.old canvas.new }
+    ensures { IsBandPainted corner (picked picks.now (shown entries.now)) area.now y0 y1 canvas.old canvas.new }
 {
     let count = narrow(entries, picks, y0 as i32, y1 as i32, room);
     let (own, rest) = room.split_at_mut(count);
-    paint_band(canvas, entries, own, area, y0, y1, rows, rest);
+    paint_band(canvas, corner, entries, own, area, y0, y1, rows, rest);
 }
 
 /// So many picks are tried first: most paints have use for no more.
@@ -245,28 +289,30 @@ fn gather_all<A: Ledger>(
     gather(entries, blocks, area, columns, rows, room)
 }
 
-/// Paints all rows of the entries of a level. False where the room is too small for picks of all entries that may show: then nothing is painted.
+/// Paints all rows of the entries of a level. False where the room is too small for picks of all entries that may show: then
+/// nothing is painted.
 fn paint_all<A: Ledger>(
     canvas: &mut Canvas,
+    corner: Corner,
     entries: &[Entry<A>],
     blocks: &[Block],
     area: &Area,
     rows: &mut Vec<Px>,
     room: &mut Vec<Pick>,
 ) -> bool
-    requires wide { canvas.old.width ≤ 4096 }
-    requires high { canvas.old.height ≤ 4096 }
-    requires area { area.now.size ≡ size_of canvas.old }
+    requires wide { corner.left + canvas.old.width ≤ 4096 }
+    requires high { corner.top + canvas.old.height ≤ 4096 }
     requires rows { canvas.old.width * (levels (kept_entries entries.now) - 1) ≤ vec_capacity rows.old }
     requires few { length room.old.items < 2 ^ 32 }
     requires covers { Covers blocks.now entries.now }
     ensures few { length room.new.items < 2 ^ 32 }
     ensures rows { vec_capacity rows.old ≤ vec_capacity rows.new }
-    ensures painted { IsTrue result → IsRepainted (shown entries.now) area.now canvas.old canvas.new }
+    ensures painted { IsTrue result → IsPainted corner (shown entries.now) area.now canvas.old canvas.new }
     ensures same { IsFalse result → canvas.new ≡ canvas.old }
 {
     let size = canvas.size();
-    let frame = frame_of(area, size.w as usize, size.h as usize);
+    let whole = corner.frame(size.w as usize, size.h as usize);
+    let frame = frame_of(area, whole);
     let columns = frame.columns();
     let lines = frame.rows();
     let Some(count) = gather_all(entries, blocks, area, columns, lines, room) else {
@@ -276,6 +322,7 @@ fn paint_all<A: Ledger>(
     open_for(rows, own, size.w as usize);
     paint_band(
         canvas,
+        corner,
         entries,
         own,
         area,
@@ -287,23 +334,45 @@ fn paint_all<A: Ledger>(
     true
 }
 
-/// The same of a kept list.
+/// The same of the entries of a kept list from place `from` on. Its blocks serve where those are all.
 pub(crate) fn paint_kept<A: Ledger>(
     canvas: &mut Canvas,
+    corner: Corner,
     list: &Kept<A>,
+    from: usize,
     area: &Area,
     rows: &mut Vec<Px>,
     room: &mut Vec<Pick>,
 ) -> bool
-    requires wide { canvas.old.width ≤ 4096 }
-    requires high { canvas.old.height ≤ 4096 }
-    requires area { area.now.size ≡ size_of canvas.old }
+    requires from { from ≤ entry_count list.now.entries }
+    requires wide { corner.left + canvas.old.width ≤ 4096 }
+    requires high { corner.top + canvas.old.height ≤ 4096 }
     requires rows { canvas.old.width * (levels list.now.entries - 1) ≤ vec_capacity rows.old }
     requires few { length room.old.items < 2 ^ 32 }
     ensures few { length room.new.items < 2 ^ 32 }
     ensures rows { vec_capacity rows.old ≤ vec_capacity rows.new }
-    ensures painted { IsTrue result → IsRepainted (kept_leaves list.now.entries) area.now canvas.old canvas.new }
+    ensures painted { IsTrue result
+        → IsPainted corner (entries_from from (kept_leaves list.now.entries)) area.now canvas.old canvas.new }
     ensures same { IsFalse result → canvas.new ≡ canvas.old }
 {
-    paint_all(canvas, &list.entries, &list.blocks, area, rows, room)
+    if from == 0 {
+        return paint_all(
+            canvas,
+            corner,
+            &list.entries,
+            &list.blocks,
+            area,
+            rows,
+            room,
+        );
+    }
+    paint_all(
+        canvas,
+        corner,
+        upper(&list.entries, from),
+        &[],
+        area,
+        rows,
+        room,
+    )
 }

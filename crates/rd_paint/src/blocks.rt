@@ -14,6 +14,7 @@ ghost use Rattle.rd_paint.specs.declared.picks.Pick as named;
 
 use crate::canvas::Canvas;
 use crate::chosen::lay_own;
+use crate::corner::Corner;
 use crate::covering::is_beside;
 use crate::narrowing::has_rows;
 use crate::picks::{Pick, pick_at};
@@ -24,38 +25,41 @@ use rd_list::{Entry, Kept};
 use std::sync::ledger::Ledger;
 
 /// Makes the pixels of a row of the span white.
-fn whiten_row(canvas: &mut Canvas, span: Span, row: usize)
-    requires on { row < canvas.old.height }
-    requires wide { canvas.old.width ≤ 4096 }
-    requires high { canvas.old.height ≤ 4096 }
-    requires from { pos 0 ≤ℤ span.x0 }
+fn whiten_row(canvas: &mut Canvas, corner: Corner, span: Span, row: usize)
+    requires above { corner.top ≤ row }
+    requires on { row < corner.top + canvas.old.height }
+    requires wide { corner.left + canvas.old.width ≤ 4096 }
+    requires high { corner.top + canvas.old.height ≤ 4096 }
+    requires from { pos corner.left ≤ℤ span.x0 }
     requires order { span.x0 ≤ℤ span.x1 }
-    requires within { span.x1 ≤ℤ pos canvas.old.width }
-    ensures { IsBlockChanged (λ x y p. white) span row (row + 1) canvas.old canvas.new }
+    requires within { span.x1 ≤ℤ pos (corner.left + canvas.old.width) }
+    ensures { IsBlockChanged corner (λ x y p. white) span row (row + 1) canvas.old canvas.new }
 {
-    let out = canvas.span_mut(row as i32, span.x0, span.x1);
+    let out = canvas.part_mut(corner, row, span);
     fill(out, Px::WHITE);
 }
 
 /// Makes the pixels of the block white.
-pub(crate) fn whiten(canvas: &mut Canvas, span: Span, y0: usize, y1: usize)
+pub(crate) fn whiten(canvas: &mut Canvas, corner: Corner, span: Span, y0: usize, y1: usize)
     requires rows { y0 ≤ y1 }
-    requires on { y1 ≤ canvas.old.height }
-    requires wide { canvas.old.width ≤ 4096 }
-    requires high { canvas.old.height ≤ 4096 }
-    requires from { pos 0 ≤ℤ span.x0 }
+    requires above { corner.top ≤ y0 }
+    requires on { y1 ≤ corner.top + canvas.old.height }
+    requires wide { corner.left + canvas.old.width ≤ 4096 }
+    requires high { corner.top + canvas.old.height ≤ 4096 }
+    requires from { pos corner.left ≤ℤ span.x0 }
     requires order { span.x0 ≤ℤ span.x1 }
-    requires within { span.x1 ≤ℤ pos canvas.old.width }
-    ensures { IsBlockChanged (λ x y p. white) span y0 y1 canvas.old canvas.new }
+    requires within { span.x1 ≤ℤ pos (corner.left + canvas.old.width) }
+    ensures { IsBlockChanged corner (λ x y p. white) span y0 y1 canvas.old canvas.new }
 {
     for row in y0..y1 {
-        whiten_row(canvas, span, row);
+        whiten_row(canvas, corner, span, row);
     }
 }
 
 /// Lays the entries that picks name, from bottom to top, over the pixels of the block.
 pub(crate) fn lay_picks_in<A: Ledger>(
     canvas: &mut Canvas,
+    corner: Corner,
     entries: &[Entry<A>],
     picks: &[Pick],
     span: Span,
@@ -64,19 +68,20 @@ pub(crate) fn lay_picks_in<A: Ledger>(
     rows: &mut [Px],
 )
     requires order_rows { y0 ≤ y1 }
-    requires on { y1 ≤ canvas.old.height }
-    requires wide { canvas.old.width ≤ 4096 }
-    requires high { canvas.old.height ≤ 4096 }
-    requires from { pos 0 ≤ℤ span.x0 }
+    requires above { corner.top ≤ y0 }
+    requires on { y1 ≤ corner.top + canvas.old.height }
+    requires wide { corner.left + canvas.old.width ≤ 4096 }
+    requires high { corner.top + canvas.old.height ≤ 4096 }
+    requires from { pos corner.left ≤ℤ span.x0 }
     requires order { span.x0 ≤ℤ span.x1 }
-    requires within { span.x1 ≤ℤ pos canvas.old.width }
+    requires within { span.x1 ≤ℤ pos (corner.left + canvas.old.width) }
     requires rows { canvas.old.width * (levels (picked picks.now (shown entries.now)) - 1) ≤ length rows.old }
-    ensures { IsBlockLaid (picked picks.now (shown entries.now)) span y0 y1 canvas.old canvas.new }
+    ensures { IsBlockLaid corner (picked picks.now (shown entries.now)) span y0 y1 canvas.old canvas.new }
 {
     let mut i = 0;
     while i < picks.len() {
         let (place, own) = pick_at(picks, i);
-        lay_at_in(canvas, entries, place, own, span, y0, y1, rows);
+        lay_at_in(canvas, corner, entries, place, own, span, y0, y1, rows);
         i = i + 1 + own.len();
     }
 }
@@ -84,6 +89,7 @@ pub(crate) fn lay_picks_in<A: Ledger>(
 /// Lays the entry at a place, if there is one.
 fn lay_at_in<A: Ledger>(
     canvas: &mut Canvas,
+    corner: Corner,
     entries: &[Entry<A>],
     place: u32,
     own: &[Pick],
@@ -93,23 +99,25 @@ fn lay_at_in<A: Ledger>(
     rows: &mut [Px],
 )
     requires order_rows { y0 ≤ y1 }
-    requires on { y1 ≤ canvas.old.height }
-    requires wide { canvas.old.width ≤ 4096 }
-    requires high { canvas.old.height ≤ 4096 }
-    requires from { pos 0 ≤ℤ span.x0 }
+    requires above { corner.top ≤ y0 }
+    requires on { y1 ≤ corner.top + canvas.old.height }
+    requires wide { corner.left + canvas.old.width ≤ 4096 }
+    requires high { corner.top + canvas.old.height ≤ 4096 }
+    requires from { pos corner.left ≤ℤ span.x0 }
     requires order { span.x0 ≤ℤ span.x1 }
-    requires within { span.x1 ≤ℤ pos canvas.old.width }
+    requires within { span.x1 ≤ℤ pos (corner.left + canvas.old.width) }
     requires rows { canvas.old.width * (levels (chosen own.now place (shown entries.now)) - 1) ≤ length rows.old }
-    ensures { IsBlockLaid (chosen own.now place (shown entries.now)) span y0 y1 canvas.old canvas.new }
+    ensures { IsBlockLaid corner (chosen own.now place (shown entries.now)) span y0 y1 canvas.old canvas.new }
 {
     let index = place as usize;
     if index < entries.len() {
-        lay_pick_in(canvas, &entries[index], own, span, y0, y1, rows);
+        lay_pick_in(canvas, corner, &entries[index], own, span, y0, y1, rows);
     }
 }
 
 fn lay_pick_in<A: Ledger>(
     canvas: &mut Canvas,
+    corner: Corner,
     entry: &Entry<A>,
     own: &[Pick],
     span: Span,
@@ -118,19 +126,21 @@ fn lay_pick_in<A: Ledger>(
     rows: &mut [Px],
 )
     requires order_rows { y0 ≤ y1 }
-    requires on { y1 ≤ canvas.old.height }
-    requires wide { canvas.old.width ≤ 4096 }
-    requires high { canvas.old.height ≤ 4096 }
-    requires from { pos 0 ≤ℤ span.x0 }
+    requires above { corner.top ≤ y0 }
+    requires on { y1 ≤ corner.top + canvas.old.height }
+    requires wide { corner.left + canvas.old.width ≤ 4096 }
+    requires high { corner.top + canvas.old.height ≤ 4096 }
+    requires from { pos corner.left ≤ℤ span.x0 }
     requires order { span.x0 ≤ℤ span.x1 }
-    requires within { span.x1 ≤ℤ pos canvas.old.width }
+    requires within { span.x1 ≤ℤ pos (corner.left + canvas.old.width) }
     requires rows { canvas.old.width * (levels (chosen own.now 0 (shown (entry.now ∷ []))) - 1) ≤ length rows.old }
-    ensures { IsBlockLaid (chosen own.now 0 (shown (entry.now ∷ []))) span y0 y1 canvas.old canvas.new }
+    ensures { IsBlockLaid corner (chosen own.now 0 (shown (entry.now ∷ []))) span y0 y1 canvas.old canvas.new }
 {
     match entry {
-        Entry::Leaf(item) => lay_leaf_in(canvas, item, span, y0, y1),
+        Entry::Leaf(item) => lay_leaf_in(canvas, corner, item, span, y0, y1),
         Entry::Group(group) => lay_inner_in(
             canvas,
+            corner,
             group.blend,
             group.opacity,
             &group.inner,
@@ -147,6 +157,7 @@ fn lay_pick_in<A: Ledger>(
 /// its own.
 fn lay_inner_in<A: Ledger>(
     canvas: &mut Canvas,
+    corner: Corner,
     blend: Blend,
     opacity: u8,
     inner: &Kept<A>,
@@ -157,25 +168,28 @@ fn lay_inner_in<A: Ledger>(
     rows: &mut [Px],
 )
     requires order_rows { y0 ≤ y1 }
-    requires on { y1 ≤ canvas.old.height }
-    requires wide { canvas.old.width ≤ 4096 }
-    requires high { canvas.old.height ≤ 4096 }
-    requires from { pos 0 ≤ℤ span.x0 }
+    requires above { corner.top ≤ y0 }
+    requires on { y1 ≤ corner.top + canvas.old.height }
+    requires wide { corner.left + canvas.old.width ≤ 4096 }
+    requires high { corner.top + canvas.old.height ≤ 4096 }
+    requires from { pos corner.left ≤ℤ span.x0 }
     requires order { span.x0 ≤ℤ span.x1 }
-    requires within { span.x1 ≤ℤ pos canvas.old.width }
+    requires within { span.x1 ≤ℤ pos (corner.left + canvas.old.width) }
     requires rows { canvas.old.width * (deeper (levels (picked own.now (kept_leaves inner.now.entries))) - 1)
         ≤ length rows.old }
-    ensures { IsBlockChanged (group_over blend opacity (picked own.now (kept_leaves inner.now.entries)))
+    ensures { IsBlockChanged corner (group_over blend opacity (picked own.now (kept_leaves inner.now.entries)))
         span y0 y1 canvas.old canvas.new }
 {
     match laid_at_once(blend, inner, own) {
         Some(item) => {
             if !is_off(item, span, y0, y1) {
                 let px = scale(px_of(item.color()), opacity);
-                lay_item_in(canvas, item, px, span, y0, y1);
+                lay_item_in(canvas, corner, item, px, span, y0, y1);
             }
         }
-        None => lay_group_in(canvas, blend, opacity, inner, own, span, y0, y1, rows),
+        None => lay_group_in(
+            canvas, corner, blend, opacity, inner, own, span, y0, y1, rows,
+        ),
     }
 }
 
@@ -230,6 +244,7 @@ fn leaf_of<A: Ledger>(entry: &Entry<A>) -> Option<&Item<A>>
 /// Lays what picks name of a group over the pixels of a row of the span.
 fn lay_group_row<A: Ledger>(
     canvas: &mut Canvas,
+    corner: Corner,
     blend: Blend,
     opacity: u8,
     inner: &Kept<A>,
@@ -238,25 +253,27 @@ fn lay_group_row<A: Ledger>(
     row: usize,
     rows: &mut [Px],
 )
-    requires on { row < canvas.old.height }
-    requires wide { canvas.old.width ≤ 4096 }
-    requires high { canvas.old.height ≤ 4096 }
-    requires from { pos 0 ≤ℤ span.x0 }
+    requires above { corner.top ≤ row }
+    requires on { row < corner.top + canvas.old.height }
+    requires wide { corner.left + canvas.old.width ≤ 4096 }
+    requires high { corner.top + canvas.old.height ≤ 4096 }
+    requires from { pos corner.left ≤ℤ span.x0 }
     requires order { span.x0 ≤ℤ span.x1 }
-    requires within { span.x1 ≤ℤ pos canvas.old.width }
+    requires within { span.x1 ≤ℤ pos (corner.left + canvas.old.width) }
     requires rows { canvas.old.width * (deeper (levels (picked own.now (kept_leaves inner.now.entries))) - 1)
         ≤ length rows.old }
-    ensures { IsBlockChanged (group_over blend opacity (picked own.now (kept_leaves inner.now.entries)))
+    ensures { IsBlockChanged corner (group_over blend opacity (picked own.now (kept_leaves inner.now.entries)))
         span row (row + 1) canvas.old canvas.new }
 {
     let y = row as i32;
-    let out = canvas.span_mut(y, span.x0, span.x1);
+    let out = canvas.part_mut(corner, row, span);
     lay_own(blend, opacity, inner, own, y, span.x0, out, rows);
 }
 
 /// Lays what picks name of a group over the pixels of the block, a row at a time.
 fn lay_group_in<A: Ledger>(
     canvas: &mut Canvas,
+    corner: Corner,
     blend: Blend,
     opacity: u8,
     inner: &Kept<A>,
@@ -267,19 +284,20 @@ fn lay_group_in<A: Ledger>(
     rows: &mut [Px],
 )
     requires order_rows { y0 ≤ y1 }
-    requires on { y1 ≤ canvas.old.height }
-    requires wide { canvas.old.width ≤ 4096 }
-    requires high { canvas.old.height ≤ 4096 }
-    requires from { pos 0 ≤ℤ span.x0 }
+    requires above { corner.top ≤ y0 }
+    requires on { y1 ≤ corner.top + canvas.old.height }
+    requires wide { corner.left + canvas.old.width ≤ 4096 }
+    requires high { corner.top + canvas.old.height ≤ 4096 }
+    requires from { pos corner.left ≤ℤ span.x0 }
     requires order { span.x0 ≤ℤ span.x1 }
-    requires within { span.x1 ≤ℤ pos canvas.old.width }
+    requires within { span.x1 ≤ℤ pos (corner.left + canvas.old.width) }
     requires rows { canvas.old.width * (deeper (levels (picked own.now (kept_leaves inner.now.entries))) - 1)
         ≤ length rows.old }
-    ensures { IsBlockChanged (group_over blend opacity (picked own.now (kept_leaves inner.now.entries)))
+    ensures { IsBlockChanged corner (group_over blend opacity (picked own.now (kept_leaves inner.now.entries)))
         span y0 y1 canvas.old canvas.new }
 {
     for row in y0..y1 {
-        lay_group_row(canvas, blend, opacity, inner, own, span, row, rows);
+        lay_group_row(canvas, corner, blend, opacity, inner, own, span, row, rows);
     }
 }
 
@@ -314,18 +332,26 @@ fn is_off<A: Ledger>(item: &Item<A>, span: Span, y0: usize, y1: usize) -> bool
 }
 
 /// Lays an item over the pixels of the block.
-fn lay_leaf_in<A: Ledger>(canvas: &mut Canvas, item: &Item<A>, span: Span, y0: usize, y1: usize)
+fn lay_leaf_in<A: Ledger>(
+    canvas: &mut Canvas,
+    corner: Corner,
+    item: &Item<A>,
+    span: Span,
+    y0: usize,
+    y1: usize,
+)
     requires order_rows { y0 ≤ y1 }
-    requires on { y1 ≤ canvas.old.height }
-    requires wide { canvas.old.width ≤ 4096 }
-    requires high { canvas.old.height ≤ 4096 }
-    requires from { pos 0 ≤ℤ span.x0 }
+    requires above { corner.top ≤ y0 }
+    requires on { y1 ≤ corner.top + canvas.old.height }
+    requires wide { corner.left + canvas.old.width ≤ 4096 }
+    requires high { corner.top + canvas.old.height ≤ 4096 }
+    requires from { pos corner.left ≤ℤ span.x0 }
     requires order { span.x0 ≤ℤ span.x1 }
-    requires within { span.x1 ≤ℤ pos canvas.old.width }
-    ensures { IsBlockLaid (list.leaf item.now.leaf list.nil) span y0 y1 canvas.old canvas.new }
+    requires within { span.x1 ≤ℤ pos (corner.left + canvas.old.width) }
+    ensures { IsBlockLaid corner (list.leaf item.now.leaf list.nil) span y0 y1 canvas.old canvas.new }
 {
     if !is_off(item, span, y0, y1) {
-        lay_item_in(canvas, item, px_of(item.color()), span, y0, y1);
+        lay_item_in(canvas, corner, item, px_of(item.color()), span, y0, y1);
     }
 }
 
@@ -333,6 +359,7 @@ fn lay_leaf_in<A: Ledger>(canvas: &mut Canvas, item: &Item<A>, span: Span, y0: u
 #[inline(never)]
 fn lay_item_in<A: Ledger>(
     canvas: &mut Canvas,
+    corner: Corner,
     item: &Item<A>,
     px: Px,
     span: Span,
@@ -340,50 +367,69 @@ fn lay_item_in<A: Ledger>(
     y1: usize,
 )
     requires order_rows { y0 ≤ y1 }
-    requires on { y1 ≤ canvas.old.height }
-    requires wide { canvas.old.width ≤ 4096 }
-    requires high { canvas.old.height ≤ 4096 }
-    requires from { pos 0 ≤ℤ span.x0 }
+    requires above { corner.top ≤ y0 }
+    requires on { y1 ≤ corner.top + canvas.old.height }
+    requires wide { corner.left + canvas.old.width ≤ 4096 }
+    requires high { corner.top + canvas.old.height ≤ 4096 }
+    requires from { pos corner.left ≤ℤ span.x0 }
     requires order { span.x0 ≤ℤ span.x1 }
-    requires within { span.x1 ≤ℤ pos canvas.old.width }
-    ensures { IsBlockChanged (over_leaf px item.now.leaf) span y0 y1 canvas.old canvas.new }
+    requires within { span.x1 ≤ℤ pos (corner.left + canvas.old.width) }
+    ensures { IsBlockChanged corner (over_leaf px item.now.leaf) span y0 y1 canvas.old canvas.new }
 {
     let seen = item.visible();
     let (left, right) = clipped(columns(seen), span.x0, (span.x1 - span.x0) as usize);
     let (top, bottom) = clipped(rows_of(seen), y0 as i32, y1 - y0);
     if left < right && top < bottom {
         let part = part_of(span, left, right);
-        lay_rows(canvas, px, item.shape().inner, part, y0 + top, y0 + bottom);
+        lay_rows(
+            canvas,
+            corner,
+            px,
+            item.shape().inner,
+            part,
+            y0 + top,
+            y0 + bottom,
+        );
     }
 }
 
 /// Lays one pixel over those of a row of the span that are not in a hole.
-fn lay_one_row(canvas: &mut Canvas, px: Px, hole: Rect, span: Span, row: usize)
-    requires on { row < canvas.old.height }
-    requires wide { canvas.old.width ≤ 4096 }
-    requires high { canvas.old.height ≤ 4096 }
-    requires from { pos 0 ≤ℤ span.x0 }
+fn lay_one_row(canvas: &mut Canvas, corner: Corner, px: Px, hole: Rect, span: Span, row: usize)
+    requires above { corner.top ≤ row }
+    requires on { row < corner.top + canvas.old.height }
+    requires wide { corner.left + canvas.old.width ≤ 4096 }
+    requires high { corner.top + canvas.old.height ≤ 4096 }
+    requires from { pos corner.left ≤ℤ span.x0 }
     requires order { span.x0 ≤ℤ span.x1 }
-    requires within { span.x1 ≤ℤ pos canvas.old.width }
-    ensures { IsBlockChanged (over_around px hole) span row (row + 1) canvas.old canvas.new }
+    requires within { span.x1 ≤ℤ pos (corner.left + canvas.old.width) }
+    ensures { IsBlockChanged corner (over_around px hole) span row (row + 1) canvas.old canvas.new }
 {
     let y = row as i32;
-    let out = canvas.span_mut(y, span.x0, span.x1);
+    let out = canvas.part_mut(corner, row, span);
     lay_around(px, hole, y, span.x0, out);
 }
 
 /// Lays one pixel over those of the block that are not in a hole.
-fn lay_rows(canvas: &mut Canvas, px: Px, hole: Rect, span: Span, y0: usize, y1: usize)
+fn lay_rows(
+    canvas: &mut Canvas,
+    corner: Corner,
+    px: Px,
+    hole: Rect,
+    span: Span,
+    y0: usize,
+    y1: usize,
+)
     requires rows { y0 ≤ y1 }
-    requires on { y1 ≤ canvas.old.height }
-    requires wide { canvas.old.width ≤ 4096 }
-    requires high { canvas.old.height ≤ 4096 }
-    requires from { pos 0 ≤ℤ span.x0 }
+    requires above { corner.top ≤ y0 }
+    requires on { y1 ≤ corner.top + canvas.old.height }
+    requires wide { corner.left + canvas.old.width ≤ 4096 }
+    requires high { corner.top + canvas.old.height ≤ 4096 }
+    requires from { pos corner.left ≤ℤ span.x0 }
     requires order { span.x0 ≤ℤ span.x1 }
-    requires within { span.x1 ≤ℤ pos canvas.old.width }
-    ensures { IsBlockChanged (over_around px hole) span y0 y1 canvas.old canvas.new }
+    requires within { span.x1 ≤ℤ pos (corner.left + canvas.old.width) }
+    ensures { IsBlockChanged corner (over_around px hole) span y0 y1 canvas.old canvas.new }
 {
     for row in y0..y1 {
-        lay_one_row(canvas, px, hole, span, row);
+        lay_one_row(canvas, corner, px, hole, span, row);
     }
 }

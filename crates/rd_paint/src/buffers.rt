@@ -11,16 +11,10 @@ ghost use Rattle.rd_list.specs.Views.{levels};
 ghost use Rattle.rd_list.specs.Wrappers.{Wrapper};
 ghost use Rattle.rd_paint.specs.Internal.Picks.{picked};
 ghost use Rattle.rd_paint.specs.Parts.{entry_count, entries_from};
-ghost use Rattle.rd_paint.specs.Pictures.{size_of};
-ghost use Rattle.rd_paint.specs.Repainted.{IsRepainted};
 
-use crate::bands::paint_kept;
-use crate::canvas::Canvas;
 use crate::picks::{MOST, Pick, depth_of};
-use crate::plain::repaint_plainly;
 use crate::runs::fill;
 use crate::spans::lay_all;
-use rd_area::Area;
 use rd_geom::{NoMemory, Px, Size};
 use rd_list::{Entry, ListView};
 use std::alloc::Global;
@@ -34,11 +28,11 @@ pub struct Buffers {
     rows: u32,
 
     /// It has memory for all rows, and as many pixels as the paints had use for.
-    pixels: Vec<Px>,
+    pub(crate) pixels: Vec<Px>,
 
     /// Room for picks of the entries that may show in a band of rows: memory for all, and filled as far as the paints had
     /// use for it.
-    room: Vec<Pick>,
+    pub(crate) room: Vec<Pick>,
 }
 
 impl Model for Buffers {
@@ -141,7 +135,7 @@ fn pixels_of(rows: u32, size: Size) -> usize
 }
 
 /// The entries from place `from` on.
-fn upper<A: Ledger>(entries: &[Entry<A>], from: usize) -> &[Entry<A>]
+pub(crate) fn upper<A: Ledger>(entries: &[Entry<A>], from: usize) -> &[Entry<A>]
     requires { from ≤ length entries.now }
     ensures { result.now ≡ drop from entries.now }
 {
@@ -171,26 +165,4 @@ pub fn paint_span<A: Ledger>(
     open(&mut buffers.pixels, pixels_of(buffers.rows, buffers.size));
     fill(out, Px::WHITE);
     lay_all(upper(list.entries(), from), y, x0, out, &mut buffers.pixels);
-}
-
-/// Makes the pixels of the area those of the list, and leaves all others (CSS Color 3 section 3.2).
-/// It needs as many rows as groups stand round a leaf, and takes no memory.
-pub fn repaint<A: Ledger>(
-    canvas: &mut Canvas,
-    list: ListView<'_, A>,
-    area: &Area,
-    buffers: &mut Buffers,
-)
-    requires area { area.now.size ≡ size_of canvas.old }
-    requires size { buffers.old.size ≡ size_of canvas.old }
-    requires deep { levels list.list.now.entries - 1 ≤ buffers.old.rows }
-    ensures painted { IsRepainted (kept_leaves list.entry.list.now.entries) area.now canvas.old canvas.new }
-    ensures same { buffers.new ≡ buffers.old }
-{
-    let rows = &mut buffers.pixels;
-    let room = &mut buffers.room;
-    if paint_kept(canvas, list.list(), area, rows, room) {
-        return;
-    }
-    repaint_plainly(canvas, list, area, buffers);
 }

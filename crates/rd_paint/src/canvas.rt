@@ -5,7 +5,8 @@ ghost use Rattle.std.specs.Borrow.{sem};
 ghost use Rattle.rd_geom.specs.Canvas.{IsCanvas};
 ghost use Rattle.rd_geom.specs.Colors.{Premultiplied, white};
 
-use rd_geom::{NoMemory, Px, Size};
+use crate::corner::Corner;
+use rd_geom::{NoMemory, Px, Size, Span};
 use std::alloc::Global;
 use std::marker::Model;
 
@@ -108,5 +109,26 @@ impl Canvas {
         let start = y as usize * self.width;
         let end = start + x1 as usize;
         self.pixels.slice_mut(start + x0 as usize..end)
+    }
+    /// The pixels in the columns of the span of a row of a list, whose pixel at the corner is the first of the canvas. Writing
+    /// through it changes no other pixel.
+    pub(crate) fn part_mut(&mut self, corner: Corner, row: usize, span: Span) -> &mut [Px]
+        requires row { corner.top ≤ row }
+        requires on { row < corner.top + self.old.height }
+        requires from { pos corner.left ≤ℤ span.x0 }
+        requires order { span.x0 ≤ℤ span.x1 }
+        requires within { span.x1 ≤ℤ pos (corner.left + self.old.width) }
+        ensures* writes_back { sem 𝓛 (LendsSpan self.entry (row - corner.top) (unsigned_abs span.x0 - corner.left) result) }
+        ensures value { result.now ≡ span_of self.old (row - corner.top)
+            (unsigned_abs span.x0 - corner.left) (unsigned_abs span.x1 - corner.left) }
+        ensures len { length result.now ≡ unsigned_abs span.x1 - unsigned_abs span.x0 }
+        ensures exact { (ps : List Premultiplied) → length ps ≡ unsigned_abs span.x1 - unsigned_abs span.x0
+            → HasSpan self.old (row - corner.top) (unsigned_abs span.x0 - corner.left) ps
+            (with_span self.old (row - corner.top) (unsigned_abs span.x0 - corner.left) ps) }
+    {
+        let start = (row - corner.top) * self.width;
+        let from = span.x0 as usize - corner.left;
+        let to = span.x1 as usize - corner.left;
+        self.pixels.slice_mut(start + from..start + to)
     }
 }

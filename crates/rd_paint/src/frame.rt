@@ -62,69 +62,80 @@ pub(crate) fn meets_part(area: &Area, left: usize, right: usize, top: usize, bot
     }
 }
 
-/// From which row on the area may have a pixel.
-fn first_row(area: &Area, width: usize, height: usize) -> usize
-    requires wide { width ≤ 4096 }
-    requires high { height ≤ 4096 }
-    ensures within { result ≤ height }
-    ensures above { (x y : ℕ) → x < width → y < result → in_area area.now (pos x) (pos y) ≡ false }
+/// From which row on the area may have a pixel of a whole.
+fn first_row(area: &Area, whole: Frame) -> usize
+    requires across { whole.left ≤ whole.right }
+    requires wide { whole.right ≤ 4096 }
+    requires down { whole.top ≤ whole.bottom }
+    requires high { whole.bottom ≤ 4096 }
+    ensures from { whole.top ≤ result }
+    ensures within { result ≤ whole.bottom }
+    ensures above { (x y : ℕ) → whole.left ≤ x → x < whole.right → whole.top ≤ y → y < result
+        → in_area area.now (pos x) (pos y) ≡ false }
 {
-    let mut first = 0;
+    let mut first = whole.top;
     for step in [2048, 1024, 512, 256, 128, 64, 32, 16, 8, 4, 2, 1] {
-        if step <= height - first && !meets_part(area, 0, width, first, first + step) {
+        if step <= whole.bottom - first
+            && !meets_part(area, whole.left, whole.right, first, first + step)
+        {
             first += step;
         }
     }
     first
 }
 
-/// Up to which row the area may have a pixel, if none is above row `first`.
-fn last_row(area: &Area, width: usize, first: usize, height: usize) -> usize
-    requires order { first ≤ height }
-    requires wide { width ≤ 4096 }
-    requires high { height ≤ 4096 }
+/// Up to which row the area may have a pixel of a whole, if none is above row `first`.
+fn last_row(area: &Area, whole: Frame, first: usize) -> usize
+    requires across { whole.left ≤ whole.right }
+    requires wide { whole.right ≤ 4096 }
+    requires order { first ≤ whole.bottom }
+    requires high { whole.bottom ≤ 4096 }
     ensures order { first ≤ result }
-    ensures within { result ≤ height }
-    ensures below { (x y : ℕ) → x < width → result ≤ y → y < height → in_area area.now (pos x) (pos y) ≡ false }
+    ensures within { result ≤ whole.bottom }
+    ensures below { (x y : ℕ) → whole.left ≤ x → x < whole.right → result ≤ y → y < whole.bottom
+        → in_area area.now (pos x) (pos y) ≡ false }
 {
-    let mut last = height;
+    let mut last = whole.bottom;
     for step in [2048, 1024, 512, 256, 128, 64, 32, 16, 8, 4, 2, 1] {
-        if step <= last - first && !meets_part(area, 0, width, last - step, last) {
+        if step <= last - first && !meets_part(area, whole.left, whole.right, last - step, last) {
             last -= step;
         }
     }
     last
 }
 
-/// From which column on the area may have a pixel in the rows `top` up to `bottom`.
-fn first_column(area: &Area, width: usize, top: usize, bottom: usize) -> usize
-    requires wide { width ≤ 4096 }
+/// From which column on the area may have a pixel of a whole in the rows `top` up to `bottom`.
+fn first_column(area: &Area, whole: Frame, top: usize, bottom: usize) -> usize
+    requires across { whole.left ≤ whole.right }
+    requires wide { whole.right ≤ 4096 }
     requires down { top ≤ bottom }
     requires high { bottom ≤ 4096 }
-    ensures within { result ≤ width }
-    ensures before { (x y : ℕ) → x < result → top ≤ y → y < bottom → in_area area.now (pos x) (pos y) ≡ false }
+    ensures from { whole.left ≤ result }
+    ensures within { result ≤ whole.right }
+    ensures before { (x y : ℕ) → whole.left ≤ x → x < result → top ≤ y → y < bottom
+        → in_area area.now (pos x) (pos y) ≡ false }
 {
-    let mut first = 0;
+    let mut first = whole.left;
     for step in [2048, 1024, 512, 256, 128, 64, 32, 16, 8, 4, 2, 1] {
-        if step <= width - first && !meets_part(area, first, first + step, top, bottom) {
+        if step <= whole.right - first && !meets_part(area, first, first + step, top, bottom) {
             first += step;
         }
     }
     first
 }
 
-/// Up to which column the area may have a pixel in the rows `top` up to `bottom`, if none is left of column `first`.
-fn last_column(area: &Area, first: usize, width: usize, top: usize, bottom: usize) -> usize
-    requires order { first ≤ width }
-    requires wide { width ≤ 4096 }
+/// Up to which column the area may have a pixel of a whole in the rows `top` up to `bottom`, if none is left of column `first`.
+fn last_column(area: &Area, whole: Frame, first: usize, top: usize, bottom: usize) -> usize
+    requires order { first ≤ whole.right }
+    requires wide { whole.right ≤ 4096 }
     requires down { top ≤ bottom }
     requires high { bottom ≤ 4096 }
     ensures order { first ≤ result }
-    ensures within { result ≤ width }
-    ensures after { (x y : ℕ) → result ≤ x → x < width → top ≤ y → y < bottom
+    ensures within { result ≤ whole.right }
+    ensures after { (x y : ℕ) → result ≤ x → x < whole.right → top ≤ y → y < bottom
         → in_area area.now (pos x) (pos y) ≡ false }
 {
-    let mut last = width;
+    let mut last = whole.right;
     for step in [2048, 1024, 512, 256, 128, 64, 32, 16, 8, 4, 2, 1] {
         if step <= last - first && !meets_part(area, last - step, last, top, bottom) {
             last -= step;
@@ -133,16 +144,18 @@ fn last_column(area: &Area, first: usize, width: usize, top: usize, bottom: usiz
     last
 }
 
-/// Rows and columns outside which the area has no pixel of a canvas of this width and height.
-pub(crate) fn frame_of(area: &Area, width: usize, height: usize) -> Frame
-    requires wide { width ≤ 4096 }
-    requires high { height ≤ 4096 }
-    ensures { IsFramed area.now width height result }
+/// Rows and columns of a whole outside which the area has no pixel of it.
+pub(crate) fn frame_of(area: &Area, whole: Frame) -> Frame
+    requires across { whole.left ≤ whole.right }
+    requires wide { whole.right ≤ 4096 }
+    requires down { whole.top ≤ whole.bottom }
+    requires high { whole.bottom ≤ 4096 }
+    ensures { IsFramed area.now whole result }
 {
-    let top = first_row(area, width, height);
-    let bottom = last_row(area, width, top, height);
-    let left = first_column(area, width, top, bottom);
-    let right = last_column(area, left, width, top, bottom);
+    let top = first_row(area, whole);
+    let bottom = last_row(area, whole, top);
+    let left = first_column(area, whole, top, bottom);
+    let right = last_column(area, whole, left, top, bottom);
     Frame {
         left,
         right,

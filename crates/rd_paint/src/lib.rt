@@ -6,11 +6,13 @@
 //! Breaks: another pixel of a list breaks `rd_tiles` and `rd_engine`, whose canvas shows its list.
 #![tactic(auto)]
 
+mod areas;
 mod bands;
 mod blocks;
 mod buffers;
 mod canvas;
 mod chosen;
+mod corner;
 mod covering;
 mod frame;
 mod gathering;
@@ -22,5 +24,6 @@ mod runs;
 mod skipping;
 mod spans;
 
-pub use buffers::{Buffers, paint_span, repaint};
+pub use areas::{repaint, repaint_part};
+pub use buffers::{Buffers, paint_span};
 pub use canvas::Canvas;

@@ -1,81 +1,99 @@
 //! Painting a canvas anew in an area, looking at every entry in every row.
 
-ghost use Rattle.std.specs.Prelude.{◌≡◌, ℤ, pos, ◌-◌, ◌≤◌, ◌≤ℤ◌, ◌<ℤ◌, ◌∷◌, [], unsigned_abs};
-ghost use Rattle.rd_area.specs.Rows.{IsRising};
+ghost use Rattle.std.specs.Prelude.{◌≡◌, ◌-◌, ◌≤◌, ◌<◌, ◌∷◌, []};
+ghost use Rattle.rd_geom.specs.Canvas.{IsCanvas};
 ghost use Rattle.rd_list.specs.EntryNames.{kept_leaves};
 ghost use Rattle.rd_list.specs.Views.{levels};
-ghost use Rattle.rd_paint.specs.Internal.Bands.{IsRowPainted};
-ghost use Rattle.rd_paint.specs.Pictures.{size_of};
-ghost use Rattle.rd_paint.specs.Repainted.{IsRepainted};
+ghost use Rattle.rd_paint.specs.Changed.{Fits, IsChanged, IsOn, ShowsFrom, in_part, list_at};
+ghost use Rattle.rd_paint.specs.Internal.Bands.{in_row};
+ghost use Rattle.rd_paint.specs.Parts.{entry_count};
 
 use crate::buffers::{Buffers, paint_span};
 use crate::canvas::Canvas;
 use rd_area::Area;
-use rd_geom::Span;
+use rd_geom::{Rect, Span};
 use rd_list::ListView;
 use std::sync::ledger::Ledger;
 
-/// Makes the pixels of row `y` that are in the span those of the list.
+/// Makes the pixels of a row of a rectangle that are in a span those of a list, of which the entries from place `from` on are
+/// painted.
 fn repaint_span<A: Ledger>(
     canvas: &mut Canvas,
+    place: Rect,
     list: ListView<'_, A>,
+    from: usize,
     span: Span,
-    y: i32,
+    row: usize,
     buffers: &mut Buffers,
 )
-    requires row { pos 0 ≤ℤ y }
-    requires on { y <ℤ pos canvas.old.height }
-    requires from { pos 0 ≤ℤ span.x0 }
-    requires order { span.x0 ≤ℤ span.x1 }
-    requires within { span.x1 ≤ℤ pos canvas.old.width }
-    requires size { buffers.old.size ≡ size_of canvas.old }
+    requires from { from ≤ entry_count list.list.now.entries }
+    requires shows { ShowsFrom (kept_leaves list.list.now.entries) from place }
+    requires canvas { IsCanvas buffers.old.size }
+    requires on { IsOn buffers.old.size place }
+    requires fits { Fits place canvas.old }
+    requires row { row < canvas.old.height }
     requires deep { levels list.list.now.entries - 1 ≤ buffers.old.rows }
-    ensures painted { IsRowPainted (kept_leaves list.entry.list.now.entries)
-        (span ∷ []) (unsigned_abs y) canvas.old canvas.new }
+    ensures painted { IsChanged (list_at (kept_leaves list.entry.list.now.entries) place)
+        (in_row place (span ∷ []) row) canvas.old canvas.new }
     ensures same { buffers.new ≡ buffers.old }
 {
-    let out = canvas.span_mut(y, span.x0, span.x1);
-    paint_span(list, 0, y, span.x0, out, buffers);
+    let x0 = span.x0.max(place.x());
+    let x1 = span.x1.min(place.right());
+    if x1 <= x0 {
+        return;
+    }
+    let out = canvas.span_mut(row as i32, x0 - place.x(), x1 - place.x());
+    paint_span(list, from, place.y() + row as i32, x0, out, buffers);
 }
 
-/// Makes the pixels of row `y` that are in the spans those of the list.
+/// The same of those that are in some spans.
 fn repaint_row<A: Ledger>(
     canvas: &mut Canvas,
+    place: Rect,
     list: ListView<'_, A>,
+    from: usize,
     spans: &[Span],
-    y: i32,
+    row: usize,
     buffers: &mut Buffers,
 )
-    requires row { pos 0 ≤ℤ y }
-    requires on { y <ℤ pos canvas.old.height }
-    requires rising { IsRising (pos 0) (pos canvas.old.width) spans.now }
-    requires size { buffers.old.size ≡ size_of canvas.old }
+    requires from { from ≤ entry_count list.list.now.entries }
+    requires shows { ShowsFrom (kept_leaves list.list.now.entries) from place }
+    requires canvas { IsCanvas buffers.old.size }
+    requires on { IsOn buffers.old.size place }
+    requires fits { Fits place canvas.old }
+    requires row { row < canvas.old.height }
     requires deep { levels list.list.now.entries - 1 ≤ buffers.old.rows }
-    ensures painted { IsRowPainted (kept_leaves list.entry.list.now.entries)
-        spans.now (unsigned_abs y) canvas.old canvas.new }
+    ensures painted { IsChanged (list_at (kept_leaves list.entry.list.now.entries) place)
+        (in_row place spans.now row) canvas.old canvas.new }
     ensures same { buffers.new ≡ buffers.old }
 {
     for span in spans {
-        repaint_span(canvas, list, *span, y, buffers);
+        repaint_span(canvas, place, list, from, *span, row, buffers);
     }
 }
 
-/// Makes the pixels of the area those of the list, looking at every entry in every row. No other pixel changes.
+/// The same of those that are in the area, in all rows of the rectangle.
 pub(crate) fn repaint_plainly<A: Ledger>(
     canvas: &mut Canvas,
+    place: Rect,
     list: ListView<'_, A>,
+    from: usize,
     area: &Area,
     buffers: &mut Buffers,
 )
-    requires area { area.now.size ≡ size_of canvas.old }
-    requires size { buffers.old.size ≡ size_of canvas.old }
+    requires from { from ≤ entry_count list.list.now.entries }
+    requires shows { ShowsFrom (kept_leaves list.list.now.entries) from place }
+    requires canvas { IsCanvas buffers.old.size }
+    requires on { IsOn buffers.old.size place }
+    requires fits { Fits place canvas.old }
     requires deep { levels list.list.now.entries - 1 ≤ buffers.old.rows }
-    ensures painted { IsRepainted (kept_leaves list.entry.list.now.entries) area.now canvas.old canvas.new }
+    ensures painted { IsChanged (list_at (kept_leaves list.entry.list.now.entries) place)
+        (in_part place area.now) canvas.old canvas.new }
     ensures same { buffers.new ≡ buffers.old }
 {
     let rows = canvas.size().h as usize;
     for row in 0..rows {
-        let y = row as i32;
-        repaint_row(canvas, list, area.spans(y), y, buffers);
+        let spans = area.spans(place.y() + row as i32);
+        repaint_row(canvas, place, list, from, spans, row, buffers);
     }
 }

@@ -1,7 +1,6 @@
 //! Entries that show nothing in an area are passed over: blocks of them whose hull is off it, leaves, and groups of no opacity.
 
 ghost use Rattle.std.specs.Prelude.{◌≡◌, ℤ, ◌+◌, ◌≤◌, ◌∷◌, [], IsTrue, false, length, take, drop};
-ghost use Rattle.rd_geom.specs.Areas.{meets_area};
 ghost use Rattle.rd_geom.specs.Plane.{holds_pixel};
 ghost use Rattle.rd_list.specs.Blocks.{Covers, IsAt, Tells};
 ghost use Rattle.rd_list.specs.Displayed.{shown};
@@ -99,13 +98,20 @@ fn next_before<A: Ledger>(
     i
 }
 
-/// May no entry of the block show in the area?
+/// May no entry of the block show in the area, as far as it is in these columns of these rows?
 #[inline(always)]
-fn is_off(block: &Block, area: &Area) -> bool
+fn is_off(block: &Block, area: &Area, columns: Span, rows: Span) -> bool
     ensures open { IsTrue result → block.now.is_open ≡ false }
-    ensures off { IsTrue result → meets_area area.now block.now.told.hull ≡ false }
+    ensures off { IsTrue result → (x y : ℤ) → InAreaWithin area.now columns rows x y
+        → holds_pixel block.now.told.hull x y ≡ false }
 {
-    !block.is_open && !area.meets(block.told.hull)
+    if block.is_open {
+        return false;
+    }
+    if misses(block.told.hull, columns, rows) {
+        return true;
+    }
+    !area.meets(block.told.hull)
 }
 
 /// The same before the end of a block, which is passed as a whole where no entry of it may show in the area.
@@ -130,7 +136,7 @@ fn next_in_block<A: Ledger>(
     if from >= end {
         return from;
     }
-    if from == start && is_off(block, area) {
+    if from == start && is_off(block, area, columns, rows) {
         return end;
     }
     next_before(entries, from, end, columns, rows)

@@ -1,5 +1,5 @@
 -- Tiles that are copied to a canvas, one after another.
-use Rattle.std.proofs.Common.{◌≡◌, ℕ, ℤ, pos, negsuc, ◌+◌, ◌-◌, ◌*◌, ◌/◌, ◌%◌, ◌<◌, ◌≤◌, ◌+ℤ◌, ◌≤ℤ◌, ◌<ℤ◌, Bool, true, false, ◌&&◌, ◌||◌, cond, nat_eq, nat_lt, IsTrue, List, [], length, get_or, Option, Some, None, refl, sym, ap, ◌∙◌, subst, inl, inr, ◌⊎◌, arith}
+use Rattle.std.proofs.Common.{◌≡◌, ℕ, ℤ, pos, negsuc, ◌+◌, ◌-◌, ◌*◌, ◌/◌, ◌%◌, ◌<◌, ◌≤◌, ◌+ℤ◌, ◌≤ℤ◌, ◌<ℤ◌, Bool, true, false, ◌&&◌, ◌||◌, cond, nat_eq, nat_lt, IsTrue, List, length, get_or, Option, Some, None, refl, sym, ap, ◌∙◌, subst, inl, inr, ◌⊎◌, arith}
 use Rattle.std.specs.Prelude.{unsigned_abs, is_some}
 use Rattle.std.proofs.lemmas.Bool.{cases_lt, cases_order, eq-eqb, ne_eqb, eqb-true, lt-ltb, le-ltb}
 use Rattle.std.proofs.lemmas.Int.{ints}
@@ -10,7 +10,8 @@ use Rattle.rd_geom.specs.Plane.{Rectangle, holds_pixel}
 use Rattle.rd_geom.specs.declared.rect.Size.{Size}
 use Rattle.rd_geom.proofs.Pixels.{At, at_holds, holds_at, same_test}
 use Rattle.rd_paint.specs.Pictures.{Picture, pixel_at, size_of}
-use Rattle.rd_tiles.specs.Internal.Changing.{IsChanged, IsTileAt, IsTiled, place_at}
+use Rattle.rd_paint.specs.Changed.{IsChanged}
+use Rattle.rd_tiles.specs.Internal.Changing.{IsTileAt, IsTiled, place_at}
 use Rattle.rd_tiles.specs.Internal.Copying.{in_first_tiles, in_tile, number_at, px_of, tile_color, tiles_color}
 use Rattle.rd_tiles.specs.Tiling.{Tiling, columns_of, is_tile, pixel_in, rows_of, side_of, tile_of, tile_pixel}
 use Rattle.rd_tiles.specs.declared.tile.Tile.{Tile}

@@ -1,5 +1,3 @@
-pub mod Changes
-pub mod Cutting
 pub mod Lids
 pub mod Placing
 pub mod Tilings
@@ -7,4 +5,3 @@ pub mod Copies
 pub mod Whitening
 pub mod Lines
 pub mod Spans
-pub mod Casting

@@ -1,5 +1,5 @@
 -- Leaves that hide all below them in a tile.
-use Rattle.std.proofs.Common.{◌≡◌, ℕ, zero, suc, ℤ, ◌+◌, ◌<◌, ◌≤◌, ◌+ℤ◌, ◌≤ℤ◌, ◌<ℤ◌, Bool, true, false, not, ◌&&◌, IsTrue, List, [], ◌∷◌, length, get_or, Some, None, refl, sym, ap, ◌∙◌, subst, inl, inr, ◌⊎◌, arith}
+use Rattle.std.proofs.Common.{◌≡◌, ℕ, zero, suc, ℤ, ◌<◌, ◌≤◌, ◌≤ℤ◌, Bool, true, false, not, ◌&&◌, IsTrue, List, [], ◌∷◌, length, get_or, Some, None, refl, sym, ap, ◌∙◌, subst, inl, inr, ◌⊎◌, arith}
 use Rattle.std.specs.Prelude.{int_le}
 use Rattle.std.proofs.lemmas.Int.{ints}
 use Rattle.rd_geom.specs.Colors.{Premultiplied, premultiplied, white}
@@ -15,7 +15,7 @@ use Rattle.rd_list.specs.Lists.{composed, pixel}
 use Rattle.rd_list.specs.Wrappers.{Wrapper}
 use Rattle.rd_paint.specs.Parts.{entries_from}
 use Rattle.rd_paint.proofs.Pieces.{opaque_over, seen_covers}
-use Rattle.rd_tiles.specs.Covering.{HasLid, IsCover, IsLid, lowest_leaf}
+use Rattle.rd_tiles.specs.Covering.{HasLid, IsLid, lowest_leaf}
 
 -- a leaf that covers a pixel and is opaque hides what is below it there
 lid_hides : (l : item.Leaf) (rest : Entries Wrapper item.Leaf) (x y : ℤ) (d e : Premultiplied) → l.color.a ≡ 255 → covers l x y ≡ true
@@ -41,10 +41,10 @@ shows_from (suc n) nil l x y d e s a c = absurd (let f : None ≡ Some l = s in 
 shows_from (suc n) (leaf m rest) l x y d e s a c = shows_from n rest l x y d _ s a c
 shows_from (suc n) (group g inner rest) l x y d e s a c = shows_from n rest l x y d _ s a c
 
--- so does a list from its cover on
-pub cover_shows : (tile : Rectangle) (es : Entries Wrapper item.Leaf) (n : ℕ) → IsCover tile es n
+-- so does a list from such a leaf on, and from its first entry on
+pub lid_shows : (tile : Rectangle) (es : Entries Wrapper item.Leaf) (n : ℕ) → HasLid tile es n ⊎ (n ≡ 0)
     → (x y : ℤ) → IsTrue (holds_pixel tile x y) → composed x y white (entries_from n es) ≡ pixel es x y
-cover_shows tile es n k x y h = elim k.at [
+lid_shows tile es n k x y h = elim k [
   | inl p ↦ shows_from n es p.leaf x y white white p.stands p.lid.opaque (p.lid.covers x y h)
   | inr e ↦ rw e refl
 ]

@@ -1,17 +1,18 @@
 -- Rows of a tile on the canvas.
-use Rattle.std.proofs.Common.{◌≡◌, ℕ, ℤ, pos, ◌+◌, ◌-◌, ◌*◌, ◌<◌, ◌≤◌, ◌+ℤ◌, ◌≤ℤ◌, ◌<ℤ◌, Bool, true, false, ◌&&◌, ◌||◌, nat_eq, nat_le, nat_lt, List, length, get_or, refl, sym, ap, ◌∙◌, arith}
+use Rattle.std.proofs.Common.{◌≡◌, ℕ, pos, ◌+◌, ◌*◌, ◌<◌, ◌+ℤ◌, Bool, true, false, ◌&&◌, ◌||◌, nat_eq, nat_le, nat_lt, List, length, get_or, refl, sym, ap, ◌∙◌, arith}
 use Rattle.std.specs.Prelude.{unsigned_abs}
 use Rattle.std.proofs.lemmas.Bool.{eqb-true}
 use Rattle.std.proofs.lemmas.Int.{ints}
 use Rattle.rd_geom.specs.Plane.{Rectangle, is_among}
 use Rattle.rd_geom.specs.declared.rect.Size.{Size}
 use Rattle.rd_paint.specs.Pictures.{Picture}
-use Rattle.rd_paint.proofs.Repainting.{and_assoc}
-use Rattle.rd_tiles.specs.Internal.Changing.{IsChanged, IsTiled, place_at}
+use Rattle.rd_paint.specs.Changed.{IsChanged}
+use Rattle.rd_paint.proofs.SpanTests.{and_assoc}
+use Rattle.rd_paint.proofs.Changes.{changed_as, changed_then}
+use Rattle.rd_tiles.specs.Internal.Changing.{IsTiled, place_at}
 use Rattle.rd_tiles.specs.Internal.Copying.{in_first_rows, in_first_tiles, in_line, in_tile, number_at, tile_color, tiles_color}
 use Rattle.rd_tiles.specs.Tiling.{columns_of, rows_of}
 use Rattle.rd_tiles.specs.declared.tile.Tile.{Tile}
-use Rattle.rd_tiles.proofs.Changes.{changed_as, changed_then}
 use Rattle.rd_tiles.proofs.Copies.{color_is, first_more, in_tile_number}
 use Rattle.rd_tiles.proofs.Tilings.{no_tile}
 

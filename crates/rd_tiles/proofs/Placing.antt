@@ -1,15 +1,16 @@
 -- Where tiles lie.
-use Rattle.std.proofs.Common.{◌≡◌, ℕ, zero, suc, ℤ, pos, ◌+◌, ◌-◌, ◌*◌, ◌/◌, ◌%◌, ◌<◌, ◌≤◌, ◌+ℤ◌, ◌≤ℤ◌, ◌<ℤ◌, true, ◌&&◌, nat_lt, IsTrue, refl, sym, ap, ◌∙◌, subst, inl, inr, arith}
+use Rattle.std.proofs.Common.{◌≡◌, ℕ, zero, suc, ℤ, pos, ◌+◌, ◌-◌, ◌*◌, ◌/◌, ◌%◌, ◌<◌, ◌≤◌, true, nat_lt, IsTrue, refl, sym, ap, ◌∙◌, subst, inl, inr, arith}
 use Rattle.std.specs.Prelude.{unsigned_abs}
 use Rattle.std.proofs.lemmas.Bool.{cases_lt, lt-ltb, le-ltb, ltb-true}
 use Rattle.std.proofs.lemmas.Int.{ints}
 use Rattle.std.proofs.Math.Nat.{mul_comm}
 use Rattle.std.proofs.lemmas.Nat.{div-mul-add, div_below, mod-mul-add, mod_below, mul-add-lt, mul-le}
 use Rattle.rd_geom.specs.Canvas.{IsCanvas}
-use Rattle.rd_geom.specs.Plane.{IsPlaced, Rectangle, right, bottom}
+use Rattle.rd_geom.specs.Plane.{IsPlaced, Rectangle}
 use Rattle.rd_geom.specs.declared.rect.Size.{Size}
-use Rattle.rd_paint.proofs.Repainting.{and_left, and_right}
-use Rattle.rd_tiles.specs.Internal.Changing.{IsOn, IsTileAt, place_at}
+use Rattle.rd_paint.specs.Changed.{IsOn}
+use Rattle.rd_paint.proofs.SpanTests.{and_left, and_right}
+use Rattle.rd_tiles.specs.Internal.Changing.{IsTileAt, place_at}
 use Rattle.rd_tiles.specs.Tiling.{tiles_along, columns_of, rows_of, is_tile, side_of, tile_of}
 use Rattle.rd_tiles.specs.declared.tile.Tile.{Tile}
 

@@ -8,7 +8,7 @@ ghost use Rattle.rd_list.specs.EntryNames.{kept_leaves};
 ghost use Rattle.rd_list.specs.Views.{levels};
 ghost use Rattle.rd_paint.specs.Pictures.{pixel_at, size_of};
 ghost use Rattle.rd_tiles.specs.Internal.Blank.{AreBlank, IsBlank};
-ghost use Rattle.rd_tiles.specs.Internal.Changing.{IsOn};
+ghost use Rattle.rd_paint.specs.Changed.{IsOn};
 ghost use Rattle.rd_tiles.specs.Tiling as tiling;
 ghost use Rattle.rd_tiles.specs.Tiling.{IsRetiled, is_tile, pixel_in, stamp_of, tile_at, tile_of, tiles_met};
 

@@ -2,7 +2,8 @@
 
 ghost use Rattle.std.specs.Prelude.{◌<◌, length};
 ghost use Rattle.rd_paint.specs.Pictures.{size_of};
-ghost use Rattle.rd_tiles.specs.Internal.Changing.{Fits, IsChanged, IsOn, IsTiled};
+ghost use Rattle.rd_paint.specs.Changed.{Fits, IsChanged, IsOn};
+ghost use Rattle.rd_tiles.specs.Internal.Changing.{IsTiled};
 ghost use Rattle.rd_tiles.specs.Internal.Copying.{in_first_tiles, in_line, in_tile, tile_color, tiles_color};
 
 use crate::tile::Tile;

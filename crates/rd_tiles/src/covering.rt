@@ -7,6 +7,7 @@ ghost use Rattle.rd_item.specs.Leaves.{covers};
 ghost use Rattle.rd_list.specs.Displayed.{shown};
 ghost use Rattle.rd_list.specs.EntryNames.{kept_leaves};
 ghost use Rattle.rd_list.specs.Lists.{composed, pixel};
+ghost use Rattle.rd_paint.specs.Changed.{ShowsFrom};
 ghost use Rattle.rd_paint.specs.Parts.{entry_count, entries_from};
 ghost use Rattle.rd_tiles.specs.Covering.{HasLid, IsCover, IsLid};
 
@@ -61,13 +62,14 @@ fn is_entry_lid<A: Ledger>(entry: &Entry<A>, tile: Rect) -> bool
     }
 }
 
-/// The place of the topmost of the entries that is such a leaf; 0 where there is none.
-fn topmost<A: Ledger>(entries: &[Entry<A>], tile: Rect) -> usize
-    ensures cover { IsCover tile (shown entries.now) result }
+/// The place of the topmost of the entries from place `low` on that is such a leaf; 0 where there is none.
+fn topmost<A: Ledger>(entries: &[Entry<A>], low: usize, tile: Rect) -> usize
+    ensures at { HasLid tile (shown entries.now) result ⊎ (result ≡ 0) }
+    ensures greatest { (i : ℕ) → low ≤ i → result < i → HasLid tile (shown entries.now) i → ⊥ }
     ensures within { result ≤ length entries.now }
 {
     let mut i = entries.len();
-    while i > 0 {
+    while i > low {
         i -= 1;
         if is_entry_lid(&entries[i], tile) {
             return i;
@@ -85,5 +87,18 @@ pub fn cover<A: Ledger>(list: ListView<'_, A>, tile: Rect) -> usize
         → composed x y white (entries_from result (kept_leaves list.entry.list.now.entries))
         ≡ pixel (kept_leaves list.entry.list.now.entries) x y }
 {
-    topmost(list.entries(), tile)
+    topmost(list.entries(), 0, tile)
+}
+
+/// So many entries, the topmost, are looked at before a tile is painted: a page is hidden by its topmost boxes, if by any,
+/// and a look at all of a long list costs more than to paint a tile.
+const NEAR: usize = 256;
+
+/// The same place, if it is one of the topmost few; else 0.
+pub(crate) fn near_cover<A: Ledger>(list: ListView<'_, A>, tile: Rect) -> usize
+    ensures within { result ≤ entry_count list.entry.list.now.entries }
+    ensures shows { ShowsFrom (kept_leaves list.entry.list.now.entries) result tile }
+{
+    let entries = list.entries();
+    topmost(entries, entries.len().saturating_sub(NEAR), tile)
 }

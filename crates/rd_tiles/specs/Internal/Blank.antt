@@ -3,7 +3,8 @@ use Rattle.std.specs.Prelude.{◌≡◌, ℕ, ◌*◌, ◌<◌, List, length, ge
 use Rattle.rd_geom.specs.Colors.{white}
 use Rattle.rd_geom.specs.Plane.{Rectangle}
 use Rattle.rd_geom.specs.declared.rect.Size.{Size}
-use Rattle.rd_tiles.specs.Internal.Changing.{Fits, place_at}
+use Rattle.rd_paint.specs.Changed.{Fits}
+use Rattle.rd_tiles.specs.Internal.Changing.{place_at}
 use Rattle.rd_tiles.specs.Tiling.{columns_of, rows_of}
 use Rattle.rd_tiles.specs.declared.tile.Tile.{Tile}
 

@@ -1,5 +1,5 @@
 -- Tiles that are copied to a canvas.
-use Rattle.std.specs.Prelude.{ℕ, ℤ, pos, ◌+◌, ◌-◌, ◌*◌, ◌/◌, ◌+ℤ◌, Bool, ◌&&◌, nat_lt, List, get_or, Option, Some, None, unsigned_abs}
+use Rattle.std.specs.Prelude.{ℕ, pos, ◌+◌, ◌-◌, ◌*◌, ◌/◌, ◌+ℤ◌, Bool, ◌&&◌, nat_lt, List, get_or, Option, Some, None, unsigned_abs}
 use Rattle.rd_geom.specs.Colors.{Premultiplied, clear}
 use Rattle.rd_geom.specs.Plane.{Rectangle, holds_pixel, is_among}
 use Rattle.rd_geom.specs.declared.rect.Size.{Size}

@@ -1,4 +1,4 @@
-use Rattle.std.proofs.Common.{◌≤◌, ◌-◌, List, length, take, ap, ◌∙◌, sym, subst, arith, rules}
+use Rattle.std.proofs.Common.{◌≤◌, ◌-◌, List, length, take, ap, ◌∙◌, sym, subst, arith}
 use Rattle.std.proofs.lemmas.Int.{ints}
 use Rattle.std.proofs.Math.Nat.{mul-le-mul_left}
 use Rattle.rd_geom.specs.declared.rect.Size.{Size}
@@ -6,6 +6,7 @@ use Rattle.rd_list.specs.Displayed.{shown}
 use Rattle.rd_list.specs.KeptView.{kept_entries}
 use Rattle.rd_list.specs.Views.{levels}
 use Rattle.rd_paint.specs.Internal.Picks.{InAreaWithin, SameWhere, picked}
+use Rattle.rd_paint.specs.declared.frame.Frame.{Frame}
 use Rattle.rd_paint.specs.declared.picks.Pick.{Pick}
 use Rattle.rd_paint.proofs.Depths.{levels_by, levels-leaves, rows_opened}
 use Rattle.rd_paint.proofs.Framing.{frame_painted}
@@ -26,6 +27,12 @@ paint_band-requires-clause-rows g c =
 
 pub returns-clause-painted : goal.returns-clause-painted
 returns-clause-painted g c = λ t.
-    frame_painted (shown c.args.entries.now) (picked c.split_at_mut-own.result.0.now (shown c.args.entries.now)) c.args.area.now c.frame_of-frame.result c.columns-columns.result c.rows-lines.result c.args.canvas.now c.paint_band.new.canvas
-    (search rules) c.columns-columns.ensures c.rows-lines.ensures
+    let w = ap (λ (s : Size). s.w) c.size-size.ensures.value in
+    let h = ap (λ (s : Size). s.h) c.size-size.ensures.value in
+    let left = ap (λ (f : Frame). f.left) c.frame-whole.ensures in
+    let right = ap (λ (f : Frame). f.right) c.frame-whole.ensures in
+    let top = ap (λ (f : Frame). f.top) c.frame-whole.ensures in
+    let bottom = ap (λ (f : Frame). f.bottom) c.frame-whole.ensures in
+    frame_painted c.args.corner (shown c.args.entries.now) (picked c.split_at_mut-own.result.0.now (shown c.args.entries.now)) c.args.area.now c.frame-whole.result c.frame_of-frame.result c.columns-columns.result c.rows-lines.result c.args.canvas.now c.paint_band.new.canvas
+    left (omega (arith, ints, right, w)) top (omega (arith, ints, bottom, h)) c.frame_of-frame.ensures c.columns-columns.ensures c.rows-lines.ensures
     (subst (λ (ps : List Pick). SameWhere (InAreaWithin c.args.area.now c.columns-columns.result c.rows-lines.result) (picked ps (shown c.args.entries.now)) (shown c.args.entries.now)) (sym (c.split_at_mut-own.ensures.front ∙ ap (take c.in-Some.count) c.deref_mut.ensures.value)) c.in-Some.ensures.same) c.paint_band.ensures

@@ -22,10 +22,10 @@ returns-in-Some g c =
     let f1 : FitsSigned w32 c.args.span.x1 = search rules in
     let hides = simp to_z-of_z at (rw (e0, e1) at c.in-Some.ensures.hides) in
     let e = take_rest c.args.picks.now c.in-Some.i in
-    block_hidden (picked (drop c.in-Some.i c.args.picks.now) (shown c.args.entries.now)) (picked c.args.picks.now (shown c.args.entries.now)) c.args.span c.args.y0 c.args.y1 (unsigned_abs c.args.span.x0) (unsigned_abs c.args.span.x1) c.args.canvas.now c.lay_picks_in.new.canvas ex (omega (arith, ints))
+    block_hidden c.args.corner (picked (drop c.in-Some.i c.args.picks.now) (shown c.args.entries.now)) (picked c.args.picks.now (shown c.args.entries.now)) c.args.span c.args.y0 c.args.y1 (unsigned_abs c.args.span.x0) (unsigned_abs c.args.span.x1) c.args.canvas.now c.lay_picks_in.new.canvas ex (omega (arith, ints))
     (λ k y d q l a b. ap (λ z. composed (z +ℤ pos k) y d (picked (drop c.in-Some.i c.args.picks.now) (shown c.args.entries.now))) (sym ex) ∙ hides k y d q (omega (arith, ints, l)) a b ∙ ap (λ z. composed (z +ℤ pos k) y q (picked c.args.picks.now (shown c.args.entries.now))) ex)
-    (laid_as _ _ c.args.span c.args.y0 c.args.y1 c.args.canvas.now c.lay_picks_in.new.canvas (ap (λ (qs : List Pick). picked qs (shown c.args.entries.now)) e) c.lay_picks_in.ensures)
+    (laid_as c.args.corner _ _ c.args.span c.args.y0 c.args.y1 c.args.canvas.now c.lay_picks_in.new.canvas (ap (λ (qs : List Pick). picked qs (shown c.args.entries.now)) e) c.lay_picks_in.ensures)
 
 pub returns-in-None : goal.returns-in-None
 returns-in-None g c =
-    block_then made (λ x y p. composed (pos x) (pos y) p (picked c.args.picks.now (shown c.args.entries.now))) c.args.span c.args.y0 c.args.y1 c.args.canvas.now c.whiten.new.canvas c.lay_picks_in-in-None.new.canvas c.whiten.ensures c.lay_picks_in-in-None.ensures
+    block_then c.args.corner made (λ x y p. composed (pos x) (pos y) p (picked c.args.picks.now (shown c.args.entries.now))) c.args.span c.args.y0 c.args.y1 c.args.canvas.now c.whiten.new.canvas c.lay_picks_in-in-None.new.canvas c.whiten.ensures c.lay_picks_in-in-None.ensures

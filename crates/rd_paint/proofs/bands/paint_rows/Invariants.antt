@@ -8,7 +8,7 @@ abbrev pub invariant-loop-row : goal.invariant-loop-row
 invariant-loop-row g l = record {
   from : l.y0 ≤ l.row;
   within : l.row ≤ l.y1;
-  painted : IsBandPainted (picked l.picks (shown l.entries)) l.area l.y0 l.row l.initial.canvas l.canvas;
+  painted : IsBandPainted l.corner (picked l.picks (shown l.entries)) l.area l.y0 l.row l.initial.canvas l.canvas;
 }
 
 abbrev pub decreases-loop-row : goal.decreases-loop-row

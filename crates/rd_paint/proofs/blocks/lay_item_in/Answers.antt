@@ -35,14 +35,14 @@ returns-then-top-bottom g c =
     let across = simp to_z-of_z at c.clipped-left.ensures.places in
     let down = rw ey at c.clipped-top.ensures.places in
     let part = c.part_of-part.ensures in
-    leaf_laid c.args.item.now.leaf c.args.px c.args.span c.part_of-part.result c.columns.result c.rows_of.result c.args.y0 c.args.y1 (unsigned_abs c.args.span.x0) (unsigned_abs c.args.span.x1) c.clipped-left.result.0 c.clipped-left.result.1 c.clipped-top.result.0 c.clipped-top.result.1 c.args.canvas.now c.lay_rows.new.canvas
+    leaf_laid c.args.corner c.args.item.now.leaf c.args.px c.args.span c.part_of-part.result c.columns.result c.rows_of.result c.args.y0 c.args.y1 (unsigned_abs c.args.span.x0) (unsigned_abs c.args.span.x1) c.clipped-left.result.0 c.clipped-left.result.1 c.clipped-top.result.0 c.clipped-top.result.1 c.args.canvas.now c.lay_rows.new.canvas
     (rw c.visible-seen.ensures.value at c.visible-seen.ensures.within)
     (omega (arith, ints)) (omega (arith, ints)) (ap (λ (s : Span). s.x0) part ∙ omega (arith, ints)) (ap (λ (s : Span). s.x1) part ∙ omega (arith, ints))
     (let w = c.clipped-left.ensures.within in omega (arith, ints, w)) (c.clipped-top.ensures.within)
     (c.columns.ensures ∙ ap columns_of c.visible-seen.ensures.value) (c.rows_of.ensures ∙ ap rows_of c.visible-seen.ensures.value)
     (λ k l. let e : pos (unsigned_abs c.args.span.x0 + k) ≡ c.args.span.x0 +ℤ pos k = omega (arith, ints) in ap (in_span c.columns.result) e ∙ across k (omega (arith, ints, l)))
     (λ k l. down k l)
-    (subst (λ (s : Shape). IsBlockChanged (over_around c.args.px s.inner) c.part_of-part.result (c.args.y0 + c.clipped-top.result.0) (c.args.y0 + c.clipped-top.result.1) c.args.canvas.now c.lay_rows.new.canvas) c.shape.ensures c.lay_rows.ensures)
+    (subst (λ (s : Shape). IsBlockChanged c.args.corner (over_around c.args.px s.inner) c.part_of-part.result (c.args.y0 + c.clipped-top.result.0) (c.args.y0 + c.clipped-top.result.1) c.args.canvas.now c.lay_rows.new.canvas) c.shape.ensures c.lay_rows.ensures)
 
 pub returns-else-left-right : goal.returns-else-left-right
 returns-else-left-right g c =
@@ -52,12 +52,12 @@ returns-else-left-right g c =
     let across = simp to_z-of_z at c.clipped-left.ensures.places in
     let down = rw ey at c.clipped-top.ensures.places in
     let a = unsigned_abs c.args.span.x0 in
-    leaf_laid c.args.item.now.leaf c.args.px c.args.span (record { x0 = pos (a + c.clipped-left.result.0); x1 = pos (a + c.clipped-left.result.1) }) c.columns.result c.rows_of.result c.args.y0 c.args.y1 (unsigned_abs c.args.span.x0) (unsigned_abs c.args.span.x1) c.clipped-left.result.0 c.clipped-left.result.1 c.clipped-top.result.0 c.clipped-top.result.1 c.args.canvas.now c.args.canvas.now
+    leaf_laid c.args.corner c.args.item.now.leaf c.args.px c.args.span (record { x0 = pos (a + c.clipped-left.result.0); x1 = pos (a + c.clipped-left.result.1) }) c.columns.result c.rows_of.result c.args.y0 c.args.y1 (unsigned_abs c.args.span.x0) (unsigned_abs c.args.span.x1) c.clipped-left.result.0 c.clipped-left.result.1 c.clipped-top.result.0 c.clipped-top.result.1 c.args.canvas.now c.args.canvas.now
     (rw c.visible-seen.ensures.value at c.visible-seen.ensures.within)
     (omega (arith, ints)) (omega (arith, ints)) refl refl
     (let w = c.clipped-left.ensures.within in omega (arith, ints, w)) (c.clipped-top.ensures.within)
     (c.columns.ensures ∙ ap columns_of c.visible-seen.ensures.value) (c.rows_of.ensures ∙ ap rows_of c.visible-seen.ensures.value)
     (λ k l. let e : pos (unsigned_abs c.args.span.x0 + k) ≡ c.args.span.x0 +ℤ pos k = omega (arith, ints) in ap (in_span c.columns.result) e ∙ across k (omega (arith, ints, l)))
     (λ k l. down k l)
-    (block_off (over_around c.args.px c.args.item.now.leaf.shape.inner) (record { x0 = pos (a + c.clipped-left.result.0); x1 = pos (a + c.clipped-left.result.1) }) (c.args.y0 + c.clipped-top.result.0) (c.args.y0 + c.clipped-top.result.1) c.args.canvas.now
+    (block_off c.args.corner (over_around c.args.px c.args.item.now.leaf.shape.inner) (record { x0 = pos (a + c.clipped-left.result.0); x1 = pos (a + c.clipped-left.result.1) }) (c.args.y0 + c.clipped-top.result.0) (c.args.y0 + c.clipped-top.result.1) c.args.canvas.now
     (elim c.else-left-right.branch [ else-left-right-via-then-left-right+else-top-bottom w ↦ inl (let h = w.if-top-bottom.false in omega (arith, h)) | else-left-right-via-else-left-right w ↦ inr (let h = w.if-left-right.false in omega (arith, ints, h)) ]))

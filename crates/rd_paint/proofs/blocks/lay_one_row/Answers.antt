@@ -11,12 +11,8 @@ pub returns : goal.returns
 returns c =
     let ey : to_z w32 c.args.row ≡ pos c.args.row = omega (arith, ints) in
     let f0 : FitsSigned w32 c.args.span.x0 = search rules in
-    let f1 : FitsSigned w32 c.args.span.x1 = search rules in
-    let value = simp to_z-of_z at (rw ey at c.span_mut-out.ensures.value) in
-    let len = simp to_z-of_z at c.span_mut-out.ensures.len in
-    let exact = simp to_z-of_z at (rw ey at c.span_mut-out.ensures.exact) in
     let laid = simp to_z-of_z at (rw ey at c.lay_around.ensures) in
-    rw ey (simp to_z-of_z
-    (row_by (over_around c.args.px c.args.hole) c.args.span c.args.row (unsigned_abs c.args.span.x0) (unsigned_abs c.args.span.x1) (λ k p. cond (not (holds_pixel c.args.hole (c.args.span.x0 +ℤ pos k) (pos c.args.row))) (laid_over c.args.px p) p) c.span_mut-out.result.now c.lay_around.new.out c.args.canvas.now _ (omega (arith, ints)) (omega (arith, ints)) (omega (arith, ints)) value len
+    row_by c.args.corner (over_around c.args.px c.args.hole) c.args.span c.args.row (unsigned_abs c.args.span.x0) (unsigned_abs c.args.span.x1) (λ k p. cond (not (holds_pixel c.args.hole (c.args.span.x0 +ℤ pos k) (pos c.args.row))) (laid_over c.args.px p) p) c.part_mut-out.result.now c.lay_around.new.out c.args.canvas.now _
+    (omega (arith, ints)) (omega (arith, ints)) (omega (arith, ints)) (omega (arith, ints)) c.requires.above c.part_mut-out.ensures.value c.part_mut-out.ensures.len
     laid (λ k p l. let e : c.args.span.x0 +ℤ pos k ≡ pos (unsigned_abs c.args.span.x0 + k) = omega (arith, ints) in
-    ap (λ z. cond (not (holds_pixel c.args.hole z (pos c.args.row))) (laid_over c.args.px p) p) e) (exact c.lay_around.new.out (c.lay_around.auto.out ∙ len))))
+    ap (λ z. cond (not (holds_pixel c.args.hole z (pos c.args.row))) (laid_over c.args.px p) p) e) (c.part_mut-out.ensures.exact c.lay_around.new.out (c.lay_around.auto.out ∙ c.part_mut-out.ensures.len))

@@ -28,11 +28,11 @@ loop-i-preserved g c = record {
       let a = h.1 in
       let b = levels_by _ _ (sym (c.pick_at-place.ensures.parts (shown c.args.entries.now))) in
       omega (arith, a, b, c.loop-i.invariant.levels);
-  laid = λ end h. c.loop-i.invariant.laid end (laid_then (chosen c.pick_at-place.result.1.now c.pick_at-place.result.0 (shown c.args.entries.now)) (picked (drop (c.loop-i.i + 1 + length c.pick_at-place.result.1.now) c.args.picks.now) (shown c.args.entries.now)) (picked (drop c.loop-i.i c.args.picks.now) (shown c.args.entries.now)) c.args.span c.args.y0 c.args.y1 c.loop-i.canvas c.lay_at_in.new.canvas end
+  laid = λ end h. c.loop-i.invariant.laid end (laid_then c.args.corner (chosen c.pick_at-place.result.1.now c.pick_at-place.result.0 (shown c.args.entries.now)) (picked (drop (c.loop-i.i + 1 + length c.pick_at-place.result.1.now) c.args.picks.now) (shown c.args.entries.now)) (picked (drop c.loop-i.i c.args.picks.now) (shown c.args.entries.now)) c.args.span c.args.y0 c.args.y1 c.loop-i.canvas c.lay_at_in.new.canvas end
       (c.pick_at-place.ensures.parts (shown c.args.entries.now)) c.lay_at_in.ensures h);
 }
 
 pub returns : goal.returns
 returns g c =
     c.loop-i.invariant.laid c.loop-i.canvas
-    (laid_nil _ c.args.span c.args.y0 c.args.y1 c.loop-i.canvas (ap (λ (qs : List Pick). picked qs (shown c.args.entries.now)) (drop_all c.loop-i.i c.args.picks.now c.loop-i-test.false) ∙ picked-none (shown c.args.entries.now)))
+    (laid_nil c.args.corner _ c.args.span c.args.y0 c.args.y1 c.loop-i.canvas (ap (λ (qs : List Pick). picked qs (shown c.args.entries.now)) (drop_all c.loop-i.i c.args.picks.now c.loop-i-test.false) ∙ picked-none (shown c.args.entries.now)))

@@ -7,7 +7,7 @@ abbrev made : Change
 made x y p = white
 
 pub loop-row-init : goal.loop-row-init
-loop-row-init c = block_off made c.args.span c.args.y0 c.args.y0 c.args.canvas.now (inl (omega arith))
+loop-row-init c = block_off c.args.corner made c.args.span c.args.y0 c.args.y0 c.args.canvas.now (inl (omega arith))
 
 pub loop-row-preserved : goal.loop-row-preserved
-loop-row-preserved c = block_more made c.args.span c.args.y0 c.loop-row.row (c.loop-row.row + 1) c.args.canvas.now c.loop-row.canvas c.whiten_row.new.canvas (omega arith) (omega arith) c.loop-row.invariant c.whiten_row.ensures
+loop-row-preserved c = block_more c.args.corner made c.args.span c.args.y0 c.loop-row.row (c.loop-row.row + 1) c.args.canvas.now c.loop-row.canvas c.whiten_row.new.canvas (omega arith) (omega arith) c.loop-row.invariant c.whiten_row.ensures

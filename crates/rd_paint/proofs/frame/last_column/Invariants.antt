@@ -5,6 +5,6 @@ use Rattle.rd_paint.proofs.frame.last_column.Given as goal
 abbrev pub invariant-loop-step : goal.invariant-loop-step
 invariant-loop-step l = record {
   order : l.fn.first ≤ l.last;
-  within : l.last ≤ l.width;
-  after : (x y : ℕ) → l.last ≤ x → x < l.width → l.top ≤ y → y < l.bottom → in_area l.area (pos x) (pos y) ≡ false;
+  within : l.last ≤ l.fn.whole.right;
+  after : (x y : ℕ) → l.last ≤ x → x < l.fn.whole.right → l.top ≤ y → y < l.bottom → in_area l.area (pos x) (pos y) ≡ false;
 }

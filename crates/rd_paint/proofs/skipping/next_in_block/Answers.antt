@@ -2,7 +2,7 @@ use Rattle.std.proofs.Common.{◌≡◌, ◌+◌, ℕ, arith, drop, subst, sym, 
 use Rattle.rd_list.specs.Blocks.{AreHeld}
 use Rattle.rd_list.specs.Displayed.{shown}
 use Rattle.rd_paint.specs.Internal.Picks.{InAreaWithin, ServesWhere}
-use Rattle.rd_paint.proofs.OffBlocks.{block_past, off_area}
+use Rattle.rd_paint.proofs.OffBlocks.{block_past}
 use Rattle.rd_paint.proofs.skipping.next_in_block.Goals as goal
 
 pub returns-then-is_off-clause-same : goal.returns-then-is_off-clause-same
@@ -13,5 +13,5 @@ returns-then-is_off-clause-same g c =
     let same : c.args.from ≡ c.args.start = omega (arith, c.if-from-start.true) in
     let held = (c.requires.told (c.is_off.ensures.open c.if-is_off.true)).0 in
     subst (λ (s : ℕ). ServesWhere (InAreaWithin c.args.area.now c.args.columns c.args.rows) (shown (drop (s + n) es)) (shown (drop c.args.from es))) same
-    (block_past (InAreaWithin c.args.area.now c.args.columns c.args.rows) hull (λ x y h. off_area c.args.area.now hull (c.is_off.ensures.off c.if-is_off.true) x y h.0) es c.args.from n
+    (block_past (InAreaWithin c.args.area.now c.args.columns c.args.rows) hull (c.is_off.ensures.off c.if-is_off.true) es c.args.from n
     (subst (λ (s : ℕ). AreHeld hull (take n (drop s es))) (sym same) held))

@@ -1,8 +1,9 @@
-use Rattle.std.proofs.Common.{◌≡◌, ◌<◌, ◌*◌, ◌/◌, ◌%◌, ◌+◌, ◌∙◌, [], ◌∷◌, length, length-append, sym, ap, subst, arith, FitsSigned, w32}
+use Rattle.std.proofs.Common.{◌≡◌, ◌<◌, ◌*◌, ◌/◌, ◌%◌, ◌∙◌, [], ◌∷◌, length, length-append, sym, ap, subst, arith, FitsSigned, w32}
 use Rattle.std.proofs.lemmas.Int.{ints, to_z-of_z}
 use Rattle.rd_geom.specs.Plane.{Rectangle}
+use Rattle.rd_paint.specs.Changed.{IsOn}
 use Rattle.rd_tiles.specs.Internal.Blank.{AreFirstBlank, IsBlank}
-use Rattle.rd_tiles.specs.Internal.Changing.{IsOn, place_at}
+use Rattle.rd_tiles.specs.Internal.Changing.{place_at}
 use Rattle.rd_tiles.specs.Tiling.{columns_of, rows_of, tile_of}
 use Rattle.rd_tiles.specs.declared.tile.Tile.{Tile}
 use Rattle.rd_tiles.proofs.Placing.{number_place, on_most, place_on}

@@ -1,5 +1,5 @@
 use Rattle.rd_paint.specs.Pictures.{size_of}
-use Rattle.rd_tiles.specs.Internal.Changing.{IsChanged}
+use Rattle.rd_paint.specs.Changed.{IsChanged}
 use Rattle.rd_tiles.specs.Internal.Copying.{in_first_tiles, tiles_color}
 use Rattle.rd_tiles.proofs.copying.copy_all.Given as goal
 

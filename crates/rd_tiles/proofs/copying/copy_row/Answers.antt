@@ -1,7 +1,7 @@
 use Rattle.std.proofs.Common.{◌≡◌, ◌∙◌, ◌+ℤ◌, ◌-◌, ◌≤◌, pos, length, ap, arith, FitsSigned, to_z, of_z, w32, rules}
 use Rattle.std.specs.Prelude.{unsigned_abs}
 use Rattle.std.proofs.lemmas.Int.{ints, to_z-of_z}
-use Rattle.rd_tiles.proofs.Casting.{sum_is}
+use Rattle.rd_paint.proofs.Casting.{sum_is}
 use Rattle.rd_tiles.proofs.Spans.{row_sliced}
 use Rattle.rd_tiles.proofs.copying.copy_row.Goals as goal
 

@@ -1,4 +1,4 @@
-use Rattle.rd_tiles.specs.Internal.Changing.{IsChanged}
+use Rattle.rd_paint.specs.Changed.{IsChanged}
 use Rattle.rd_tiles.specs.Internal.Copying.{in_first_rows, tile_color}
 use Rattle.rd_tiles.proofs.copying.copy_tile.Given as goal
 

@@ -1,4 +1,4 @@
-use Rattle.std.proofs.Common.{◌≡◌, ◌-◌, ◌<◌, true, false, sym, subst, ◌∙◌, inl, inr, length, arith}
+use Rattle.std.proofs.Common.{◌≡◌, ◌-◌, ◌<◌, true, false, refl, sym, subst, ◌∙◌, inl, inr, length, arith}
 use Rattle.std.proofs.lemmas.Bool.{cases_lt}
 use Rattle.rd_list.specs.Displayed.{shown}
 use Rattle.rd_tiles.specs.Covering.{HasLid}
@@ -8,13 +8,13 @@ use Rattle.rd_tiles.proofs.covering.topmost.Goals as goal
 pub loop-i-init : goal.loop-i-init
 loop-i-init g c = record { within = omega arith; none = λ k h. no_lid_past c.args.tile c.args.entries.now k h }
 
-pub returns-then-is_entry_lid-clause-cover : goal.returns-then-is_entry_lid-clause-cover
-returns-then-is_entry_lid-clause-cover g c =
+pub returns-then-is_entry_lid-clause-at : goal.returns-then-is_entry_lid-clause-at
+returns-then-is_entry_lid-clause-at g c =
     let l : c.loop-i.i - 1 < length c.args.entries.now = let w = c.loop-i.invariant.within in omega (arith, w) in
-    record {
-      at = inl (lid_at c.args.tile c.args.entries.now (c.loop-i.i - 1) c.index-entries-i.result l c.index-entries-i.is (c.is_entry_lid.ensures.0 c.if-is_entry_lid.true));
-      greatest = λ k h p. c.loop-i.invariant.none k (omega arith) p;
-    }
+    inl (lid_at c.args.tile c.args.entries.now (c.loop-i.i - 1) c.index-entries-i.result l c.index-entries-i.is (c.is_entry_lid.ensures.0 c.if-is_entry_lid.true))
+
+pub returns-then-is_entry_lid-clause-greatest : goal.returns-then-is_entry_lid-clause-greatest
+returns-then-is_entry_lid-clause-greatest g c = λ k b h p. c.loop-i.invariant.none k (omega arith) p
 
 pub loop-i-preserved : goal.loop-i-preserved
 loop-i-preserved g c =
@@ -30,3 +30,9 @@ loop-i-preserved g c =
         | inr j ↦ c.loop-i.invariant.none k j p
       ];
     }
+
+pub returns-clause-greatest : goal.returns-clause-greatest
+returns-clause-greatest g c = λ k b h p. c.loop-i.invariant.none k (omega (arith, b, c.loop-i-test.false)) p
+
+pub returns-clause-at : goal.returns-clause-at
+returns-clause-at g c = inr refl

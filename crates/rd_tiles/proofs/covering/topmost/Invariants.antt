@@ -1,4 +1,4 @@
-use Rattle.std.proofs.Common.{◌≤◌, ◌<◌, ℕ, length}
+use Rattle.std.proofs.Common.{◌≤◌, ℕ, length}
 use Rattle.rd_list.specs.Displayed.{shown}
 use Rattle.rd_tiles.specs.Covering.{HasLid}
 use Rattle.rd_tiles.proofs.covering.topmost.Given as goal

@@ -1,9 +1,9 @@
 use Rattle.std.proofs.Common.{◌≡◌, false, refl, sym, ◌∙◌}
 use Rattle.rd_geom.specs.Areas.{meets_area}
 use Rattle.rd_list.specs.EntryNames.{kept_leaves}
-use Rattle.rd_tiles.specs.Internal.Changing.{in_part, list_at}
-use Rattle.rd_tiles.proofs.Changes.{unchanged}
-use Rattle.rd_tiles.proofs.Cutting.{part_none}
+use Rattle.rd_paint.specs.Changed.{in_part, list_at}
+use Rattle.rd_paint.proofs.Changes.{unchanged}
+use Rattle.rd_paint.proofs.Cutting.{part_none}
 use Rattle.rd_tiles.proofs.painting.repaint_tile.Goals as goal
 
 pub returns-then-not-meets-clause-painted : goal.returns-then-not-meets-clause-painted

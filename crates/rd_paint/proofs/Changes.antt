@@ -4,8 +4,8 @@ use Rattle.std.proofs.lemmas.Bool.{eqb-true, leb-true, ltb-true}
 use Rattle.rd_geom.specs.Colors.{Premultiplied, clear}
 use Rattle.rd_paint.specs.Lending.{HasSpan}
 use Rattle.rd_paint.specs.Pictures.{Picture, pixel_at}
-use Rattle.rd_paint.proofs.Repainting.{and_left, and_right, cond_same}
-use Rattle.rd_tiles.specs.Internal.Changing.{IsChanged}
+use Rattle.rd_paint.specs.Changed.{IsChanged}
+use Rattle.rd_paint.proofs.SpanTests.{and_left, and_right, cond_same}
 
 -- nothing has changed
 pub unchanged : (f : ℕ → ℕ → Premultiplied) (test : ℕ → ℕ → Bool) (c : Picture)

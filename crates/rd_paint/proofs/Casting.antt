@@ -1,5 +1,5 @@
 -- Differences and sums of numbers of 32 bits that fit.
-use Rattle.std.proofs.Common.{◌≡◌, ℕ, ℤ, pos, ◌≤◌, ◌+ℤ◌, ◌≤ℤ◌, ◌<ℤ◌, false, FitsSigned, to_z, of_z, w32, ◌∙◌, arith}
+use Rattle.std.proofs.Common.{◌≡◌, ℕ, ℤ, pos, ◌≤◌, ◌+ℤ◌, ◌≤ℤ◌, ◌<ℤ◌, false, FitsSigned, to_z, of_z, w32, arith}
 use Rattle.std.specs.Prelude.{◌-ℤ◌, int_le}
 use Rattle.std.proofs.lemmas.Int.{to_z-of_z, ints}
 

@@ -1,5 +1,5 @@
--- Spans cut to the columns of a tile.
-use Rattle.std.proofs.Common.{◌≡◌, ℕ, ℤ, pos, ◌+◌, ◌-◌, ◌<◌, ◌≤◌, ◌+ℤ◌, ◌≤ℤ◌, ◌<ℤ◌, Bool, true, false, ◌&&◌, ◌||◌, nat_eq, nat_le, nat_lt, IsTrue, List, [], ◌∷◌, length, get_or, take, refl, sym, ap, ◌∙◌, inl, inr, arith}
+-- Spans cut to the columns of a rectangle, and its rows.
+use Rattle.std.proofs.Common.{◌≡◌, ℕ, ℤ, pos, ◌+◌, ◌<◌, ◌+ℤ◌, ◌≤ℤ◌, ◌<ℤ◌, Bool, true, false, ◌&&◌, ◌||◌, nat_eq, nat_le, nat_lt, IsTrue, List, [], ◌∷◌, length, get_or, take, refl, sym, ap, ◌∙◌, inl, inr, arith}
 use Rattle.std.specs.Prelude.{int_le, int_lt, ◌-ℤ◌}
 use Rattle.std.specs.Int.{int_max, int_min}
 use Rattle.std.proofs.lemmas.Bool.{cases_order, eq-eqb, ne_eqb, lt-ltb, le-ltb}
@@ -9,9 +9,10 @@ use Rattle.rd_geom.specs.Plane.{Rectangle, holds_pixel, right}
 use Rattle.rd_geom.specs.declared.span.Span.{Span}
 use Rattle.rd_geom.proofs.Pixels.{at_holds}
 use Rattle.rd_paint.specs.Pictures.{Picture}
+use Rattle.rd_paint.specs.Changed.{Fits, in_part}
+use Rattle.rd_paint.specs.Internal.Bands.{in_row, in_rows}
 use Rattle.rd_paint.proofs.Banding.{no_share}
-use Rattle.rd_paint.proofs.Repainting.{and_assoc, in_spans-more}
-use Rattle.rd_tiles.specs.Internal.Changing.{Fits, in_part, in_row, in_rows}
+use Rattle.rd_paint.proofs.SpanTests.{and_assoc, in_spans-more}
 
 or_false : (a : Bool) → (a || false) ≡ a
 or_false true = refl
@@ -23,7 +24,7 @@ from_left s p x a e = grind (arith, ints, clamps)
 to_right : (s p w : ℤ) (x b : ℕ) → pos b ≡ int_min s (p +ℤ w) -ℤ p → pos x <ℤ w → nat_lt x b ≡ int_lt (p +ℤ pos x) s
 to_right s p w x b e h = grind (arith, ints, clamps)
 
--- the columns of a span that a tile has, from the tile's left on
+-- the columns of a span that a rectangle has, from its left on
 pub cut_columns : (s : Span) (r : Rectangle) (x a b : ℕ) → pos a ≡ int_max s.x0 r.x -ℤ r.x → pos b ≡ int_min s.x1 (right r) -ℤ r.x → pos x <ℤ r.w
     → (nat_le a x && nat_lt x b) ≡ in_span s (r.x +ℤ pos x)
 cut_columns s r x a b ea eb h =
@@ -35,7 +36,7 @@ cut_row s r row x y a b ea eb h =
     sym (and_assoc (nat_eq y row) (nat_le a x) (nat_lt x b))
     ∙ ap (λ t. nat_eq y row && t) (cut_columns s r x a b ea eb h ∙ sym (or_false (in_span s (r.x +ℤ pos x))))
 
--- a span beside the tile has none of its columns
+-- a span beside the rectangle has none of its columns
 pub cut_none : (s : Span) (r : Rectangle) (row x y : ℕ) → int_min s.x1 (right r) ≤ℤ int_max s.x0 r.x → pos x <ℤ r.w → in_row r (s ∷ []) row x y ≡ false
 cut_none s r row x y h w = none (nat_eq y row) (in_span s (r.x +ℤ pos x)) (beside s r x h w)
   where
@@ -78,7 +79,7 @@ rows_more area r n x y spans yz at z = elim (cases_order y n) [
 pub rows_all : (area : Region) (r : Rectangle) (n x y : ℕ) → y < n → in_rows r area n x y ≡ in_part r area x y
 rows_all area r n x y h = rw (lt-ltb y n h) refl
 
--- a pixel of a tile lies in its place
+-- a pixel of a canvas that shows a rectangle lies in it
 pub in_place : (r : Rectangle) (c : Picture) (x y : ℕ) → Fits r c → x < c.width → y < c.height → IsTrue (holds_pixel r (r.x +ℤ pos x) (r.y +ℤ pos y))
 in_place r c x y f a b =
     let w = f.width in
@@ -90,6 +91,6 @@ in_place r c x y f a b =
       bottom = omega (arith, ints, b, h);
     })
 
--- of a tile without a pixel in the area none is in it
+-- of one without a pixel in the area none is in it
 pub part_none : (area : Region) (r : Rectangle) (c : Picture) (x y : ℕ) → Fits r c → meets_area area r ≡ false → x < c.width → y < c.height → in_part r area x y ≡ false
 part_none area r c x y f m a b = no_share area r (meets_area area r) (r.x +ℤ pos x) (r.y +ℤ pos y) refl m (in_place r c x y f a b)

@@ -1,10 +1,11 @@
 use Rattle.std.proofs.Common.{◌+◌, ◌∙◌, arith}
 use Rattle.std.proofs.lemmas.Int.{ints}
 use Rattle.rd_list.specs.EntryNames.{kept_leaves}
-use Rattle.rd_tiles.specs.Internal.Changing.{in_row, in_rows, list_at}
-use Rattle.rd_tiles.proofs.Changes.{changed_then}
-use Rattle.rd_tiles.proofs.Cutting.{rows_more}
-use Rattle.rd_tiles.proofs.painting.repaint_rows.Goals as goal
+use Rattle.rd_paint.specs.Changed.{list_at}
+use Rattle.rd_paint.specs.Internal.Bands.{in_row, in_rows}
+use Rattle.rd_paint.proofs.Changes.{changed_then}
+use Rattle.rd_paint.proofs.Cutting.{rows_more}
+use Rattle.rd_paint.proofs.plain.repaint_plainly.Goals as goal
 
 pub loop-row-preserved : goal.loop-row-preserved
 loop-row-preserved g c =

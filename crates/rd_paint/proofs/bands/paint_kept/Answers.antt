@@ -1,0 +1,44 @@
+use Rattle.std.proofs.Common.{◌≡◌, ◌≤◌, ◌-◌, List, ap, ◌∙◌, subst, arith}
+use Rattle.std.proofs.Math.Nat.{mul-le-mul_left}
+use Rattle.rd_item.specs.Items.{Made}
+use Rattle.rd_item.specs.declared.leaf.Leaf.{Leaf}
+use Rattle.rd_keys.specs.declared.entry.EntryKey.{EntryKey}
+use Rattle.rd_list.specs.Displayed.{shown}
+use Rattle.rd_list.specs.Entries.{Entries}
+use Rattle.rd_list.specs.EntryNames.{kept_leaves}
+use Rattle.rd_list.specs.Kept.{KeptList, Ordered}
+use Rattle.rd_list.specs.KeptView.{kept_entries}
+use Rattle.rd_list.specs.Views.{levels}
+use Rattle.rd_list.specs.Wrappers.{Wrapper}
+use Rattle.rd_list.specs.declared.kept.Entry.{Entry}
+use Rattle.rd_paint.specs.Internal.Bands.{IsPainted}
+use Rattle.rd_paint.specs.Parts.{entry_count, entries_from}
+use Rattle.rd_paint.proofs.Depths.{entry_count-shown, entries_from-shown, levels-from}
+use Rattle.rd_paint.proofs.bands.paint_kept.Goals as goal
+
+abbrev entries_of : KeptList EntryKey Wrapper Made → Entries (Ordered EntryKey Wrapper) Made
+entries_of k = k.entries
+
+pub upper-requires : goal.upper-requires
+upper-requires g c =
+    let e : kept_entries c.deref-2.result.now ≡ c.args.list.now.entries = ap kept_entries c.deref-2.ensures.value ∙ ap entries_of c.list.view_is in
+    let n = entry_count-shown c.deref-2.result.now in
+    let m = ap entry_count e in
+    omega (arith, n, m, c.requires.from)
+
+pub paint_all-requires-2-clause-rows : goal.paint_all-requires-2-clause-rows
+paint_all-requires-2-clause-rows g c =
+    let e : kept_entries c.deref-2.result.now ≡ c.args.list.now.entries = ap kept_entries c.deref-2.ensures.value ∙ ap entries_of c.list.view_is in
+    let u = ap (λ (es : List (Entry g.row.A.Denot)). levels (kept_entries es)) c.upper.ensures in
+    let d = levels-from c.args.from c.deref-2.result.now in
+    let k = ap levels e in
+    let l : levels (kept_entries c.upper.result.now) - 1 ≤ levels c.args.list.now.entries - 1 = omega (arith, u, d, k) in
+    let p = mul-le-mul_left c.args.canvas.now.width l in
+    omega (arith, p, c.requires.rows)
+
+pub returns-clause-painted : goal.returns-clause-painted
+returns-clause-painted g c = λ t.
+    let e : kept_entries c.deref-2.result.now ≡ c.args.list.now.entries = ap kept_entries c.deref-2.ensures.value ∙ ap entries_of c.list.view_is in
+    let same : shown c.upper.result.now ≡ entries_from c.args.from (kept_leaves c.args.list.now.entries) =
+    ap shown c.upper.ensures ∙ entries_from-shown c.args.from c.deref-2.result.now ∙ ap (λ (es : Entries (Ordered EntryKey Wrapper) Made). entries_from c.args.from (kept_leaves es)) e in
+    subst (λ (es : Entries Wrapper Leaf). IsPainted c.args.corner es c.args.area.now c.args.canvas.now c.paint_all-2.new.canvas) same (c.paint_all-2.ensures.painted t)
