@@ -5,6 +5,7 @@ ghost use Rattle.rd_list.specs.EntryNames.{kept_leaves};
 ghost use Rattle.rd_list.specs.Lists as lists;
 ghost use Rattle.rd_paint.specs.Pictures.{size_of};
 ghost use Rattle.rd_stack.specs.Fresh.{fresh_list};
+ghost use Rattle.rd_tree.specs.Figures.{max_depth};
 ghost use Rattle.rd_edits.specs.Edited.{IsEdited};
 ghost use Rattle.rd_edits.specs.Refusals.{IsRefused, refusal_of};
 ghost use Rattle.rd_engine.specs.State.{IsEngine, ShowsKept};
@@ -23,7 +24,7 @@ use rd_list::{Kept, ListView, NewList};
 use rd_merge::{Plan, finish, prepare};
 use rd_paint::{Buffers, Canvas, repaint};
 use rd_partial::{build, touched_area};
-use rd_tree::Tree;
+use rd_tree::{MAX_DEPTH, Tree};
 use std::alloc::Global;
 use std::marker::Model;
 use std::mem;
@@ -31,9 +32,6 @@ use std::sync::ledger::Ledger;
 
 #[cfg(test)]
 mod tests;
-
-/// How many groups may stand round a leaf.
-const MOST_GROUPS: u32 = 256;
 
 /// A tree with the list and the canvas of its last paint. Items are counted in the ledger `A`, looks at boxes in `B`.
 #[derive(Drop)]
@@ -273,12 +271,12 @@ impl<A: Ledger, B: Ledger> Engine<A, B> {
         Ok(plan)
     }
 
-    /// Rows for the groups of the list, and room to look in each row at the entries alone that may show in it: in the area
-    /// these are entries of the new list, of which there are so many.
+    /// Rows for the groups of the list, of which no more stand in one another than boxes do, and room to look in each row at
+    /// the entries alone that may show in it: in the area these are entries of the new list, of which there are so many.
     fn rows(&self, entries: usize) -> Result<Buffers, NoMemory>
-        ensures { IfOk result (λ b. b ≡ record { size = self.now.tree.canvas; rows = 256 }) }
+        ensures { IfOk result (λ b. b ≡ record { size = self.now.tree.canvas; rows = max_depth }) }
     {
-        let mut buffers = Buffers::new(self.alloc, self.tree.canvas(), MOST_GROUPS)?;
+        let mut buffers = Buffers::new(self.alloc, self.tree.canvas(), MAX_DEPTH)?;
         buffers.make_room(entries)?;
         Ok(buffers)
     }

@@ -28,12 +28,9 @@ use rd_paint::{Buffers, Canvas};
 use rd_report::{digest, p6, push_final, push_tiles};
 use rd_scene::{Command, Script, plant};
 use rd_tiles::TileCanvas;
-use rd_tree::Tree;
+use rd_tree::{MAX_DEPTH, Tree};
 use std::alloc::Global;
 use std::sync::ledger::Ledger;
-
-/// How many groups may stand round a leaf.
-pub(crate) const MOST_GROUPS: u32 = 256;
 
 /// What follows an engine: its canvas as tiles, rows for the groups that are painted on them, and the lines of its paints.
 #[derive(Drop)]
@@ -49,7 +46,7 @@ fn blank(alloc: Global, size: Size) -> Result<Follower, NoMemory>
     ensures { IfOk result (IsBlankOn size) }
 {
     let canvas = TileCanvas::new(alloc, size)?;
-    let buffers = Buffers::new(alloc, size, MOST_GROUPS)?;
+    let buffers = Buffers::new(alloc, size, MAX_DEPTH)?;
     Ok(Follower {
         canvas,
         buffers,

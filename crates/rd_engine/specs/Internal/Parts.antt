@@ -5,6 +5,7 @@ use Rattle.rd_item.specs.Items.{Made}
 use Rattle.rd_list.specs.Wrappers.{Wrapper}
 use Rattle.rd_list.specs.Entries.{Entries, flat}
 use Rattle.rd_tree.specs.Document.{is_touched}
+use Rattle.rd_tree.specs.Figures.{max_depth}
 use Rattle.rd_merge.specs.Merging.{MergedInto}
 use Rattle.rd_merge.specs.Plans.{PlanList, PlacesFit, filled}
 use Rattle.rd_partial.specs.Numbered.{numbered}
@@ -33,5 +34,5 @@ pub record IsPrepared {A : Type 0} (s : EngineState) (p : Prepared A) : Type 0 w
   pub area : IsInvalidArea s p.area
   pub new : IsRemade s p.new
   pub plan : IsPlanned s p.new p.plan
-  pub buffers : p.buffers ≡ record { size = s.tree.canvas; rows = 256 }
+  pub buffers : p.buffers ≡ record { size = s.tree.canvas; rows = max_depth }
   pub built : p.built ≡ length (flat p.new)

@@ -22,7 +22,7 @@ same_part-sound Content Content h = refl
 same_part-sound Outline Outline h = refl
 same_part-sound _ _ h = absurd (cc)
 
-same_part-refl : (p : Part) → same_part p p ≡ true
+pub same_part-refl : (p : Part) → same_part p p ≡ true
 same_part-refl Back = refl
 same_part-refl Border = refl
 same_part-refl Content = refl

@@ -3,55 +3,25 @@ use Rattle.std.proofs.Common.{◌≡◌, refl, ap, ◌∙◌, sym, subst, ℕ, z
 use Rattle.std.specs.Prelude.{AllPairs, map, not, ◌&&◌, ◌||◌, IsTrue}
 use Rattle.rd_geom.proofs.Pixels.{at_holds, first_at, some_of, meets_shares, shares_meets}
 use Rattle.rd_keys.specs.Keys.{same_key}
-use Rattle.rd_keys.proofs.Keys.{same_key-sound, same_key-refl}
-use Rattle.rd_keys.specs.declared.entry.EntryKey.{EntryKey}
-use Rattle.rd_keys.specs.declared.entry.EntryKey.TheVariants as key
-use Rattle.rd_keys.specs.declared.entry.Part.{Part}
-use Rattle.rd_keys.specs.declared.entry.Part.TheVariants.{Back, Border, Content, Outline}
 use Rattle.rd_item.specs.declared.leaf.Leaf.{Leaf}
 use Rattle.rd_list.specs.Wrappers.{Wrapper}
 use Rattle.rd_list.specs.Entries.{Entries, nil, leaf, group, wrappers, only}
 use Rattle.rd_list.specs.Lists as lists
 use Rattle.rd_list.specs.Lists.{leaves_meet, groups}
-use Rattle.rd_graph.specs.Names.{same_part}
 use Rattle.rd_list.specs.Laws.{IsReady}
 use Rattle.rd_list.proofs.Merges.Named.{AreNames}
 use Rattle.rd_geom.specs.Plane.{Rectangle, has_none, holds_pixel}
 use Rattle.rd_list.specs.Kept.{bare, bare_new, reach_of}
 use Rattle.rd_list.specs.EntryNames.{entry_names}
 use Rattle.rd_list.specs.Display.{DisplayMerging, DisplayEditing, DisplayBeginning, Covering}
-use Rattle.rd_graph.specs.Names.{same_entry}
+use Rattle.rd_graph.proofs.Lists.Entries.{same_entry-sound, same_entry-refl}
 use Rattle.rd_list.proofs.Merges.Narrowing.{edited, stands_once}
 use Rattle.rd_list.proofs.Merges.Linear.{linear_merged}
 use Rattle.rd_list.proofs.Merges.Nesting.{kept_merging}
-use Rattle.rd_list.proofs.Merges.Routing.{both_true}
 use Rattle.std.proofs.lemmas.List.{map-append}
 
-same_part-sound : (p q : Part) → same_part p q ≡ true → p ≡ q
-same_part-sound Back Back h = refl
-same_part-sound Border Border h = refl
-same_part-sound Content Content h = refl
-same_part-sound Outline Outline h = refl
-same_part-sound _ _ h = absurd (cc)
-
-pub same_part-refl : (p : Part) → same_part p p ≡ true
-same_part-refl Back = refl
-same_part-refl Border = refl
-same_part-refl Content = refl
-same_part-refl Outline = refl
-
-sound : (a b : EntryKey) → same_entry a b ≡ true → a ≡ b
-sound (key.Leaf k p) (key.Leaf j q) h = let t = both_true (same_key k j) (same_part p q) h in ap (λ x. key.Leaf x p) (same_key-sound k j t.0) ∙ ap (key.Leaf j) (same_part-sound p q t.1)
-sound (key.Leaf k p) (key.Group j) h = absurd (let no : false ≡ true = h in cc)
-sound (key.Group k) (key.Leaf j q) h = absurd (let no : false ≡ true = h in cc)
-sound (key.Group k) (key.Group j) h = ap key.Group (same_key-sound k j h)
-
-reflexive : (a : EntryKey) → same_entry a a ≡ true
-reflexive (key.Leaf k p) = rw (same_key-refl k, same_part-refl p) refl
-reflexive (key.Group k) = same_key-refl k
-
 pub entry_names_are : AreNames entry_names
-entry_names_are = record { sound = sound; reflexive = reflexive; apart = λ l g. refl }
+entry_names_are = record { sound = same_entry-sound; reflexive = same_entry-refl; apart = λ l g. refl }
 
 same_test : (p q : Bool) → (p ≡ true → q ≡ true) → (q ≡ true → p ≡ true) → p ≡ q
 same_test true q f g = sym (f refl)

@@ -12,6 +12,7 @@ use Rattle.rd_engine.specs.Invalid as engine
 use Rattle.rd_report.specs.Tiles.{tiles_line}
 use Rattle.rd_scene.specs.Scripts.{Script}
 use Rattle.rd_scene.specs.declared.script.Command.{Command}
+use Rattle.rd_tree.specs.Figures.{max_depth}
 use Rattle.rd_tiles.specs.Tiling.{Tiling, pixel_in, tiles_met, IsRetiled}
 use Rattle.rd_run.specs.Endings.{Counter}
 use Rattle.rd_run.specs.Machine.{State, Counts}
@@ -22,14 +23,14 @@ use Rattle.rd_run.specs.declared.tiling.Follower.{Follower}
 -- white tiles of a canvas of this size, with rows for the groups, and no line
 pub record IsBlankOn (s : Size) (t : Follower) : Type 0 where
   pub size : t.canvas.size ≡ s
-  pub rows : t.buffers ≡ record { size = s; rows = 256 }
+  pub rows : t.buffers ≡ record { size = s; rows = max_depth }
   pub pixels : (x y : ℤ) → IsTrue (holds_pixel (canvas_of s) x y) → pixel_in t.canvas x y ≡ Some white
   pub text : string_bytes t.text ≡ []
 
 -- the tiles are of this size, with rows for as many groups as may stand round a leaf
 pub record AreOf (s : Size) (t : Follower) : Type 0 where
   pub size : t.canvas.size ≡ s
-  pub rows : t.buffers ≡ record { size = s; rows = 256 }
+  pub rows : t.buffers ≡ record { size = s; rows = max_depth }
 
 -- the tiles are of the size of a canvas, and show what it shows
 pub record Show (t : Follower) (c : Picture) : Type 0 where

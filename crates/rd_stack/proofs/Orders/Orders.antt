@@ -6,7 +6,7 @@ use Rattle.rd_keys.proofs.Keys.{same_key-refl}
 use Rattle.rd_item.specs.declared.leaf.Leaf.{Leaf}
 use Rattle.rd_graph.proofs.Lists.Listing.{Has}
 use Rattle.rd_list.specs.Lists.{same_leaf, pair_in_order}
-use Rattle.rd_list.proofs.Merges.Naming.{same_part-refl}
+use Rattle.rd_graph.proofs.Lists.Entries.{same_part-refl}
 use Rattle.rd_stack.proofs.Orders.Members.{first_kept, later_kept}
 
 pub same_leaf-refl : (l : Leaf) → same_leaf l l ≡ true
