@@ -14,3 +14,4 @@ pub mod Ends
 pub mod Still
 pub mod Moves
 pub mod Moved
+pub mod Scrolls

@@ -1,6 +1,6 @@
 -- How far boxes are scrolled together.
-use Rattle.std.proofs.Common.{◌≡◌, refl, ap, ◌∙◌, ℕ, ℤ, pos, ◌+◌, ◌*◌, ◌-ℤ◌, ◌≤◌, Bool, true, false, T, int_le, cond, List, [], ◌∷◌, arith}
-use Rattle.std.specs.Prelude.{◌≤ℤ◌}
+use Rattle.std.proofs.Common.{◌≡◌, refl, ap, ◌∙◌, ℕ, ℤ, pos, ◌+◌, ◌-ℤ◌, ◌≤◌, Bool, true, false, T, int_le, cond, List, ◌∷◌, arith}
+use Rattle.std.specs.Prelude.{◌≤ℤ◌, ◌+ℤ◌}
 use Rattle.std.specs.Bool.{Decides, passes}
 use Rattle.std.specs.Int.Signed.{le_z_yes}
 use Rattle.std.proofs.lemmas.Bool.Decides.{Decides-and, Decides-like}
@@ -12,10 +12,12 @@ use Rattle.rd_style.specs.Classes.{clips, is_positioned}
 use Rattle.rd_tree.specs.declared.scroll.Scroll.{Scroll}
 use Rattle.rd_tree.specs.declared.handed.Handed.{Handed}
 use Rattle.rd_tree.specs.Figures.{max_scroll}
-use Rattle.rd_tree.specs.Changes.{unscrolled}
+use Rattle.rd_tree.specs.Document.{Item}
+use Rattle.rd_tree.specs.Changes.{unscrolled, with_rect}
 use Rattle.rd_tree.specs.Limits.{fits_scroll, FitsScroll}
 use Rattle.rd_tree.specs.Drawn.{Above, chain, up, nearest_positioned, total, plus, offset_of}
 use Rattle.rd_tree.specs.Internal.Handing.{handed_of, own_of, offset_in, entered, IsFar, IsWithin}
+use Rattle.rd_tree.specs.Internal.Redraws.{drawn_far}
 
 at_most_int : (a b : ℤ) → Decides (int_le a b) (a ≤ℤ b)
 at_most_int a b = (λ e. le_z_yes (passes _ e), λ h. yes (int_le a b) h.le)
@@ -116,3 +118,10 @@ within_more n h l w = record { flow = far_up n h.flow l w.flow; absolute = far_u
 pub fits_none : FitsScroll unscrolled
 unfolding fits_scroll
 fits_none = refl
+
+-- A box that is scrolled as far as before is drawn where it was.
+forth_and_back : (x o : ℤ) → (x +ℤ o) -ℤ o ≡ x
+forth_and_back x o = omega (arith, ints)
+
+pub far_back : (s : Scroll) (d : Item) → drawn_far s s d ≡ d
+far_back s d = λ i. with_rect (record d.rect { x = forth_and_back d.rect.x s.x i; y = forth_and_back d.rect.y s.y i }) d

@@ -4,6 +4,7 @@ ghost use Rattle.rd_geom.specs.Canvas.{IsCanvas};
 ghost use Rattle.rd_keys.specs.Keys.{BoxKey as Box, same_key};
 ghost use Rattle.rd_keys.specs.Ranges.{IsAmong};
 ghost use Rattle.rd_keys.specs.Arena.{occupied, Enters};
+ghost use Rattle.rd_style.specs.Classes.{clips};
 ghost use Rattle.rd_style.specs.Limits.{Fits};
 ghost use Rattle.rd_tree.specs.Document.{contains, with_taken, taken, IsNext, IsNextOf, named, id_of, is_touched, HasFreeSlot, HasIds, IsKeyed, IsRooted};
 ghost use Rattle.rd_tree.specs.Ids.{is_id};
@@ -19,11 +20,11 @@ ghost use Rattle.rd_tree.specs.Internal.Works.{ShiftNear};
 ghost use Rattle.rd_tree.specs.Internal.Regrouping.{marked_reached};
 ghost use Rattle.rd_tree.specs.Touching.{touch, settled, edited};
 ghost use Rattle.rd_tree.specs.Document.{AllFit};
-ghost use Rattle.rd_tree.specs.Changes.{unscrolled};
+ghost use Rattle.rd_tree.specs.Changes.{unscrolled, with_scroll};
 ghost use Rattle.rd_tree.specs.Forest.{has, item_of};
 ghost use Rattle.rd_tree.specs.Internal.Handing.{offset_in, IsFar, IsWithin};
 ghost use Rattle.rd_tree.specs.Internal.Hands.{hand_at, handed_to, CanHand, HasHands};
-ghost use Rattle.rd_tree.specs.Internal.Laid.{drawn_again, laid_by, passed_from, ScrollFits};
+ghost use Rattle.rd_tree.specs.Internal.Laid.{drawn_again, drawn_below, laid_by, passed_from, IsHandedDown, ScrollFits};
 ghost use Rattle.rd_tree.specs.Internal.Redraws.{AllRedraw};
 ghost use Rattle.std.specs.Option.{option_map_or};
 
@@ -31,18 +32,17 @@ mod contexts;
 
 use crate::canvas::CanvasSize;
 use crate::handed::Handed;
-use crate::handing::hand_down;
 use crate::held::Nodes;
 use crate::id::Id;
 use crate::limits::MAX_BOXES;
 use crate::links::free::free_branch;
 use crate::links::walk::{
     Offset, Work, child_and_sibling, height_from, shift_from_fits, shift_one_fits, touch,
-    touch_where, work_below,
+    work_below,
 };
 use crate::links::{ends_of, graft, left_of, parent_of, unlink};
 use crate::node::{Item, Links, Node};
-use crate::redrawing::{draw_at, redraw};
+use crate::redrawing::{draw_at, redraw, redraw_where};
 use crate::scroll::Scroll;
 use crate::searching::first_in_reach;
 use crate::table::blends::{blends_at, given, given_at, put_count, recount};
@@ -363,43 +363,45 @@ impl<B: Ledger> DrawnTree<B> {
         }
     }
 
+    /// What is handed to the children of a box to which this is handed, once it is scrolled so far.
+    pub(crate) fn pass_scrolled(&self, key: BoxKey, handed: &Handed, scroll: Scroll) -> Handed
+        requires few { IsWithin 256 handed.now }
+        requires scroll { FitsScroll scroll }
+        ensures { result ≡ passed_from (same_key key self.now.root) handed.now (option_map (with_scroll scroll) (item_of same_key key self.now.boxes)) }
+    {
+        match self.nodes.get(key) {
+            Some(node) => handed.enter(&node.item.style, scroll, key.is(self.root)),
+            None => *handed,
+        }
+    }
+
     /// Draws a box elsewhere that was scrolled so far and is so far now, and all below it, where the table has what was handed
-    /// to them, and this is handed to the children of the box now.
+    /// to them, and this is handed to the children of the box now. So the table has what follows from it then.
     pub(crate) fn redraw(
         &mut self,
-        rows: &[Handed],
+        rows: &mut Vec<Handed>,
         key: BoxKey,
         old: Scroll,
         new: Scroll,
         inside: Handed,
     )
         requires live { contains self.old key ≡ true }
-        requires has_rows { HasHands rows.now self.old.boxes }
+        requires has_rows { HasHands rows.old.items self.old.boxes }
         requires old { IsFar 256 old }
         requires new { IsFar 256 new }
         requires can { CanHand inside (children same_key key self.old.boxes) }
-        requires fits { AllRedraw rows.now inside (children same_key key self.old.boxes) }
-        requires near { AllNear (drawn_again rows.now key old new inside self.old.boxes) }
-        ensures { self.new ≡ record self.old { boxes = drawn_again rows.now key old new inside self.old.boxes } }
+        requires fits { AllRedraw rows.old.items inside (children same_key key self.old.boxes) }
+        requires near { AllNear (drawn_again rows.old.items key old new inside self.old.boxes) }
+        ensures drawn { self.new ≡ record self.old { boxes = drawn_again rows.old.items key old new inside self.old.boxes } }
+        ensures handed { (k : Box) → contains self.old k ≡ true → hand_at rows.new.items k
+            ≡ (if has same_key k (children same_key key self.old.boxes) then handed_to k inside (children same_key key self.old.boxes) else hand_at rows.old.items k) }
+        ensures same_length { length rows.new.items ≡ length rows.old.items }
     {
         let whole = whole_of(&self.table, &self.nodes, key);
         draw_at(&mut self.nodes, key, old, new);
         let below = child_and_sibling(&self.nodes, key).0;
-        redraw(&mut self.nodes, rows, below, inside);
+        redraw(&mut self.nodes, rows, below, inside, false);
         renew_up(&mut self.table, &self.nodes, key, Stale::Branch, whole);
-    }
-
-    /// Hands this to all boxes below a box that is not the root.
-    pub(crate) fn hand_down(&self, rows: &mut Vec<Handed>, key: BoxKey, inside: Handed)
-        requires live { contains self.now key ≡ true }
-        requires has_rows { HasHands rows.old.items self.now.boxes }
-        requires can { CanHand inside (children same_key key self.now.boxes) }
-        ensures handed { (k : Box) → contains self.now k ≡ true → hand_at rows.new.items k
-            ≡ (if has same_key k (children same_key key self.now.boxes) then handed_to k inside (children same_key key self.now.boxes) else hand_at rows.old.items k) }
-        ensures same_length { length rows.new.items ≡ length rows.old.items }
-    {
-        let below = child_and_sibling(&self.nodes, key).0;
-        hand_down(rows, &self.nodes, below, inside);
     }
 
     /// A look at a box, which is counted once. None where the key is not live.
@@ -625,17 +627,36 @@ impl<B: Ledger> DrawnTree<B> {
         renew_up(&mut self.table, &self.nodes, key, Stale::Branch, old);
     }
 
-    /// Gives a box another scroll offset, and touches all boxes below it where it clips; they stay where they are.
-    pub(crate) fn scroll_to(&mut self, key: BoxKey, scroll: Scroll)
+    /// Gives a box another scroll offset. Where it clips, touches all boxes below it, and draws these elsewhere, where the table
+    /// has what was handed to them, and this is handed to the children of the box now. So the table has what follows from it
+    /// then. Where it does not clip, the table has that already, and no box below it is gone to but for the hulls.
+    pub(crate) fn scroll_to(
+        &mut self,
+        rows: &mut Vec<Handed>,
+        key: BoxKey,
+        scroll: Scroll,
+        inside: Handed,
+    )
         requires live { contains self.old key ≡ true }
-        ensures { self.new ≡ edited (scrolling key scroll) self.old }
+        requires has_rows { HasHands rows.old.items self.old.boxes }
+        requires can { CanHand inside (children same_key key self.old.boxes) }
+        requires fits { AllRedraw rows.old.items inside (children same_key key self.old.boxes) }
+        requires still { option_map_or (λ d. clips d.style (same_key key self.old.root)) (item_of same_key key self.old.boxes) false ≡ false
+            → IsHandedDown rows.old.items inside (children same_key key self.old.boxes) }
+        requires near { AllNear (drawn_below rows.old.items key inside (edited (scrolling key scroll) self.old).boxes) }
+        ensures drawn { self.new ≡ record (edited (scrolling key scroll) self.old) {
+          boxes = drawn_below rows.old.items key inside (edited (scrolling key scroll) self.old).boxes;
+        } }
+        ensures handed { (k : Box) → contains self.old k ≡ true → hand_at rows.new.items k
+            ≡ (if has same_key k (children same_key key self.old.boxes) then handed_to k inside (children same_key key self.old.boxes) else hand_at rows.old.items k) }
+        ensures same_length { length rows.new.items ≡ length rows.old.items }
     {
         let is_root = key.is(self.root);
-        let old = whole_of(&self.table, &self.nodes, key);
+        let was = whole_of(&self.table, &self.nodes, key);
         let asked = self.nodes.put_scroll(key, is_root, scroll);
         let below = child_and_sibling(&self.nodes, key).0;
-        touch_where(&mut self.nodes, below, asked);
-        renew_up(&mut self.table, &self.nodes, key, Stale::Branch, old);
+        redraw_where(&mut self.nodes, rows, below, inside, asked);
+        renew_up(&mut self.table, &self.nodes, key, Stale::Branch, was);
     }
 
     /// No box is touched any more.

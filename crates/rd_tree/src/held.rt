@@ -10,15 +10,20 @@ ghost use Rattle.rd_tree.specs.Changes as changes;
 ghost use Rattle.rd_tree.specs.Internal.Glances.{glance_of};
 ghost use Rattle.rd_tree.specs.Internal.Linked.{linked, Relinks};
 ghost use Rattle.rd_tree.specs.Internal.Links.{child_and_sibling, edit, edit_if, with_ends, with_item, with_next, with_place, with_prev};
+ghost use Rattle.rd_tree.specs.Internal.Handing.{IsWithin};
+ghost use Rattle.rd_tree.specs.Internal.Hands.{ScrollFitsAt, passed_at};
 ghost use Rattle.rd_tree.specs.Internal.Reaching as reaching;
+ghost use Rattle.rd_tree.specs.Internal.Redraws.{RedrawsAt, redrawn_if};
 ghost use Rattle.rd_tree.specs.Internal.Works.{AllowsAt, done, item_under};
 ghost use Rattle.rd_tree.specs.Touching.{settled};
 
 use crate::glance::{Glance, glance_at, none, renamed};
 use crate::glances::Glances;
+use crate::handed::Handed;
 use crate::links::walk::{Work, do_work};
 use crate::node::Node;
 use crate::reach::{Reach, rect_reach, style_reach};
+use crate::redrawing::{Onward, draw_item};
 use crate::scroll::Scroll;
 use rd_geom::{NoMemory, Rect};
 use rd_keys::{Arena, BoxKey, BoxMark, KeyRange, Refused};
@@ -303,6 +308,44 @@ impl Nodes {
                 rect_reach(&node.item.style, is_root)
             }
             None => Reach::Nothing,
+        }
+    }
+
+    /// Draws a box that is not the root anew, to which the one was handed and the other is now, and touches it where that is asked
+    /// for. Where a walk goes on from it, and with what.
+    #[inline(always)]
+    pub(crate) fn redraw_one(
+        &mut self,
+        key: BoxKey,
+        old: &Handed,
+        new: &Handed,
+        asked: bool,
+    ) -> Onward
+        requires few { IsWithin 256 new.now }
+        requires can { RedrawsAt old.now new.now (linked self.old key) }
+        requires scroll { ScrollFitsAt (linked self.old key) }
+        ensures drawn { Relinks self.old self.new (edit same_key key (with_item (redrawn_if asked
+            old.now new.now)) (linked self.old)) }
+        ensures onward { (result.below, result.next) ≡ child_and_sibling (linked self.old key) }
+        ensures inside { result.inside ≡ passed_at new.now (linked self.old key) }
+    {
+        match self.held.get_mut(key) {
+            Some(node) => {
+                let inside = new.enter(&node.item.style, node.item.scroll, false);
+                draw_item(&mut node.item, old, new, asked);
+                let glance = glance_at(key.generation(), node);
+                self.glances.write(key.slot(), glance);
+                Onward {
+                    below: glance.first,
+                    next: glance.next,
+                    inside,
+                }
+            }
+            None => Onward {
+                below: None,
+                next: None,
+                inside: *new,
+            },
         }
     }
 

@@ -1,17 +1,18 @@
 //! Boxes that are drawn elsewhere once what is handed to them has changed.
-ghost use Rattle.std.specs.Prelude.{◌≡◌, ◌+ℤ◌, ◌-ℤ◌, ◌≤ℤ◌, ◌<◌, pos, length};
+ghost use Rattle.std.specs.Prelude.{◌≡◌, ◌+ℤ◌, ◌-ℤ◌, ◌≤ℤ◌, false, pos, length};
 ghost use Rattle.rd_geom.specs.Plane.{IsPlaced};
 ghost use Rattle.rd_keys.specs.Keys.{same_key};
 ghost use Rattle.rd_tree.specs.Internal.Handing.{IsFar, IsWithin};
-ghost use Rattle.rd_tree.specs.Internal.Hands.{CanHand, HasHands, hand_at};
+ghost use Rattle.rd_tree.specs.Internal.Hands.{CanHand, HandsDown, HasHands};
+ghost use Rattle.rd_tree.specs.Internal.Laid.{IsHandedDown};
 ghost use Rattle.rd_tree.specs.Internal.Links.{edit, with_item};
 ghost use Rattle.rd_tree.specs.Internal.Linked.{IsRead, Relinks, linked, seen_from};
-ghost use Rattle.rd_tree.specs.Internal.Redraws.{AllRedraw, DrawsAt, RedrawsAt, Redraws, drawn_anew, drawn_far, rect_far, rect_under, redrawn};
+ghost use Rattle.rd_tree.specs.Internal.Redraws.{AllRedraw, CanRedraw, DrawsAt, Redraws, drawn_anew, drawn_far, rect_far, redrawn_if};
 
 use crate::handed::Handed;
-use crate::handing::pass;
+use crate::handing::{hand_of, write};
 use crate::held::Nodes;
-use crate::links::walk::child_and_sibling;
+use crate::node::Item;
 use crate::scroll::Scroll;
 use rd_geom::Rect;
 use rd_keys::BoxKey;
@@ -48,30 +49,24 @@ pub(crate) fn anew(r: &Rect, old: Scroll, new: Scroll) -> Rect
     }
 }
 
-/// Where the box of a key is drawn now.
-fn rect_anew(nodes: &Nodes, key: BoxKey, old: &Handed, new: &Handed) -> Rect
+/// Draws a box anew to which the one was handed and the other is now, and touches it where that is asked for.
+#[inline(always)]
+pub(crate) fn draw_item(item: &mut Item, old: &Handed, new: &Handed, asked: bool)
     requires few { IsWithin 256 new.now }
-    requires can { RedrawsAt old.now new.now (linked nodes.now key) }
-    ensures { result ≡ rect_under old.now new.now (linked nodes.now key) }
+    requires can { CanRedraw old.now new.now item.old }
+    ensures { item.new ≡ redrawn_if asked old.now new.now item.old }
 {
-    match nodes.get(key) {
-        Some(node) => {
-            let position = node.item.style.position;
-            anew(&node.item.rect, old.offset(position), new.offset(position))
-        }
-        None => Rect::EMPTY,
-    }
+    let position = item.style.position;
+    item.rect = anew(&item.rect, old.offset(position), new.offset(position));
+    item.touched = asked | item.touched;
 }
 
-/// Draws one box anew.
-fn redraw_one(nodes: &mut Nodes, rows: &[Handed], key: BoxKey, handed: &Handed)
-    requires here { key.slot < length rows.now }
-    requires few { IsWithin 256 handed.now }
-    requires can { RedrawsAt (hand_at rows.now key) handed.now (linked nodes.old key) }
-    ensures { Relinks nodes.old nodes.new (edit same_key key (with_item (redrawn (hand_at rows.now key) handed.now)) (linked nodes.old)) }
-{
-    let rect = rect_anew(nodes, key, &rows[key.slot() as usize], handed);
-    nodes.put_rect(key, false, rect);
+/// Where a walk goes on from a box: its first child, its next sibling, and what is handed to its children.
+#[derive(Clone, Copy)]
+pub(crate) struct Onward {
+    pub(crate) below: Option<BoxKey>,
+    pub(crate) next: Option<BoxKey>,
+    pub(crate) inside: Handed,
 }
 
 /// Where the box of a key is drawn that was scrolled so far and is so far now.
@@ -98,21 +93,78 @@ pub(crate) fn draw_at(nodes: &mut Nodes, key: BoxKey, old: Scroll, new: Scroll)
     nodes.put_rect(key, false, rect);
 }
 
-/// Draws anew a box that is not the root, its later siblings, and all below them, where the table has what was handed to
-/// each of them, and this is handed to the first ones now.
-pub(crate) fn redraw(nodes: &mut Nodes, rows: &[Handed], first: Option<BoxKey>, handed: Handed)
+/// The same of the boxes below a box, with no call where there are none.
+#[cycle(redrawing)]
+#[inline(always)]
+fn redraw_below(
+    nodes: &mut Nodes,
+    rows: &mut Vec<Handed>,
+    first: Option<BoxKey>,
+    handed: Handed,
+    asked: bool,
+)
     requires read { IsRead nodes.old first }
-    requires has_rows { HasHands rows.now (seen_from nodes.old first) }
+    requires has_rows { HasHands rows.old.items (seen_from nodes.old first) }
     requires can { CanHand handed (seen_from nodes.old first) }
-    requires fits { AllRedraw rows.now handed (seen_from nodes.old first) }
-    ensures { Redraws nodes.old nodes.new rows.now handed (seen_from nodes.old first) }
+    requires fits { AllRedraw rows.old.items handed (seen_from nodes.old first) }
+    ensures drawn { Redraws asked nodes.old nodes.new rows.old.items handed (seen_from nodes.old first) }
+    ensures handed { HandsDown nodes.old rows.old.items rows.new.items handed (seen_from nodes.old first) }
+    ensures same_length { length rows.new.items ≡ length rows.old.items }
+{
+    match first {
+        Some(_) => redraw(nodes, rows, first, handed, asked),
+        None => {}
+    }
+}
+
+/// Draws anew a box that is not the root, its later siblings, and all below them, where the table has what was handed to
+/// each of them, and this is handed to the first ones now. So the table has it then, and what follows from it. Touches them
+/// where that is asked for.
+#[cycle(redrawing)]
+pub(crate) fn redraw(
+    nodes: &mut Nodes,
+    rows: &mut Vec<Handed>,
+    first: Option<BoxKey>,
+    handed: Handed,
+    asked: bool,
+)
+    requires read { IsRead nodes.old first }
+    requires has_rows { HasHands rows.old.items (seen_from nodes.old first) }
+    requires can { CanHand handed (seen_from nodes.old first) }
+    requires fits { AllRedraw rows.old.items handed (seen_from nodes.old first) }
+    ensures drawn { Redraws asked nodes.old nodes.new rows.old.items handed (seen_from nodes.old first) }
+    ensures handed { HandsDown nodes.old rows.old.items rows.new.items handed (seen_from nodes.old first) }
+    ensures same_length { length rows.new.items ≡ length rows.old.items }
 {
     let mut at = first;
     while let Some(key) = at {
-        let (below, next) = child_and_sibling(nodes, key);
-        let inside = pass(nodes, key, &handed);
-        redraw_one(nodes, rows, key, &handed);
-        redraw(nodes, rows, below, inside);
-        at = next;
+        let old = hand_of(rows, key);
+        write(rows, key, handed);
+        let onward = nodes.redraw_one(key, &old, &handed, asked);
+        redraw_below(nodes, rows, onward.below, onward.inside, asked);
+        at = onward.next;
+    }
+}
+
+/// The same where that is asked for. Where it is not, the table has of each of these boxes what is handed to it now, and none
+/// is gone to.
+pub(crate) fn redraw_where(
+    nodes: &mut Nodes,
+    rows: &mut Vec<Handed>,
+    first: Option<BoxKey>,
+    handed: Handed,
+    asked: bool,
+)
+    requires read { IsRead nodes.old first }
+    requires has_rows { HasHands rows.old.items (seen_from nodes.old first) }
+    requires can { CanHand handed (seen_from nodes.old first) }
+    requires fits { AllRedraw rows.old.items handed (seen_from nodes.old first) }
+    requires still { asked ≡ false → IsHandedDown rows.old.items handed (seen_from nodes.old first) }
+    ensures drawn { Redraws asked nodes.old nodes.new rows.old.items handed (seen_from nodes.old first) }
+    ensures handed { HandsDown nodes.old rows.old.items rows.new.items handed (seen_from nodes.old first) }
+    ensures same_length { length rows.new.items ≡ length rows.old.items }
+{
+    if asked {
+        redraw(nodes, rows, first, handed, asked);
     }
 }

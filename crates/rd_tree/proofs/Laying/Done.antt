@@ -1,5 +1,5 @@
 -- An edit of one box in place that draws it and all below it elsewhere: what is kept, and what the tree is then.
-use Rattle.std.proofs.Common.{◌≡◌, refl, ap, ◌∙◌, sym, subst, ℕ, ◌+◌, ◌≤◌, max, Bool, true, false, ◌||◌, cond, List, inl, inr, arith}
+use Rattle.std.proofs.Common.{◌≡◌, refl, ap, ◌∙◌, sym, subst, ℕ, ◌+◌, ◌≤◌, max, Bool, true, false, cond, List, inl, inr, arith}
 use Rattle.std.specs.Prelude.{Some, option_map}
 use Rattle.rd_keys.specs.Keys.{same_key}
 use Rattle.rd_keys.proofs.Keys.{same_key-sound, same_key-refl}
@@ -16,13 +16,12 @@ use Rattle.rd_tree.proofs.Linking.Cutting.{in_children}
 use Rattle.rd_tree.proofs.Forests.Restoring.{apart_children}
 use Rattle.rd_tree.proofs.Forests.ByKey.{where-by, item-by}
 use Rattle.rd_tree.proofs.Forests.Heights.{height-each}
-use Rattle.rd_tree.proofs.Nodes.Each.{has-each, children-each}
+use Rattle.rd_tree.proofs.Nodes.Each.{has-each}
 use Rattle.rd_tree.proofs.Summaries.Within.{not_own}
-use Rattle.rd_tree.proofs.Tables.OneBranch.{box_kept}
 use Rattle.rd_tree.proofs.Offsets.{entered_within}
 use Rattle.rd_tree.proofs.Laying.Rows.{inside_of, handed_at, handed_children, handed_down, handed_is, handed_where}
 use Rattle.rd_tree.proofs.Laying.Kept.{IsTold, there}
-use Rattle.rd_tree.proofs.Laying.Draws.{handed_to-by}
+use Rattle.rd_tree.proofs.Laying.Draws.{marked_low, marked_to}
 
 -- The root is below no box.
 pub root_out : (t : Document) → IsRooted t → IsApart same_key t.boxes → (k : BoxKey) → has same_key t.root (children same_key k t.boxes) ≡ false
@@ -67,35 +66,25 @@ module _ (t : Document) (rows : List Handed) (told : IsTold t) (right : AreHande
   has_same : (j : BoxKey) → has same_key j edits ≡ has same_key j t.boxes
   has_same j = has-each q touch same_key j (at_box same_key k e t.boxes) ∙ has-each (λ i. same_key i k) e same_key j t.boxes
 
-  below_is : children same_key k edits ≡ map_where q touch low
-  below_is = children-each q touch same_key k (at_box same_key k e t.boxes) ∙ ap (map_where q touch) (box_kept e k t.boxes told.apart)
+  pub below_is : children same_key k edits ≡ map_where q touch low
+  below_is = marked_low q e k t.boxes told.apart
 
   pub below_levels : height (children same_key k edits) ≡ height low
   below_levels = ap height below_is ∙ height-each q touch low
 
-  marked_to : (j : BoxKey) (h : Handed) (f : BoxForest) → handed_to j h (map_where q touch f) ≡ handed_to j h f
-  marked_to j h f = ap (handed_to j h) (where-by q touch f)
-      ∙ handed_to-by (λ i d. cond (q i) (touch d) d) (λ i d. scroll_at (q i) d) (λ i d. style_at (q i) d) j h f where
-        scroll_at : (b : Bool) (d : Item) → (cond b (touch d) d).scroll ≡ d.scroll
-        scroll_at true d = refl
-        scroll_at false d = refl
-
-        style_at : (b : Bool) (d : Item) → (cond b (touch d) d).style ≡ d.style
-        style_at true d = refl
-        style_at false d = refl
-
-  item_is : (d : Item) → item_of same_key k t.boxes ≡ Some d → (h : Handed) → passed_from (same_key k t.root) h (item_of same_key k edits) ≡ entered (same_key k t.root) (e d).style (e d).scroll h
-  item_is d v h =
+  pub item_then : (d : Item) → item_of same_key k t.boxes ≡ Some d → item_of same_key k edits ≡ Some (cond (q k) (touch (e d)) (e d))
+  item_then d v =
       let a : item_of same_key k (at_box same_key k e t.boxes) ≡ Some (e d) =
       ap (item_of same_key k) (where-by (λ i. same_key i k) e t.boxes)
       ∙ (item-by (λ i d. cond (same_key i k) (e d) d) same_key same_key-sound k t.boxes ∙ (ap (option_map (λ d. cond (same_key k k) (e d) d)) v ∙ rw (same_key-refl k) refl)) in
-      let b : item_of same_key k edits ≡ Some (cond (q k) (touch (e d)) (e d)) =
       ap (item_of same_key k) (where-by q touch (at_box same_key k e t.boxes))
-      ∙ (item-by (λ i d. cond (q i) (touch d) d) same_key same_key-sound k (at_box same_key k e t.boxes) ∙ ap (option_map (λ d. cond (q k) (touch d) d)) a) in
-      ap (passed_from (same_key k t.root) h) b ∙ by (q k) where
-        by : (c : Bool) → entered (same_key k t.root) (cond c (touch (e d)) (e d)).style (cond c (touch (e d)) (e d)).scroll h ≡ entered (same_key k t.root) (e d).style (e d).scroll h
-        by true = refl
-        by false = refl
+      ∙ (item-by (λ i d. cond (q i) (touch d) d) same_key same_key-sound k (at_box same_key k e t.boxes) ∙ ap (option_map (λ d. cond (q k) (touch d) d)) a)
+
+  pub item_is : (d : Item) → item_of same_key k t.boxes ≡ Some d → (h : Handed) → passed_from (same_key k t.root) h (item_of same_key k edits) ≡ entered (same_key k t.root) (e d).style (e d).scroll h
+  item_is d v h = ap (passed_from (same_key k t.root) h) (item_then d v) ∙ by (q k) where
+    by : (c : Bool) → entered (same_key k t.root) (cond c (touch (e d)) (e d)).style (cond c (touch (e d)) (e d)).scroll h ≡ entered (same_key k t.root) (e d).style (e d).scroll h
+    by true = refl
+    by false = refl
 
   -- Before that, the table has below the box what was handed down from it.
   pub below_then : has same_key k t.boxes ≡ true → IsHandedDown rows (passed_from (same_key k t.root) (hand_at rows k) (item_of same_key k t.boxes)) (children same_key k edits)
@@ -106,7 +95,7 @@ module _ (t : Document) (rows : List Handed) (told : IsTold t) (right : AreHande
       handed_is rows t.root (inside_of rows t.root k w.0) low (apart_children same_key same_key-sound same_key-refl k t.boxes told.apart) (root_out t told.rooted told.apart k)
       (handed_children rows t.root unhanded k w.0 t.boxes told.apart w.1 right) j v
       ∙ (ap (λ o. handed_to j (passed_from (same_key k t.root) (hand_at rows k) o) low) (sym w.1)
-      ∙ (sym (marked_to j h low) ∙ ap (handed_to j h) (sym below_is)))
+      ∙ (sym (marked_to q j h low) ∙ ap (handed_to j h) (sym below_is)))
 
   -- The rows are right once what follows is handed down.
   pub right_then : (last : List Handed) (inside : Handed) → inside ≡ passed_from (same_key k t.root) (hand_at rows k) (item_of same_key k edits)
@@ -117,7 +106,7 @@ module _ (t : Document) (rows : List Handed) (told : IsTold t) (right : AreHande
       let all : (i : BoxKey) → has same_key i t.boxes ≡ true → hand_at last i ≡ cond (same_key i k) (hand_at rows k) (cond (has same_key i low) (handed_to i inside low) (hand_at rows i)) =
       λ i u. hands i (has_same i ∙ u)
       ∙ (ap (λ z. cond (same_key i k) (hand_at rows k) (cond (has same_key i z) (handed_to i inside z) (hand_at rows i))) below_is
-      ∙ (λ x. cond (same_key i k) (hand_at rows k) (cond (has-each q touch same_key i low x) (marked_to i inside low x) (hand_at rows i)))) in
+      ∙ (λ x. cond (same_key i k) (hand_at rows k) (cond (has-each q touch same_key i low x) (marked_to q i inside low x) (hand_at rows i)))) in
       handed_where last t.root q touch (λ d. refl) (λ d. refl) unhanded (at_box same_key k e t.boxes)
       (handed_at rows last t.root k e unhanded t.boxes told.apart right
       (λ j u o. all j u ∙ outer (same_key j k) (has same_key j low) j o (λ s. ap (hand_at rows) (sym (same_key-sound j k s))) inside)

@@ -1,28 +1,30 @@
 -- What it takes to draw a box elsewhere with all below it, and to hand on what follows from that.
-use Rattle.std.proofs.Common.{◌≡◌, refl, ap, ◌∙◌, sym, subst, ℕ, ◌+◌, ◌<◌, ◌≤◌, Bool, true, false, ◌||◌, cond, List, inl, inr, arith}
+use Rattle.std.proofs.Common.{◌≡◌, refl, ap, ◌∙◌, sym, subst, ◌+◌, Bool, true, false, cond, List, inl, inr, arith}
 use Rattle.std.specs.Prelude.{◌+ℤ◌, Option, Some, None}
 use Rattle.rd_keys.specs.Keys.{same_key}
 use Rattle.rd_keys.proofs.Keys.{same_key-sound, same_key-refl}
 use Rattle.rd_tree.specs.declared.handed.Handed.{Handed}
 use Rattle.rd_tree.specs.declared.scroll.Scroll.{Scroll}
-use Rattle.rd_tree.specs.Forest.{empty, tree, has, height, item_of, children, AllItems}
+use Rattle.rd_tree.specs.Forest.{empty, tree, has, height, item_of, children, map_where, at_box, AllItems, IsApart}
 use Rattle.rd_tree.specs.Document.{Document, BoxKey, Item, BoxForest, contains, AllFit}
 use Rattle.rd_tree.specs.Limits.{FitsScroll}
 use Rattle.rd_tree.specs.Changes.{with_rect}
+use Rattle.rd_tree.specs.Touching.{touch}
 use Rattle.rd_tree.specs.Drawn.{AllNear}
 use Rattle.rd_tree.specs.Internal.Handing.{IsFar, IsWithin}
-use Rattle.rd_tree.specs.Internal.Hands.{hand_at, handed_to, passed, CanHand, HasHands, PutsHand}
+use Rattle.rd_tree.specs.Internal.Hands.{hand_at, handed_to, passed, CanHand, HasHands}
 use Rattle.rd_tree.specs.Internal.Redraws.{drawn_far, redrawn, AllRedraw}
 use Rattle.rd_tree.specs.Internal.Laid.{each_by, laid_at, laid_by, relay, relaid, own_from, passed_from, drawn_again, ScrollFits, CanDraw}
 use Rattle.rd_tree.proofs.Linking.Standing.{cases, differs}
 use Rattle.rd_tree.proofs.Linking.Cutting.{in_children}
 use Rattle.rd_tree.proofs.Forests.All.{all_children, all_item}
-use Rattle.rd_tree.proofs.Forests.ByKey.{by_items, children-by, has-by, height-by}
+use Rattle.rd_tree.proofs.Forests.ByKey.{by_items, children-by, has-by, height-by, where-by}
+use Rattle.rd_tree.proofs.Nodes.Each.{children-each}
 use Rattle.rd_tree.proofs.Summaries.Within.{not_own}
+use Rattle.rd_tree.proofs.Tables.OneBranch.{box_kept}
 use Rattle.rd_tree.proofs.Offsets.{far_none, far_offset, entered_within, within_more}
 use Rattle.rd_tree.proofs.Laying.Near.{FitsItem, to_items, from_items, can_redraw, handed_within, again_near}
 use Rattle.rd_tree.proofs.Laying.Kept.{IsTold, there}
-use Rattle.rd_tree.proofs.Laying.Added.{puts_key}
 
 -- Items that keep their scroll offsets, and their styles too.
 module _ (g : BoxKey → Item → Item) (stays : (k : BoxKey) (d : Item) → (g k d).scroll ≡ d.scroll) where
@@ -46,6 +48,23 @@ module _ (g : BoxKey → Item → Item) (stays : (k : BoxKey) (d : Item) → (g 
           | inr u ↦ rw (s, has-by g same_key j low, u) (handed_to-by keeps j h rest)
         ]
       ]
+
+-- Marks change nothing of what is handed down,
+pub marked_to : (q : BoxKey → Bool) (j : BoxKey) (h : Handed) (f : BoxForest) → handed_to j h (map_where q touch f) ≡ handed_to j h f
+marked_to q j h f = ap (handed_to j h) (where-by q touch f)
+    ∙ handed_to-by (λ i d. cond (q i) (touch d) d) (λ i d. scroll_at (q i) d) (λ i d. style_at (q i) d) j h f where
+      scroll_at : (b : Bool) (d : Item) → (cond b (touch d) d).scroll ≡ d.scroll
+      scroll_at true d = refl
+      scroll_at false d = refl
+
+      style_at : (b : Bool) (d : Item) → (cond b (touch d) d).style ≡ d.style
+      style_at true d = refl
+      style_at false d = refl
+
+-- and a change of a box itself none of what is below it.
+pub marked_low : (q : BoxKey → Bool) (e : Item → Item) (k : BoxKey) (f : BoxForest) → IsApart same_key f
+    → children same_key k (map_where q touch (at_box same_key k e f)) ≡ map_where q touch (children same_key k f)
+marked_low q e k f a = children-each q touch same_key k (at_box same_key k e f) ∙ ap (map_where q touch) (box_kept e k f a)
 
 -- Boxes within the limits have such scroll offsets.
 scrolls_relaid : (rows : List Handed) (k : BoxKey) (old : Scroll) (f : BoxForest) → AllFit (relaid rows k old f) → AllItems (λ d. FitsScroll d.scroll) f
@@ -140,30 +159,3 @@ module _ (t : Document) (rows : List Handed) (k : BoxKey) (old : Scroll) (own : 
   pub draw_near : AllNear (drawn_again rows k old new inside t.boxes)
   draw_near = again_near rows k old new inside t.boxes told.apart draw_far
       (λ j u. handed_within (1 + c.levels) inside low inside_far (omega (arith, c.shallow)) (all_children (λ d. FitsScroll d.scroll) same_key k t.boxes scrolls) j u) c.within c.fits
-
-  abbrev again : BoxKey → Item → Item
-  again = how t rows k old own
-
-  -- Once it is drawn, what is handed down is the same.
-  low_again : children same_key k (drawn_again rows k old new inside t.boxes) ≡ each_by again low
-  low_again = children-by again same_key k t.boxes
-
-  pub again_can : CanHand inside (children same_key k (drawn_again rows k old new inside t.boxes))
-  again_can = subst (CanHand inside) (sym low_again) (can_hand_by again (scroll_kept t rows k old own) inside low draw_can)
-
-  pub again_hands : (mid last : List Handed) → PutsHand rows mid k own
-      → ((i : BoxKey) → has same_key i (drawn_again rows k old new inside t.boxes) ≡ true → hand_at last i
-      ≡ cond (has same_key i (children same_key k (drawn_again rows k old new inside t.boxes))) (handed_to i inside (children same_key k (drawn_again rows k old new inside t.boxes))) (hand_at mid i))
-      → (i : BoxKey) → contains t i ≡ true → hand_at last i ≡ cond (same_key i k) own (cond (has same_key i low) (handed_to i inside low) (hand_at rows i))
-  again_hands mid last put down i u =
-      let a : hand_at last i ≡ cond (has same_key i low) (handed_to i inside low) (hand_at mid i) =
-      down i (has-by again same_key i t.boxes ∙ u)
-      ∙ (ap (λ z. cond (has same_key i z) (handed_to i inside z) (hand_at mid i)) low_again
-      ∙ (λ x. cond (has-by again same_key i low x) (handed_to-by again (scroll_kept t rows k old own) (style_kept t rows k old own) i inside low x) (hand_at mid i))) in
-      let b : hand_at mid i ≡ cond (same_key i k) own (hand_at rows i) = puts_key t told.keyed rows mid k own put m i u in
-      a ∙ (ap (λ z. cond (has same_key i low) (handed_to i inside low) z) b ∙ by (same_key i k) (has same_key i low) (out_of i)) where
-        by : (x y : Bool) → (y ≡ true → x ≡ false) → cond y (handed_to i inside low) (cond x own (hand_at rows i)) ≡ cond x own (cond y (handed_to i inside low) (hand_at rows i))
-        by true true o = cc (o refl)
-        by true false o = refl
-        by false true o = refl
-        by false false o = refl

@@ -1,29 +1,21 @@
 -- Where a box is drawn where it was, and hands down what it did, no box is drawn elsewhere.
-use Rattle.std.proofs.Common.{◌≡◌, refl, ap, ◌∙◌, sym, ℤ, Bool, true, false, cond, List, length, arith}
-use Rattle.std.proofs.lemmas.Int.{ints}
-use Rattle.std.specs.Prelude.{◌+ℤ◌, ◌-ℤ◌}
+use Rattle.std.proofs.Common.{◌≡◌, refl, ap, ◌∙◌, sym, Bool, true, false, cond, List, length}
 use Rattle.rd_keys.specs.Keys.{same_key}
 use Rattle.rd_keys.proofs.Keys.{same_key-refl}
 use Rattle.rd_tree.specs.declared.handed.Handed.{Handed}
 use Rattle.rd_tree.specs.declared.scroll.Scroll.{Scroll}
 use Rattle.rd_tree.specs.Forest.{empty, tree, has, item_of, children}
 use Rattle.rd_tree.specs.Document.{Document, BoxKey, Item, BoxForest, contains}
-use Rattle.rd_tree.specs.Changes.{with_rect}
 use Rattle.rd_tree.specs.Internal.Handing.{offset_in}
 use Rattle.rd_tree.specs.Internal.Hands.{hand_at, handed_to, PutsHand}
 use Rattle.rd_tree.specs.Internal.Redraws.{drawn_far, redrawn}
 use Rattle.rd_tree.specs.Internal.Laid.{each_by, own_from, passed_from, drawn_again, IsHandedDown}
 use Rattle.rd_tree.proofs.Forests.ByKey.{by_items}
+use Rattle.rd_tree.proofs.Offsets.{far_back}
 use Rattle.rd_tree.proofs.Laying.Kept.{IsTold}
 use Rattle.rd_tree.proofs.Laying.Added.{puts_key}
 use Rattle.rd_tree.proofs.Laying.Draws.{how}
 use Rattle.rd_tree.proofs.Laying.Ends.{IsRedrawn}
-
-forth_and_back : (x o : ℤ) → (x +ℤ o) -ℤ o ≡ x
-forth_and_back x o = omega (arith, ints)
-
-far_back : (s : Scroll) (d : Item) → drawn_far s s d ≡ d
-far_back s d = λ i. with_rect (record d.rect { x = forth_and_back d.rect.x s.x i; y = forth_and_back d.rect.y s.y i }) d
 
 each_same : (f : BoxForest) → each_by (λ j d. d) f ≡ f
 each_same empty = refl

@@ -82,6 +82,10 @@ drawn_again rows k old new h f = each_by (λ j d.
     else if has same_key j (children same_key k f) then redrawn (hand_at rows j) (handed_to j h (children same_key k f)) d
     else d) f
 
+-- the same where the box itself stays
+abbrev pub drawn_below : List Handed → BoxKey → Handed → BoxForest → BoxForest
+drawn_below rows k h f = each_by (λ j d. if has same_key j (children same_key k f) then redrawn (hand_at rows j) (handed_to j h (children same_key k f)) d else d) f
+
 -- a box where it is laid out, where k is still scrolled as far as before
 abbrev pub relay : List Handed → BoxKey → Scroll → BoxKey → Item → Item
 relay rows k old j d = if same_key j k then with_rect (record d.rect { x = d.rect.x +ℤ old.x; y = d.rect.y +ℤ old.y }) d else laid_at (hand_at rows j) d

@@ -1,5 +1,5 @@
 -- Boxes that are drawn elsewhere once what is handed to them has changed.
-use Rattle.std.specs.Prelude.{◌+ℤ◌, ◌-ℤ◌, Bool, if◌then◌else◌, List, Option, Some, None, option_map}
+use Rattle.std.specs.Prelude.{◌+ℤ◌, ◌-ℤ◌, ◌||◌, Bool, if◌then◌else◌, List, Option, Some, None, option_map}
 use Rattle.rd_geom.specs.Plane.{Rectangle, IsPlaced, no_pixels}
 use Rattle.rd_keys.specs.Keys.{same_key}
 use Rattle.rd_keys.specs.Arena.{Arena}
@@ -21,6 +21,10 @@ drawn_anew old new r = record r { x = (r.x +ℤ old.x) -ℤ new.x; y = (r.y +ℤ
 -- a box to which the one was handed and the other is now
 abbrev pub redrawn : Handed → Handed → Item → Item
 redrawn old new d = with_rect (drawn_anew (offset_in old d.style.position) (offset_in new d.style.position) d.rect) d
+
+-- the same, touched where that is asked for
+abbrev pub redrawn_if : Bool → Handed → Handed → Item → Item
+redrawn_if asked old new d = record (redrawn old new d) { touched = asked || d.touched }
 
 -- a box that was scrolled so far and is so far now
 abbrev pub drawn_far : Scroll → Scroll → Item → Item
@@ -46,11 +50,6 @@ abbrev pub RedrawsAt : Handed → Handed → Option (Node BoxKey Item) → Type 
 RedrawsAt old new None = Unit {0}
 RedrawsAt old new (Some n) = CanRedraw old new n.item
 
--- where the box of a node is drawn now
-abbrev pub rect_under : Handed → Handed → Option (Node BoxKey Item) → Rectangle
-rect_under old new None = no_pixels
-rect_under old new (Some n) = (redrawn old new n.item).rect
-
 -- So each of these boxes can.
 abbrev pub AllRedraw : List Handed → Handed → BoxForest → Type 0
 AllRedraw rows h empty = Unit {0}
@@ -60,6 +59,6 @@ AllRedraw rows h (tree k d below rest) = CanRedraw (hand_at rows k) h d × AllRe
 abbrev pub on_each_by : (BoxKey → Bool) → (BoxKey → Item → Item) → (BoxKey → Option (Node BoxKey Item)) → BoxKey → Option (Node BoxKey Item)
 on_each_by p g at j = if p j then option_map (with_item (g j)) (at j) else at j
 
--- Each of these boxes is drawn anew.
-abbrev pub Redraws : Arena inner.Node → Arena inner.Node → List Handed → Handed → BoxForest → Type 0
-Redraws a b rows h f = Relinks a b (on_each_by (λ j. has same_key j f) (λ j. redrawn (hand_at rows j) (handed_to j h f)) (linked a))
+-- Each of these boxes is drawn anew, and touched where that is asked for.
+abbrev pub Redraws : Bool → Arena inner.Node → Arena inner.Node → List Handed → Handed → BoxForest → Type 0
+Redraws asked a b rows h f = Relinks a b (on_each_by (λ j. has same_key j f) (λ j. redrawn_if asked (hand_at rows j) (handed_to j h f)) (linked a))

@@ -1,5 +1,5 @@
 //! Work on all boxes of a subtree.
-ghost use Rattle.std.specs.Prelude.{◌≡◌, ◌↔◌, ◌&&◌, ◌||◌, ◌≤◌, ◌+ℤ◌, ◌-ℤ◌, ◌≤ℤ◌, ◌<◌, length, pos, false, IsTrue};
+ghost use Rattle.std.specs.Prelude.{◌≡◌, ◌↔◌, ◌||◌, ◌≤◌, ◌+ℤ◌, ◌-ℤ◌, ◌≤ℤ◌, ◌<◌, length, pos, false, IsTrue};
 ghost use Rattle.rd_keys.specs.Keys.{same_key};
 ghost use Rattle.rd_tree.specs.Forest.{has, height, AllItems};
 ghost use Rattle.rd_tree.specs.Internal.Links.{edit, with_item, on_each, child_and_sibling};
@@ -153,17 +153,6 @@ pub(crate) fn touch(nodes: &mut Nodes, key: BoxKey, reach: Reach)
             nodes.work_on(key, Work::Touch);
         }
         Reach::Subtree => work_below(nodes, key, Work::Touch),
-    }
-}
-
-/// Touches a box, those below it, and its later siblings with theirs, where that is asked for.
-pub(crate) fn touch_where(nodes: &mut Nodes, first: Option<BoxKey>, asked: bool)
-    requires { IsRead nodes.old first }
-    ensures { Relinks nodes.old nodes.new (on_each (λ j. asked && has same_key j (seen_from nodes.old
-        first)) touch (linked nodes.old)) }
-{
-    if asked {
-        work_from(nodes, first, Work::Touch);
     }
 }
 

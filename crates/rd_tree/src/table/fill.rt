@@ -3,16 +3,15 @@ ghost use Rattle.std.specs.Prelude.{◌≡◌, ◌+◌, ◌<◌, ◌≤◌, leng
 ghost use Rattle.rd_geom.specs.Plane.{hull_of};
 ghost use Rattle.rd_tree.specs.Forest.{empty};
 ghost use Rattle.rd_tree.specs.Drawn.{AllNear};
+ghost use Rattle.rd_tree.specs.Internal.Links.{child_and_sibling};
 ghost use Rattle.rd_tree.specs.Internal.Linked.{IsRead, linked, seen_from};
 ghost use Rattle.rd_tree.specs.Internal.Rows.{HasRows, IsFitAt, extent_under, touched_under};
 ghost use Rattle.rd_tree.specs.Internal.Gathers.{Gathers, gathered_in, row_over};
 ghost use Rattle.rd_tree.specs.Figures.{max_boxes};
 
 use crate::held::Nodes;
-use crate::links::walk::child_and_sibling;
-use crate::table::hulls::extent_of;
 use crate::table::row::{Summary, write};
-use rd_geom::{Rect, hull};
+use rd_geom::{Rect, hull, outset};
 use rd_keys::BoxKey;
 
 /// What some siblings are together: how many they are, how many of them and of all below them are touched, and the hull
@@ -46,12 +45,48 @@ pub(crate) fn touched_at(nodes: &Nodes, key: BoxKey) -> u32
     }
 }
 
-/// The row of a box with these below it.
-pub(crate) fn row_of(nodes: &Nodes, key: BoxKey, below: &Gathered) -> Summary
+/// What its row takes of a box itself, and where to go on.
+#[derive(Clone, Copy)]
+pub(crate) struct Measured {
+    /// The border box with its outline round it.
+    pub(crate) extent: Rect,
+    /// 1 where the box is touched, and else 0.
+    pub(crate) touched: u32,
+    /// The first child.
+    pub(crate) below: Option<BoxKey>,
+    /// The next sibling.
+    pub(crate) next: Option<BoxKey>,
+}
+
+/// What its row takes of a box.
+#[inline(always)]
+pub(crate) fn measure(nodes: &Nodes, key: BoxKey) -> Measured
     requires { IsFitAt (linked nodes.now key) }
-    ensures { result ≡ row_over (extent_under (linked nodes.now key)) below.now }
+    ensures extent { result.extent ≡ extent_under (linked nodes.now key) }
+    ensures touched { result.touched ≡ touched_under (linked nodes.now key) }
+    ensures onward { (result.below, result.next) ≡ child_and_sibling (linked nodes.now key) }
 {
-    let own = extent_of(nodes, key);
+    match nodes.get(key) {
+        Some(node) => Measured {
+            extent: outset(node.item.rect, node.item.style.outline_width),
+            touched: if node.item.touched { 1 } else { 0 },
+            below: node.links.first,
+            next: node.links.next,
+        },
+        None => Measured {
+            extent: Rect::EMPTY,
+            touched: 0,
+            below: None,
+            next: None,
+        },
+    }
+}
+
+/// The row of a box of this extent with these below it.
+#[inline(always)]
+pub(crate) fn row_of(own: Rect, below: &Gathered) -> Summary
+    ensures { result ≡ row_over own below.now }
+{
     Summary {
         children: below.breadth,
         touched: below.touched,
@@ -74,7 +109,26 @@ fn with_one(all: &Gathered, own: u32, row: &Summary) -> Gathered
     }
 }
 
+/// The same of the boxes below a box, with no call where there are none.
+#[cycle(gathering)]
+#[inline(always)]
+fn gather_below(table: &mut Vec<Summary>, nodes: &Nodes, first: Option<BoxKey>) -> Gathered
+    requires read { IsRead nodes.now first }
+    requires small { nodes.now.limit ≤ max_boxes }
+    requires has_rows { HasRows table.old.items (seen_from nodes.now first) }
+    requires fits { AllNear (seen_from nodes.now first) }
+    ensures told { result ≡ gathered_in (seen_from nodes.now first) }
+    ensures rows { Gathers nodes.now table.old.items table.new.items (seen_from nodes.now first) }
+    ensures same_length { length table.new.items ≡ length table.old.items }
+{
+    match first {
+        Some(_) => gather(table, nodes, first),
+        None => Gathered::none(),
+    }
+}
+
 /// Writes the rows of a box, of those below it, and of its later siblings with theirs. What the siblings are together.
+#[cycle(gathering)]
 pub(crate) fn gather(table: &mut Vec<Summary>, nodes: &Nodes, first: Option<BoxKey>) -> Gathered
     requires read { IsRead nodes.now first }
     requires small { nodes.now.limit ≤ max_boxes }
@@ -87,12 +141,12 @@ pub(crate) fn gather(table: &mut Vec<Summary>, nodes: &Nodes, first: Option<BoxK
     let mut all = Gathered::none();
     let mut at = first;
     while let Some(key) = at {
-        let (below, next) = child_and_sibling(nodes, key);
-        let low = gather(table, nodes, below);
-        let row = row_of(nodes, key, &low);
-        all = with_one(&all, touched_at(nodes, key), &row);
+        let own = measure(nodes, key);
+        let low = gather_below(table, nodes, own.below);
+        let row = row_of(own.extent, &low);
+        all = with_one(&all, own.touched, &row);
         write(table, key, row);
-        at = next;
+        at = own.next;
     }
     all
 }

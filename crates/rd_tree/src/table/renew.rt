@@ -10,9 +10,8 @@ ghost use Rattle.rd_tree.specs.Internal.Renews.{whole_at, IsRightIn, KeepsOutsid
 
 use crate::held::Nodes;
 use crate::links::parent_of;
-use crate::links::walk::child_and_sibling;
 use crate::reach::Reach;
-use crate::table::fill::{gather, row_of, touched_at};
+use crate::table::fill::{gather, measure, row_of, touched_at};
 use crate::table::hulls::hull_anew;
 use crate::table::row::{Summary, put_hull, row_at, write};
 use crate::table::whole::{Whole, swap_up};
@@ -80,9 +79,9 @@ pub(crate) fn renew(table: &mut Vec<Summary>, nodes: &Nodes, key: BoxKey, stale:
             put_hull(table, key, hull);
         }
         Stale::Branch => {
-            let below = child_and_sibling(nodes, key).0;
-            let low = gather(table, nodes, below);
-            let row = row_of(nodes, key, &low);
+            let own = measure(nodes, key);
+            let low = gather(table, nodes, own.below);
+            let row = row_of(own.extent, &low);
             write(table, key, row);
         }
     }

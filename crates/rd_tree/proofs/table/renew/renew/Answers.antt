@@ -1,4 +1,4 @@
-use Rattle.std.proofs.Common.{sym, subst}
+use Rattle.std.proofs.Common.{ap, sym, subst}
 use Rattle.rd_tree.specs.declared.table.renew.Stale.TheVariants.{Hull}
 use Rattle.rd_tree.specs.Drawn.{AllNear}
 use Rattle.rd_tree.specs.Internal.Renews.{IsStale}
@@ -17,19 +17,19 @@ hull_anew-hull-requires-clause-rows c = let r = c.requires in rw c.deref.ensures
     c.args.table.now.items r.has_rows)
 
 pub gather-low-requires-clause-read : goal.gather-low-requires-clause-read
-gather-low-requires-clause-read c = let r = c.requires in rw c.child_and_sibling-below.ensures (below_read c.args.nodes.now r.root r.boxes r.is c.args.key
+gather-low-requires-clause-read c = let r = c.requires in rw (ap (λ o. o.0) c.measure-own.ensures.onward) (below_read c.args.nodes.now r.root r.boxes r.is c.args.key
     r.there)
 
 pub gather-low-requires-clause-has_rows : goal.gather-low-requires-clause-has_rows
-gather-low-requires-clause-has_rows c = let r = c.requires in rw c.child_and_sibling-below.ensures (below_rows c.args.nodes.now r.root r.boxes r.is
+gather-low-requires-clause-has_rows c = let r = c.requires in rw (ap (λ o. o.0) c.measure-own.ensures.onward) (below_rows c.args.nodes.now r.root r.boxes r.is
     c.args.key r.there c.args.table.now.items r.has_rows)
 
 pub gather-low-requires-clause-fits : goal.gather-low-requires-clause-fits
-gather-low-requires-clause-fits c = let r = c.requires in rw c.child_and_sibling-below.ensures (subst AllNear (sym (below_seen c.args.nodes.now r.root
+gather-low-requires-clause-fits c = let r = c.requires in rw (ap (λ o. o.0) c.measure-own.ensures.onward) (subst AllNear (sym (below_seen c.args.nodes.now r.root
     r.boxes r.is c.args.key r.there)) (fit_children c.args.key r.boxes r.is.apart r.there r.fits))
 
-pub row_of-row-requires : goal.row_of-row-requires
-row_of-row-requires c = let r = c.requires in fit_at c.args.nodes.now r.root r.boxes r.is c.args.key r.there r.fits
+pub measure-own-requires : goal.measure-own-requires
+measure-own-requires c = let r = c.requires in fit_at c.args.nodes.now r.root r.boxes r.is c.args.key r.there r.fits
 
 pub returns-in-Hull-clause-right : goal.returns-in-Hull-clause-right
 returns-in-Hull-clause-right c root f is m st =
@@ -44,11 +44,11 @@ returns-in-Hull-clause-others c root f is m = put_outside c.args.nodes.now root 
 pub returns-in-Branch-clause-right : goal.returns-in-Branch-clause-right
 returns-in-Branch-clause-right c root f is m st =
     branch_renewed c.args.nodes.now root f is c.args.key m c.args.table.now.items c.gather-low.new.table.items c.write.new.table.items c.gather-low.result
-    (rw c.child_and_sibling-below.ensures at c.gather-low.ensures.told) (rw c.child_and_sibling-below.ensures at c.gather-low.ensures.rows)
-    (rw c.row_of-row.ensures at c.write.ensures.rows)
+    (rw (ap (λ o. o.0) c.measure-own.ensures.onward) at c.gather-low.ensures.told) (rw (ap (λ o. o.0) c.measure-own.ensures.onward) at c.gather-low.ensures.rows)
+    (rw (c.row_of-row.ensures, c.measure-own.ensures.extent) at c.write.ensures.rows)
 
 pub returns-in-Branch-clause-others : goal.returns-in-Branch-clause-others
 returns-in-Branch-clause-others c root f is m =
     branch_outside c.args.nodes.now root f is c.args.key m c.args.table.now.items c.gather-low.new.table.items c.write.new.table.items c.gather-low.result
-    (rw c.child_and_sibling-below.ensures at c.gather-low.ensures.told) (rw c.child_and_sibling-below.ensures at c.gather-low.ensures.rows)
-    (rw c.row_of-row.ensures at c.write.ensures.rows)
+    (rw (ap (λ o. o.0) c.measure-own.ensures.onward) at c.gather-low.ensures.told) (rw (ap (λ o. o.0) c.measure-own.ensures.onward) at c.gather-low.ensures.rows)
+    (rw (c.row_of-row.ensures, c.measure-own.ensures.extent) at c.write.ensures.rows)
