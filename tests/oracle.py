@@ -26,6 +26,7 @@ MOST_SIDE = 4_096
 FARTHEST = 1_000_000
 MOST_WIDTH = 1_000
 MOST_DISTANCE = 2_000_000
+MOST_UNDOS = 100
 MOST_NESTED = 127
 MOST_BYTES = 67_108_864
 
@@ -404,13 +405,17 @@ COMMANDS = {
     "pixel": PIXEL,
     "dump": {},
     "shot": {},
+    "undo": {},
 }
+
+# the commands that version 1 does not have
+COMMANDS_SINCE_2 = ("scroll", "undo")
 EDITS = ("insert", "remove", "move", "style", "rect", "shift", "scroll")
 
 
 def command_of(value, version):
     name = string_of(member(object_of(value), "do"))
-    owed(name in COMMANDS and (version == 2 or name != "scroll"), "Command")
+    owed(name in COMMANDS and (version == 2 or name not in COMMANDS_SINCE_2), "Command")
     only_members(value, ("do", *COMMANDS[name]))
     return {"do": name, **{key: read(value, version) for key, read in COMMANDS[name].items()}}
 
@@ -477,6 +482,11 @@ class Box:
             box = box.parent
         return boxes
 
+    def next_id(self):
+        """The id of its next sibling; None where it has none."""
+        later = self.parent.children[self.parent.children.index(self) + 1 :]
+        return later[0].id if later else None
+
     def depth(self):
         return 1 + len(self.above())
 
@@ -523,6 +533,7 @@ class Tree:
         for box in boxes[1:]:
             parent = self.find(box["parent"])
             put(Box(box["id"], parent, box["rect"], box["style"]), parent, None)
+        self.undos = []
 
     def boxes(self):
         return self.root.subtree()
@@ -560,11 +571,40 @@ class Tree:
         return None
 
     def edit(self, edit):
-        """The number of the test that refuses the edit; None where it is done."""
+        """The number of the test that refuses the edit; None where it is done, and what undoes it is kept."""
         refusal = self.refusal(edit)
         if refusal is None:
+            self.undos = [*self.undos, self.inverse(edit)][-MOST_UNDOS:]
             getattr(self, edit["do"])(edit)
         return refusal
+
+    def undo(self):
+        """How many edits take back the latest edit that is not taken back; None where none is kept."""
+        if not self.undos:
+            return None
+        return sum(self.takes(edit) for edit in self.undos.pop())
+
+    def takes(self, edit):
+        """Is the edit done? What undoes it is not kept."""
+        is_done = self.refusal(edit) is None
+        if is_done:
+            getattr(self, edit["do"])(edit)
+        return is_done
+
+    def inverse(self, edit):
+        """What undoes an edit that is accepted, told before it is done."""
+        box = self.find(edit["id"])
+        if edit["do"] == "remove":
+            return put_back(box)
+        back = {
+            "insert": lambda: {"do": "remove"},
+            "move": lambda: {"parent": box.parent.id, "before": box.next_id()},
+            "style": lambda: {"style": {name: box.style[name] for name in edit["style"]}},
+            "rect": lambda: {"rect": box.rect},
+            "shift": lambda: {"dx": -edit["dx"], "dy": -edit["dy"]},
+            "scroll": lambda: dict(zip("xy", box.scroll)),
+        }
+        return [{"do": edit["do"], "id": edit["id"], **back[edit["do"]]()}]
 
     def insert(self, edit):
         box = Box(edit["id"], None, edit["rect"], edit["style"])
@@ -611,6 +651,23 @@ class Tree:
         box = self.find(edit["id"])
         box.scroll = edit["x"], edit["y"]
         touch(box.below() if clips(box) else [])
+
+
+def put_back(box):
+    """A box and all below it in tree order: the box before its next sibling, the others last, and then the scroll offsets."""
+    boxes = box.subtree()
+    inserted = [
+        {
+            "do": "insert",
+            "id": b.id,
+            "parent": b.parent.id,
+            "before": b.next_id() if b is box else None,
+            "rect": b.rect,
+            "style": b.style,
+        }
+        for b in boxes
+    ]
+    return inserted + [{"do": "scroll", "id": b.id, **dict(zip("xy", b.scroll))} for b in boxes if b.scroll != (0, 0)]
 
 
 def shifted(r, edit):
@@ -980,6 +1037,10 @@ class Machine:
             self.totals["accepted" if refusal is None else "refused"] += 1
             self.pending = self.pending or refusal is None
             return ["ok" if refusal is None else words("refused", refusal)]
+        if command["do"] == "undo":
+            done = self.tree.undo()
+            self.pending = self.pending or bool(done)
+            return ["undo none" if done is None else words("undone", done)]
         if command["do"] == "paint":
             return [self.paint()]
         first = [self.paint()] if self.pending else []

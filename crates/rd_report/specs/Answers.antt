@@ -1,10 +1,10 @@
 -- The lines of answers. The format is this project's own choice.
-use Rattle.std.specs.Prelude.{ℕ, List, [], ◌∷◌, codes, decimal, Option, Some, None}
+use Rattle.std.specs.Prelude.{ℕ, List, ◌∷◌, codes, decimal, Option, Some, None, []}
 use Rattle.hex.specs.Hex.{encode_lower}
 use Rattle.rd_geom.specs.declared.color.Color.{Color}
 use Rattle.rd_report.specs.Words.{line, opaque_text}
 use Rattle.rd_report.specs.declared.answer.Answer.{Answer}
-use Rattle.rd_report.specs.declared.answer.Answer.TheVariants.{Done, Refused, Painted, Hit, Pixel, Shot}
+use Rattle.rd_report.specs.declared.answer.Answer.TheVariants.{Done, Refused, Painted, Hit, Pixel, Shot, Undone}
 
 -- what an edit that is done writes
 abbrev pub ok_line : List ℕ
@@ -34,6 +34,11 @@ pixel_line None = line (codes "pixel" ∷ codes "none" ∷ [])
 abbrev pub shot_line : List ℕ → List ℕ
 shot_line digest = line (codes "shot" ∷ encode_lower digest ∷ [])
 
+-- what taking an edit back writes: how many edits that took, or that there was none
+abbrev pub undone_line : Option ℕ → List ℕ
+undone_line (Some n) = line (codes "undone" ∷ decimal n ∷ [])
+undone_line None = line (codes "undo" ∷ codes "none" ∷ [])
+
 -- the line of an answer
 abbrev pub answer_line : Answer → List ℕ
 answer_line Done = ok_line
@@ -43,3 +48,4 @@ answer_line (Hit None) = hit_line None
 answer_line (Hit (Some id)) = hit_line (Some id.now)
 answer_line (Pixel c) = pixel_line c
 answer_line (Shot d) = shot_line d
+answer_line (Undone n) = undone_line n

@@ -28,6 +28,8 @@ pub enum Answer<'a> {
     Pixel(Option<Color>),
     /// The SHA-256 digest (FIPS 180-4) of the canvas's picture.
     Shot([u8; 32]),
+    /// An edit was taken back by so many edits; None where there was none.
+    Undone(Option<u64>),
 }
 
 fn push_hit(out: &mut String, id: &Option<&Id>) -> Result<(), AllocError>
@@ -63,6 +65,15 @@ fn push_shot(alloc: Global, out: &mut String, digest: &[u8; 32]) -> Result<(), A
     write!(out, "shot {text}\n")
 }
 
+fn push_undone(out: &mut String, edits: &Option<u64>) -> Result<(), AllocError>
+    ensures { OnOk result (string_bytes out.new ≡ string_bytes out.old ++ answers.undone_line edits.now) }
+{
+    match edits {
+        Some(edits) => write!(out, "undone {edits}\n"),
+        None => out.push_str("undo none\n"),
+    }
+}
+
 fn push_answer(alloc: Global, out: &mut String, answer: &Answer<'_>) -> Result<(), AllocError>
     ensures { OnOk result (string_bytes out.new ≡ string_bytes out.old ++ answers.answer_line answer.now) }
 {
@@ -81,6 +92,7 @@ fn push_answer(alloc: Global, out: &mut String, answer: &Answer<'_>) -> Result<(
         Answer::Hit(id) => push_hit(out, id),
         Answer::Pixel(color) => push_pixel(out, color),
         Answer::Shot(digest) => push_shot(alloc, out, digest),
+        Answer::Undone(edits) => push_undone(out, edits),
     }
 }
 

@@ -1,5 +1,5 @@
 -- Each taken slot holds a box, where a tree changes and no slot gives its last key.
-use Rattle.std.proofs.Common.{◌≡◌, refl, ap, ◌∙◌, sym, subst, ℕ, ◌+◌, ◌<◌, ◌≤◌, Bool, true, false, ◌||◌, cond, arith, inl, inr, List, [], ◌∷◌, ◌++◌, length, All, Option, Some, None}
+use Rattle.std.proofs.Common.{◌≡◌, refl, ap, ◌∙◌, sym, subst, ℕ, ◌+◌, ◌<◌, ◌≤◌, Bool, true, false, ◌||◌, cond, arith, inl, inr, List, ◌∷◌, ◌++◌, length, All, Option, Some, None, []}
 use Rattle.std.specs.Prelude.{◌==◌, nat_lt}
 use Rattle.std.proofs.lemmas.List.Elements.{All-nil, All-cons, All-head, All-tail, All-append, All-push, All-set, All-weaker}
 use Rattle.rd_keys.specs.Keys.{BoxKey, same_key}
@@ -234,3 +234,35 @@ is_for (Scroll i x y) t c r h = subst (λ (z : Change). IsFor z t) (sym h.2) tt
 pub edit_counted : (n : ℕ) (e : Edit) (old new : Document) → n < 4294967295 → refusal_of old e ≡ None → IsEdited e old new
     → IsCounted n old → IsCounted (n + 1) new
 edit_counted n e old new l r h s = change_counted n (h.0) old new l (is_for e old (h.0) r h.1) h.2 (edit_well e old new h s.well) s
+
+-- An edit that raises no generation: one that makes a box, or scrolls one.
+abbrev pub IsMild : Edit → Type 0
+IsMild (Insert i parent before rect style) = Unit {0}
+IsMild (Remove i) = ⊥
+IsMild (Move i parent before) = ⊥
+IsMild (SetStyle i change) = ⊥
+IsMild (SetRect i rect) = ⊥
+IsMild (Shift i dx dy) = ⊥
+IsMild (Scroll i x y) = Unit {0}
+
+still_young : (n : ℕ) (e : Edit) (t : Document) (c : Change) → IsMild e → IsNamed e t c → IsFor c t → IsCounted n t → IsYoung n (after c t).slots
+still_young n (Insert i parent before rect style) t c m h f s =
+    let here : IsNext t h.1 = h.3 in
+    subst (λ (x : Change). IsYoung n (after x t).slots) (sym h.4) (young_taken n t.slots h.1 here s.young)
+still_young n (Scroll i x y) t c m h f s = subst (λ (z : Change). IsYoung n (after z t).slots) (sym h.2) s.young
+still_young n (Remove i) t c m h f s = absurd m
+still_young n (Move i parent before) t c m h f s = absurd m
+still_young n (SetStyle i change) t c m h f s = absurd m
+still_young n (SetRect i rect) t c m h f s = absurd m
+still_young n (Shift i dx dy) t c m h f s = absurd m
+
+pub mild_counted : (n : ℕ) (e : Edit) (old new : Document) → n < 4294967295 → IsMild e → refusal_of old e ≡ None → IsEdited e old new
+    → IsCounted n old → IsCounted n new
+mild_counted n e old new l m r h s =
+    let f : IsFor (h.0) old = is_for e old (h.0) r h.1 in
+    let same : taken (edited (h.0) old) ≡ size (edited (h.0) old).boxes =
+    after_same n (h.0) old l f s ∙ sym (size-each (touched_by (h.0) old) touch (after (h.0) old).boxes) in record {
+      well = edit_well e old new h s.well;
+      same = subst (λ (t : Document). taken t ≡ size t.boxes) (sym h.2) same;
+      young = subst (λ (t : Document). IsYoung n t.slots) (sym h.2) (still_young n e old (h.0) m h.1 f s);
+    }

@@ -1,5 +1,5 @@
 -- The machine can always go on.
-use Rattle.std.proofs.Common.{◌≡◌, ℕ, ◌+◌, ◌≤◌, Bool, true, false, Some, None, Option, List, [], ◌∷◌, ◌++◌, refl, sym, ◌∙◌, ap, subst, length, length-append, arith, cond}
+use Rattle.std.proofs.Common.{◌≡◌, ℕ, ◌+◌, ◌≤◌, Bool, true, false, Some, None, Option, List, ◌∷◌, ◌++◌, refl, sym, ◌∙◌, ap, subst, length, length-append, arith, cond, []}
 use Rattle.std.specs.List.{AllByRecursion}
 use Rattle.rd_geom.specs.Areas.{meets_area, count_of}
 use Rattle.rd_geom.specs.Canvas.{IsCanvas}
@@ -16,13 +16,13 @@ use Rattle.rd_edits.specs.Edited.{IsEdited}
 use Rattle.rd_edits.specs.Refusals.{refusal_of, number_of}
 use Rattle.rd_engine.specs.Painted.{untouched}
 use Rattle.rd_scene.specs.declared.script.Command.{Command}
-use Rattle.rd_scene.specs.declared.script.Command.TheVariants.{Change, Paint, Hit, Pixel, Dump, Shot}
+use Rattle.rd_scene.specs.declared.script.Command.TheVariants.{Change, Paint, Hit, Pixel, Dump, Shot, Undo}
 use Rattle.rd_scene.proofs.Changing.{edit_well, edit_canvas, edit_goes}
 use Rattle.rd_scene.proofs.Keyed.{each_well}
-use Rattle.rd_report.specs.Answers.{ok_line, refused_line, paint_line}
+use Rattle.rd_report.specs.Answers.{ok_line, refused_line, paint_line, undone_line}
 use Rattle.rd_stack.specs.Fresh.{fresh_list}
 use Rattle.rd_stack.proofs.Promises.{stands_for_itself}
-use Rattle.rd_run.specs.Machine.{State, Step, Run, Edits, Paints, PaintsIf, Asks, IsNumbered, painted_state, invalid_area, remade, number_in, one_done, one_refused, hit_answer, pixel_answer, dump_answer, shot_answer}
+use Rattle.rd_run.specs.Machine.{State, Step, Run, Edits, Paints, PaintsIf, Asks, TakesOne, TakesBack, Undoes, newest, older, noted, IsNumbered, painted_state, invalid_area, remade, number_in, one_done, one_refused, hit_answer, pixel_answer, dump_answer, shot_answer}
 use Rattle.rd_run.specs.Internal.Lasts.{IsWellFormed}
 
 -- no count that bounds work has fallen
@@ -129,6 +129,46 @@ ask_goes answer s h =
     let p = paints_if_goes s.pending s h in
     (p.0, p.1 ++ answer (p.0), (p.1, p.2, refl), p.3, p.4)
 
+-- the edits that undo another can always be done, or are refused
+record Taken (es : List Edit) (s : State) : Type 0 where
+  done : ℕ
+  last : State
+  goes : TakesBack es done s last
+  well : IsWellFormed last.tree
+  more : IsMore s last
+
+record OneTaken (o : Option EditFault) (e : Edit) (s : State) : Type 0 where
+  done : ℕ
+  next : State
+  goes : TakesOne o e done s next
+  well : IsWellFormed next.tree
+  more : IsMore s next
+
+one_taken : (e : Edit) (s : State) → IsWellFormed s.tree → (o : Option EditFault) → refusal_of s.tree e ≡ o → OneTaken o e s
+one_taken e s h (Some f) r = record { done = 0; next = s; goes = (refl, refl); well = h; more = more_same s }
+one_taken e s h None r =
+    let t = edit_goes e s.tree r in
+    record {
+      done = 1;
+      next = record s { tree = t.0; pending = true };
+      goes = (refl, (t.0, t.1, refl));
+      well = edited_well_formed e s.tree (t.0) t.1 h;
+      more = record { built = omega arith; looks = omega arith };
+    }
+
+all_taken : (es : List Edit) (s : State) → IsWellFormed s.tree → Taken es s
+all_taken [] s h = record { done = 0; last = s; goes = (refl, refl); well = h; more = more_same s }
+all_taken (e ∷ es) s h =
+    let p : OneTaken (refusal_of s.tree e) e s = one_taken e s h (refusal_of s.tree e) refl in
+    let q : Taken es p.next = all_taken es p.next p.well in
+    record {
+      done = p.done + q.done;
+      last = q.last;
+      goes = (p.done, q.done, p.next, p.goes, q.goes, refl);
+      well = q.well;
+      more = more_more s p.next q.last p.more q.more;
+    }
+
 pub step_goes : (c : Command) (s : State) → IsWellFormed s.tree → Goes (Step c) s
 step_goes (Change e) s h = change_goes (refusal_of s.tree e) refl
   where
@@ -137,7 +177,7 @@ step_goes (Change e) s h = change_goes (refusal_of s.tree e) refl
         (record s { counts = one_refused s.counts }, refused_line (number_of f), (refl, refl), h, record { built = omega arith; looks = omega arith })
     change_goes None r =
         let t = edit_goes e s.tree r in (
-          record s { tree = t.0; pending = true; counts = one_done s.counts },
+          record s { tree = t.0; pending = true; undos = noted s.tree e s.undos; counts = one_done e s },
           ok_line,
           (refl, (t.0, t.1, refl)),
           edited_well_formed e s.tree (t.0) t.1 h,
@@ -148,6 +188,13 @@ step_goes (Hit x y) s h = ask_goes (hit_answer x y) s h
 step_goes (Pixel x y) s h = ask_goes (pixel_answer x y) s h
 step_goes Dump s h = ask_goes dump_answer s h
 step_goes Shot s h = ask_goes shot_answer s h
+step_goes Undo s h = undo_goes (newest s.undos)
+  where
+    undo_goes : (o : Option (List Edit)) → Goes (Undoes o) s
+    undo_goes None = (s, undone_line None, (refl, refl), h, more_same s)
+    undo_goes (Some es) =
+        let p = all_taken es (record s { undos = older s.undos }) h in
+        (p.last, undone_line (Some p.done), (p.done, refl, p.goes), p.well, record { built = p.more.built; looks = p.more.looks })
 
 -- the machine does any commands
 pub run_goes : (cs : List Command) (s : State) → IsWellFormed s.tree → Goes (λ old text new. Run old cs text new) s

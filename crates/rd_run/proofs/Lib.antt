@@ -12,6 +12,7 @@ pub mod Showing
 pub mod Steps
 pub mod Sums
 pub mod Going
+pub mod Undoing
 pub mod Runs
 pub mod TiledRuns
 pub mod Following

@@ -1,5 +1,5 @@
 -- What a paint of the engine is to the machine.
-use Rattle.std.proofs.Common.{◌≡◌, ℕ, ◌+◌, ◌*◌, ◌≤◌, Bool, true, false, cond, List, [], ◌∷◌, ◌++◌, length, refl, sym, ◌∙◌, ap, ap₂, subst, arith, Option, Some, None}
+use Rattle.std.proofs.Common.{◌≡◌, ℕ, ◌+◌, ◌*◌, ◌≤◌, Bool, true, false, cond, List, ◌∷◌, ◌++◌, length, refl, sym, ◌∙◌, ap, ap₂, subst, arith, Option, Some, None, []}
 use Rattle.std.specs.Prelude.{Contains, AllPairs, if◌then◌else◌, ◌-◌}
 use Rattle.std.specs.List.{AllByRecursion}
 use Rattle.rd_geom.specs.Areas.{Region, meets_area, count_of}
@@ -149,7 +149,7 @@ module _ (s : State) (x : SessionState) (sh : Shows x s) where
     }
 
     abbrev after : SessionState
-    after = record { engine = now; accepted = x.accepted; refused = x.refused; built = x.built + note.built; area = x.area + note.area }
+    after = record { engine = now; accepted = x.accepted; refused = x.refused; built = x.built + note.built; area = x.area + note.area; keeps = x.keeps; undo = x.undo }
 
     shows : Shows after (painted_state s (unordered now.kept.entries))
     shows = record {
@@ -165,6 +165,8 @@ module _ (s : State) (x : SessionState) (sh : Shows x s) where
       refused = sh.refused;
       built = ap₂ (λ a b. a + b) sh.built (sym built_is);
       area = ap₂ (λ a b. a + b) sh.area (sym area_is);
+      undos = sh.undos;
+      room = sh.room;
       well_formed = settled_sound s.tree sh.well_formed;
     }
 

@@ -1,5 +1,5 @@
 -- What a script's tree is: well formed, on the script's canvas, with each box touched; and what answers its commands.
-use Rattle.std.proofs.Common.{◌≡◌, ◌⊎◌, ℕ, ◌+◌, ◌≤◌, Bool, false, refl, ap, ◌∙◌, sym, subst, Option, None, List, [], ◌∷◌, inl, inr, arith}
+use Rattle.std.proofs.Common.{◌≡◌, ◌⊎◌, ℕ, ◌+◌, ◌≤◌, Bool, false, refl, ap, ◌∙◌, sym, subst, Option, None, List, ◌∷◌, inl, inr, arith, []}
 use Rattle.std.specs.Prelude.{Result, Err, IsErrOf}
 use Rattle.rd_geom.specs.Canvas.{IsCanvas}
 use Rattle.rd_item.specs.Items.{Made}
@@ -54,27 +54,27 @@ planted_all s t p = every_touched t.boxes (planted_touched s t p)
 
 -- ---- answers
 
-module _ (untouched : Type 0) (s : Script) (t : Document) (cs : List Command) (out : Stream) (m n l k : ℕ) where
+module _ (untouched : Type 0) (s : Script) (v : ℕ) (t : Document) (cs : List Command) (out : Stream) (m n l k : ℕ) where
   -- an answer to all commands of a script is an answer to the script
-  pub answered_all : Plants s t → cs ≡ s.commands → AnswersAll (counter m n) (counter l k) (start t) cs out
+  pub answered_all : Plants s t → v ≡ s.version → cs ≡ s.commands → AnswersAll (counter m n) (counter l k) (start v t) cs out
       → AnsweredAll untouched (IsScriptAnswer s) out (counter m n) (counter l k)
-  answered_all p e a =
+  answered_all p u e a =
       let c = a.3 in let x = c.items in let y = c.taken in (
         a.1,
         (a.0).counts,
-        (a.0, (t, p, subst (λ (c : List Command). Run (start t) c (a.1) (a.0)) e a.2), refl),
+        (a.0, (t, p, subst (λ (w : ℕ). Run (start w t) s.commands (a.1) (a.0)) u (subst (λ (c : List Command). Run (start v t) c (a.1) (a.0)) e a.2)), refl),
         a.4,
         omega (arith, x),
         omega (arith, y),
       )
 
-  pub answered_part : Plants s t → cs ≡ s.commands → AnswersPart (counter m n) (counter l k) (start t) cs out
+  pub answered_part : Plants s t → v ≡ s.version → cs ≡ s.commands → AnswersPart (counter m n) (counter l k) (start v t) cs out
       → AnsweredPart untouched (IsScriptAnswer s) out (counter m n) (counter l k)
-  answered_part p e a =
+  answered_part p u e a =
       let c = a.3 in let x = c.items in let y = c.taken in (
         a.1,
         (a.0).counts,
-        (a.0, (t, p, subst (λ (c : List Command). Run (start t) c (a.1) (a.0)) e a.2), refl),
+        (a.0, (t, p, subst (λ (w : ℕ). Run (start w t) s.commands (a.1) (a.0)) u (subst (λ (c : List Command). Run (start v t) c (a.1) (a.0)) e a.2)), refl),
         a.4,
         omega (arith, x),
         omega (arith, y),
@@ -94,24 +94,24 @@ module _ (untouched : Type 0) (is_answer : List ℕ → Counts → Type 0) (out 
 
 -- ---- scripts whose commands are done
 
-module _ (script : Script) (t : Document) (cs : List Command) (m n o l k j : ℕ) where
-  commands_of : (a : State) (text : List ℕ) → cs ≡ script.commands → Run (start t) cs text a → Run (start t) script.commands text a
-  commands_of a text e r = subst (λ (c : List Command). Run (start t) c text a) e r
+module _ (script : Script) (v : ℕ) (t : Document) (cs : List Command) (m n o l k j : ℕ) where
+  commands_of : (a : State) (text : List ℕ) → v ≡ script.version → cs ≡ script.commands → Run (start v t) cs text a → Run (start script.version t) script.commands text a
+  commands_of a text u e r = subst (λ (w : ℕ). Run (start w t) script.commands text a) u (subst (λ (c : List Command). Run (start v t) c text a) e r)
 
   -- after the last paint
-  pub finished_on : (was now : SessionState) → Plants script t → cs ≡ script.commands → Performs (counter m n) (counter l k) (start t) cs was
+  pub finished_on : (was now : SessionState) → Plants script t → v ≡ script.version → cs ≡ script.commands → Performs (counter m n) (counter l k) (start v t) cs was
       → ((s : State) → Shows was s → Does (PaintsIf was.engine.pending) (counter n o) (counter k j) s now)
       → now.engine.pending ≡ false → Finished (counter m o) (counter l j) script now
-  finished_on was now p e a f done =
+  finished_on was now p u e a f done =
       let d = f (a.0) a.4 in
-      let c = counted_on (start t) (a.0) (d.1.0) m n o l k j a.3 d.1.3 in
+      let c = counted_on (start v t) (a.0) (d.1.0) m n o l k j a.3 d.1.3 in
       let x = c.items in let y = c.taken in (
         d.1.0,
         (
           a.1,
           d.0,
           a.0,
-          (t, p, commands_of (a.0) (a.1) e a.2),
+          (t, p, commands_of (a.0) (a.1) u e a.2),
           subst (λ (b : Bool). PaintsIf b (a.0) (d.0) (d.1.0)) (sym a.4.pending) d.1.1,
         ),
         record { items = x; taken = y },
@@ -120,19 +120,19 @@ module _ (script : Script) (t : Document) (cs : List Command) (m n o l k j : ℕ
       )
 
   -- where the last paint gave up
-  pub may_finish_on : (was : SessionState) → Plants script t → cs ≡ script.commands → Performs (counter m n) (counter l k) (start t) cs was
+  pub may_finish_on : (was : SessionState) → Plants script t → v ≡ script.version → cs ≡ script.commands → Performs (counter m n) (counter l k) (start v t) cs was
       → ((s : State) → Shows was s → MayGoOn (PaintsIf was.engine.pending) (counter n o) (counter k j) s)
       → MayFinish (counter m o) (counter l j) script
-  may_finish_on was p e a f =
+  may_finish_on was p u e a f =
       let d = f (a.0) a.4 in
-      let c = within_on (start t) (a.0) (d.1) m n o l k j a.3 d.4 in
+      let c = within_on (start v t) (a.0) (d.1) m n o l k j a.3 d.4 in
       let x = c.items in let y = c.taken in (
         d.1,
         (
           a.1,
           d.0,
           a.0,
-          (t, p, commands_of (a.0) (a.1) e a.2),
+          (t, p, commands_of (a.0) (a.1) u e a.2),
           subst (λ (b : Bool). PaintsIf b (a.0) (d.0) (d.1)) (sym a.4.pending) d.2,
         ),
         record { items = x; taken = y },
@@ -140,14 +140,14 @@ module _ (script : Script) (t : Document) (cs : List Command) (m n o l k j : ℕ
       )
 
   -- where a command gave up
-  pub may_finish : Plants script t → cs ≡ script.commands → MayPerform (counter m n) (counter l k) (start t) cs
+  pub may_finish : Plants script t → v ≡ script.version → cs ≡ script.commands → MayPerform (counter m n) (counter l k) (start v t) cs
       → MayFinish (counter m n) (counter l k) script
-  may_finish p e a =
+  may_finish p u e a =
       let d = paints_if_goes (a.0).pending (a.0) a.4 in
-      let c = within_more (start t) (a.0) m n l k (d.0) a.3 d.4 in
+      let c = within_more (start v t) (a.0) m n l k (d.0) a.3 d.4 in
       let x = c.items in let y = c.taken in (
         d.0,
-        (a.1, d.1, a.0, (t, p, commands_of (a.0) (a.1) e a.2), d.2),
+        (a.1, d.1, a.0, (t, p, commands_of (a.0) (a.1) u e a.2), d.2),
         record { items = x; taken = y },
         d.3,
       )

@@ -3,7 +3,7 @@ use Rattle.std.proofs.Common.{◌≡◌, ℕ, ◌+◌, ◌*◌, ◌^◌, ◌≤�
 use Rattle.std.specs.Prelude.{Result, Ok, Err, OnErr}
 use Rattle.rd_edits.specs.declared.edit.Edit.{Edit}
 use Rattle.rd_scene.specs.declared.script.Command.{Command}
-use Rattle.rd_scene.specs.declared.script.Command.TheVariants.{Change, Paint, Hit, Pixel, Dump, Shot}
+use Rattle.rd_scene.specs.declared.script.Command.TheVariants.{Change, Paint, Hit, Pixel, Dump, Shot, Undo}
 use Rattle.rd_run.specs.Endings.{Counter}
 use Rattle.rd_run.specs.Machine.{State, Step, Asks, Paints, PaintsIf}
 use Rattle.rd_run.specs.Internal.Session.{SessionState, Shows, IsFew, Advances, Does, Tells, MayGoOn, reply}
@@ -56,14 +56,15 @@ module _ (s : State) (x : SessionState) (sh : Shows x s) where
     pub asks_does : (line : List ℕ) (now : SessionState) → Advances (PaintsIf x.engine.pending) made looks s line now → Does (Asks answer) made looks s now
     asks_does line now a = (line ++ answer a.0, (a.0, asks_of answer line a.0 a.1, a.2, a.3))
 
--- an answer to a question is a step, and what is no question is an edit or a paint
-pub step_of : (q : Command) → ((e : Edit) → q ≡ Change e → ⊥) → (q ≡ Paint → ⊥) → (s : State) (text : List ℕ) (next : State) → Asks (reply q) s text next → Step q s text next
-step_of (Change e) n m s text next a = absurd (n e refl)
-step_of Paint n m s text next a = absurd (m refl)
-step_of (Hit x y) n m s text next a = a
-step_of (Pixel x y) n m s text next a = a
-step_of Dump n m s text next a = a
-step_of Shot n m s text next a = a
+-- an answer to a question is a step, and what is no question is an edit, a paint or an undo
+pub step_of : (q : Command) → ((e : Edit) → q ≡ Change e → ⊥) → (q ≡ Paint → ⊥) → (q ≡ Undo → ⊥) → (s : State) (text : List ℕ) (next : State) → Asks (reply q) s text next → Step q s text next
+step_of (Change e) n m u s text next a = absurd (n e refl)
+step_of Paint n m u s text next a = absurd (m refl)
+step_of (Hit x y) n m u s text next a = a
+step_of (Pixel x y) n m u s text next a = a
+step_of Dump n m u s text next a = a
+step_of Shot n m u s text next a = a
+step_of Undo n m u s text next a = absurd (u refl)
 
 -- what holds anyway holds of a failure
 pub on_err : {A E P : Type 0} (r : Result A E) → P → OnErr r P

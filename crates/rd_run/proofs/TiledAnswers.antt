@@ -1,5 +1,5 @@
 -- What answers a script on tiles.
-use Rattle.std.proofs.Common.{◌≡◌, ℕ, ◌+◌, ◌≤◌, Bool, List, [], ◌++◌, Option, refl, sym, ◌∙◌, ap, subst, append_assoc, arith, inr}
+use Rattle.std.proofs.Common.{◌≡◌, ℕ, ◌+◌, Bool, List, ◌++◌, Option, refl, sym, ◌∙◌, ap, subst, append_assoc, arith, inr, []}
 use Rattle.std.specs.Prelude.{string_bytes}
 use Rattle.sha2.specs.Sha256.{sha256}
 use Rattle.rd_report.specs.Summaries.{final_line}
@@ -34,7 +34,7 @@ tiles_unwritten untouched m n l k script o f a =
     let end : State = a.0 in
     let mid : State = a.1.2 in
     let t : Document = a.1.3.0 in
-    let q = tiled_of (start t) script.commands (a.1.0) mid a.1.3.2 in
+    let q = tiled_of (start script.version t) script.commands (a.1.0) mid a.1.3.2 in
     let text : List ℕ = q.0 ++ (tiled_line mid end ++ final_line (sha256 (picture end.tree))) in
     inr (
       refl,
@@ -54,15 +54,15 @@ pub all_does : (P : State → List ℕ → State → Type 0) (n o k j : ℕ) (wa
 all_does P n o k j was now x u f s sh = let d = f s sh in (d.0, (d.1, d.2, d.3, d.4))
 
 -- the whole answer: the commands, the paint at their end, and the digest of the picture
-module _ (script : Script) (t : Document) (cs : List Command) (m n o l k j : ℕ) (was now : SessionState) (x u : Follower) where
-  pub told_whole : (all : List ℕ) → Plants script t → cs ≡ script.commands → PerformsOnTiles (counter m n) (counter l k) (start t) cs (string_bytes x.text) was
+module _ (script : Script) (v : ℕ) (t : Document) (cs : List Command) (m n o l k j : ℕ) (was now : SessionState) (x u : Follower) where
+  pub told_whole : (all : List ℕ) → Plants script t → v ≡ script.version → cs ≡ script.commands → PerformsOnTiles (counter m n) (counter l k) (start v t) cs (string_bytes x.text) was
       → ((s : State) → Shows was s → GoesOnTiles (PaintsIf was.engine.pending) (counter n o) (counter k j) s x now u)
       → all ≡ string_bytes u.text ++ final_line (sha256 (picture now.engine.tree))
       → AnswersOnTiles (counter m o) (counter l j) script all
-  told_whole all p e a f is =
+  told_whole all p w e a f is =
       let d = f (a.0) a.3 in
       let end : State = d.1 in
-      let c = counted_on (start t) (a.0) end m n o l k j a.2 d.4 in
+      let c = counted_on (start v t) (a.0) end m n o l k j a.2 d.4 in
       let i = c.items in let y = c.taken in
       let last : List ℕ = final_line (sha256 (picture now.engine.tree)) in
       let text_is : all ≡ string_bytes x.text ++ (tiled_line (a.0) end ++ final_line (sha256 (picture end.tree))) =
@@ -76,7 +76,7 @@ module _ (script : Script) (t : Document) (cs : List Command) (m n o l k j : ℕ
           a.0,
           end,
           p,
-          subst (λ (c : List Command). TiledRun (start t) c (string_bytes x.text) (a.0)) e a.1,
+          subst (λ (b : ℕ). TiledRun (start b t) script.commands (string_bytes x.text) (a.0)) w (subst (λ (c : List Command). TiledRun (start v t) c (string_bytes x.text) (a.0)) e a.1),
           subst (λ (b : Bool). PaintsIf b (a.0) (d.0) end) (sym a.3.pending) d.2,
           text_is,
           refl,

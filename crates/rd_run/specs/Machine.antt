@@ -1,7 +1,8 @@
 -- The machine: what the program may answer to the commands of a script. It is this project's own choice.
-use Rattle.std.specs.Prelude.{◌≡◌, ℕ, ℤ, ◌+◌, Bool, true, false, if◌then◌else◌, List, [], ◌∷◌, ◌++◌, length, find, Option, Some, None, option_map}
+use Rattle.std.specs.Prelude.{◌≡◌, ℕ, ℤ, ◌+◌, ◌-◌, ◌==◌, Bool, true, false, if◌then◌else◌, List, ◌∷◌, ◌++◌, length, take, find, Option, Some, None, option_map, option_and_then, []}
 use Rattle.std.specs.List.{AllByRecursion}
 use Rattle.std.specs.Option.{option_map_or}
+use Rattle.circular_buffer.specs.Buffer.{keep_last, last_item}
 use Rattle.sha2.specs.Sha256.{sha256}
 use Rattle.rd_geom.specs.Areas.{Region, meets_area, count_of}
 use Rattle.rd_item.specs.declared.leaf.Leaf.{Leaf}
@@ -15,16 +16,18 @@ use Rattle.rd_edits.specs.declared.edit.Edit.{Edit}
 use Rattle.rd_edits.specs.declared.fault.EditFault.{EditFault}
 use Rattle.rd_edits.specs.Refusals.{refusal_of, number_of}
 use Rattle.rd_edits.specs.Edited.{IsEdited}
+use Rattle.rd_undo.specs.Inverse.{inverse, boxes_of}
 use Rattle.rd_stack.specs.Fresh.{fresh_list}
 use Rattle.rd_engine.specs.Invalid.{area_due, remade_in, looks_in}
 use Rattle.rd_engine.specs.Painted.{untouched, shown_at}
 use Rattle.rd_scene.specs.Scripts.{Script}
 use Rattle.rd_scene.specs.declared.script.Command.{Command}
-use Rattle.rd_scene.specs.declared.script.Command.TheVariants.{Change, Paint, Hit, Pixel, Dump, Shot}
+use Rattle.rd_scene.specs.declared.script.Command.TheVariants.{Change, Paint, Hit, Pixel, Dump, Shot, Undo}
 use Rattle.rd_scene.specs.Planting.{Plants}
-use Rattle.rd_report.specs.Answers.{ok_line, refused_line, paint_line, hit_line, pixel_line, shot_line}
+use Rattle.rd_report.specs.Answers.{ok_line, refused_line, paint_line, hit_line, pixel_line, shot_line, undone_line}
 use Rattle.rd_report.specs.Dumps.{dump_lines}
 use Rattle.rd_report.specs.Words.{id_text}
+use Rattle.rd_run.specs.Figures.{max_undos}
 use Rattle.rd_run.specs.Pictures.{picture}
 
 -- what is counted from the first command on: edits that were done and that were refused, the items that all paints made,
@@ -36,22 +39,31 @@ pub record Counts : Type 0 where
   pub area : ℕ
   pub looks : ℕ
 
+-- For each of some edits the edits that undo it, the newest last.
+abbrev pub Undos : Type 0
+Undos = List (List Edit)
+
 -- what one command hands to the next: the tree, the tree at the last paint, whether the list is pending, how many paints
--- there were, the kept list, and what was counted
+-- there were, the kept list, what undoes the latest edits, where the script has undos, and what was counted
 pub record State : Type 0 where
   pub tree : Document
   pub last : Option Document
   pub pending : Bool
   pub paints : ℕ
   pub kept : Entries Wrapper Made
+  pub undos : Option Undos
   pub counts : Counts
 
 abbrev pub no_counts : Counts
 no_counts = record { accepted = 0; refused = 0; built = 0; area = 0; looks = 0 }
 
--- before the first command
-abbrev pub start : Document → State
-start t = record { tree = t; last = None; pending = true; paints = 0; kept = nil; counts = no_counts }
+-- nothing is to be undone yet; only version 2 has undos
+abbrev pub first_undos : ℕ → Option Undos
+first_undos version = if version == 2 then Some [] else None
+
+-- before the first command of a script of this version
+abbrev pub start : ℕ → Document → State
+start version t = record { tree = t; last = None; pending = true; paints = 0; kept = nil; undos = first_undos version; counts = no_counts }
 
 -- the pixels of the canvas that a paint has to paint anew: the list of the last paint was that of the tree then
 abbrev pub invalid_area : State → Region
@@ -91,6 +103,7 @@ painted_state old kept = record {
   pending = false;
   paints = old.paints + 1;
   kept = kept;
+  undos = old.undos;
   counts = painted_counts old;
 }
 
@@ -130,9 +143,21 @@ dump_answer s = dump_lines s.tree.boxes s.kept
 abbrev pub shot_answer : State → List ℕ
 shot_answer s = shot_line (sha256 (picture s.tree))
 
+-- with what undoes one more edit; the oldest goes where there are as many as are kept
+abbrev pub noted : Document → Edit → Option Undos → Option Undos
+noted t e o = option_map (λ us. keep_last max_undos (us ++ inverse t e ∷ [])) o
+
+-- how often boxes may be looked at to tell what undoes an edit
+abbrev pub noting_looks : Document → Edit → Option Undos → ℕ
+noting_looks t e None = 0
+noting_looks t e (Some us) = boxes_of t e
+
 -- one more edit was done, or was refused
-abbrev pub one_done : Counts → Counts
-one_done c = record c { accepted = c.accepted + 1 }
+abbrev pub one_done : Edit → State → Counts
+one_done e s = record s.counts {
+  accepted = s.counts.accepted + 1;
+  looks = s.counts.looks + noting_looks s.tree e s.undos;
+}
 
 abbrev pub one_refused : Counts → Counts
 one_refused c = record c { refused = c.refused + 1 }
@@ -143,7 +168,31 @@ Edits (Some f) e old text new =
     (text ≡ refused_line (number_of f)) × (new ≡ record old { counts = one_refused old.counts })
 Edits None e old text new =
     (text ≡ ok_line) × ((t : Document) × IsEdited e old.tree t
-    × (new ≡ record old { tree = t; pending = true; counts = one_done old.counts }))
+    × (new ≡ record old { tree = t; pending = true; undos = noted old.tree e old.undos; counts = one_done e old }))
+
+-- One of the edits that undo another. It is done, which is counted by the one number, or a test refuses it; no undo is kept of it.
+abbrev pub TakesOne : Option EditFault → Edit → ℕ → State → State → Type 0
+TakesOne (Some f) e n old new = (n ≡ 0) × (new ≡ old)
+TakesOne None e n old new = (n ≡ 1) × ((t : Document) × IsEdited e old.tree t × (new ≡ record old { tree = t; pending = true }))
+
+-- The same of some, one after another.
+abbrev pub TakesBack : List Edit → ℕ → State → State → Type 0
+TakesBack [] n old new = (n ≡ 0) × (new ≡ old)
+TakesBack (e ∷ es) n old new =
+    (m : ℕ) × (k : ℕ) × (mid : State) × TakesOne (refusal_of old.tree e) e m old mid × TakesBack es k mid new × (n ≡ m + k)
+
+-- what undoes the latest edit that is not undone yet, and the others
+abbrev pub newest : Option Undos → Option (List Edit)
+newest o = option_and_then last_item o
+
+abbrev pub older : Option Undos → Option Undos
+older o = option_map (λ us. take (length us - 1) us) o
+
+-- An undo of an edit, where there is one.
+abbrev pub Undoes : Option (List Edit) → State → List ℕ → State → Type 0
+Undoes None old text new = (text ≡ undone_line None) × (new ≡ old)
+Undoes (Some es) old text new =
+    (n : ℕ) × (text ≡ undone_line (Some n)) × TakesBack es n (record old { undos = older old.undos }) new
 
 -- From old, the machine may answer a command by this text and go on to new.
 abbrev pub Step : Command → State → List ℕ → State → Type 0
@@ -153,6 +202,7 @@ Step (Hit x y) old text new = Asks (hit_answer x y) old text new
 Step (Pixel x y) old text new = Asks (pixel_answer x y) old text new
 Step Dump old text new = Asks dump_answer old text new
 Step Shot old text new = Asks shot_answer old text new
+Step Undo old text new = Undoes (newest old.undos) old text new
 
 -- The machine may answer these commands by this text, one after another.
 abbrev pub Run : State → List Command → List ℕ → State → Type 0
@@ -163,7 +213,7 @@ Run old (c ∷ cs) text new =
 
 -- The machine may answer the commands of a script by this text, and end in this state, from a tree that the script plants.
 abbrev pub Answers : Script → List ℕ → State → Type 0
-Answers s text new = (t : Document) × Plants s t × Run (start t) s.commands text new
+Answers s text new = (t : Document) × Plants s t × Run (start s.version t) s.commands text new
 
 -- The machine may do the commands of a script and end in this state, with a paint if the list is pending then.
 abbrev pub Finishes : Script → State → Type 0

@@ -19,5 +19,5 @@ pub record HasNoRetiredSlot (t : Document) : Type 0 where
 abbrev pub SlotsLaw : Type 0
 SlotsLaw =
     (s : Script) (t : Document) (before after : List Command) (text : List ℕ) (now : State)
-    → IsScript s → Plants s t → s.commands ≡ before ++ after → Run (start t) before text now
+    → IsScript s → Plants s t → s.commands ≡ before ++ after → Run (start s.version t) before text now
     → HasNoRetiredSlot now.tree

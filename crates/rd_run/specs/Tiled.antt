@@ -1,5 +1,5 @@
 -- What is told of the tiles that the paints of a script repaint. It is this project's own choice.
-use Rattle.std.specs.Prelude.{◌≡◌, ℕ, ◌*◌, nat_lt, if◌then◌else◌, List, [], ◌∷◌, ◌++◌}
+use Rattle.std.specs.Prelude.{◌≡◌, ℕ, ◌*◌, nat_lt, if◌then◌else◌, List, ◌∷◌, ◌++◌, []}
 use Rattle.sha2.specs.Sha256.{sha256}
 use Rattle.rd_geom.specs.declared.rect.Size.{Size}
 use Rattle.rd_report.specs.Summaries.{final_line}
@@ -35,6 +35,6 @@ TiledRun old (c ∷ cs) lines new =
 abbrev pub IsScriptTiles : Script → List ℕ → Counts → Type 0
 IsScriptTiles s text counts =
     (t : Document) × (lines : List ℕ) × (line : List ℕ) × (mid : State) × (end : State)
-    × Plants s t × TiledRun (start t) s.commands lines mid × PaintsIf mid.pending mid line end
+    × Plants s t × TiledRun (start s.version t) s.commands lines mid × PaintsIf mid.pending mid line end
     × (text ≡ lines ++ (tiled_line mid end ++ final_line (sha256 (picture end.tree))))
     × (counts ≡ end.counts)

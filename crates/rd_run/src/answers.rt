@@ -131,7 +131,7 @@ pub(crate) fn answer<O: Sink, A: Ledger, B: Ledger>(
         Ok(tree) => tree,
         Err(_) => return Status::NoMemory,
     };
-    let mut session = match Session::new(alloc, tree) {
+    let mut session = match Session::new(alloc, script.version, tree) {
         Ok(session) => session,
         Err(_) => return Status::NoMemory,
     };

@@ -22,6 +22,7 @@ use std::sync::ledger::Ledger;
 
 /// Does the commands in turn.
 fn perform_all<A: Ledger, B: Ledger>(
+    alloc: Global,
     session: &mut Session<A, B>,
     commands: &[Command],
     made: &mut Steps<A>,
@@ -36,7 +37,7 @@ fn perform_all<A: Ledger, B: Ledger>(
     ensures count { IsFew session.new max_commands }
 {
     for command in commands {
-        session.perform(command, made, looks)?;
+        session.perform(alloc, command, made, looks)?;
     }
     Ok(())
 }
@@ -55,8 +56,8 @@ fn performed<A: Ledger, B: Ledger>(
 {
     let commands = &script.commands;
     let tree: Tree<B> = plant(alloc, script)?;
-    let mut session = Session::new(alloc, tree)?;
-    perform_all(&mut session, commands, made, looks)?;
+    let mut session = Session::new(alloc, script.version, tree)?;
+    perform_all(alloc, &mut session, commands, made, looks)?;
     session.finish(made, looks)?;
     Ok(session)
 }

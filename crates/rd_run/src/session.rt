@@ -1,16 +1,19 @@
 //! An engine, and what it did since the first command.
 
-ghost use Rattle.std.specs.Prelude.{◌≡◌, ◌+◌, ◌^◌, ◌++◌, ℕ, false, IfOk, OnOk, OnErr};
+ghost use Rattle.std.specs.Prelude.{◌≡◌, ◌+◌, ◌^◌, ◌∷◌, ◌++◌, ◌≤◌, ℕ, true, false, IfOk, OnOk, OnErr, None as Nothing, []};
 ghost use Rattle.std.specs.Prelude.{string_bytes, option_map, option_copied};
+ghost use Rattle.circular_buffer.specs.Buffer.{buffer, keep_last};
 ghost use Rattle.rd_engine.specs.Painted.{IsAllTouched, IsBegun};
 ghost use Rattle.rd_engine.specs.State.{IsEngine};
 ghost use Rattle.rd_list.specs.Lists.{hit};
 ghost use Rattle.rd_stack.specs.Fresh.{fresh_list};
-ghost use Rattle.rd_report.specs.Answers.{paint_line};
+ghost use Rattle.rd_edits.specs.Refusals.{refusal_of};
+ghost use Rattle.rd_report.specs.Answers.{ok_line, paint_line, undone_line};
 ghost use Rattle.rd_report.specs.Words.{id_text};
-ghost use Rattle.rd_scene.specs.declared.script.Command.TheVariants.{Change};
+ghost use Rattle.rd_scene.specs.declared.script.Command.TheVariants.{Change, Undo as Undoing};
 ghost use Rattle.rd_run.specs.Endings.{counter};
-ghost use Rattle.rd_run.specs.Machine.{State, Step, Asks, Paints, PaintsIf, start};
+ghost use Rattle.rd_run.specs.Figures.{max_undos};
+ghost use Rattle.rd_run.specs.Machine.{State, Step as MachineStep, Asks, Paints, PaintsIf, TakesBack, TakesOne, start};
 ghost use Rattle.rd_list.specs.Unordered.{unordered};
 ghost use Rattle.rd_wire.specs.Wires.{spelled};
 ghost use Rattle.rd_run.specs.Pictures.{picture};
@@ -19,19 +22,29 @@ ghost use Rattle.rd_run.specs.Internal.Session.{Shows, IsFew, Advances, Does, Te
 ghost use Rattle.rd_run.specs.Internal.Session.{PaintsOnce, PaintsNot, Watched};
 ghost use Rattle.rd_run.specs.Internal.Session.{line_if, edit_line, reply};
 
-use rd_edits::{Edit, EditFault};
+use rd_edits::{Edit, EditFault, verdict};
 use rd_engine::{Engine, PaintNote};
 use rd_geom::{NoMemory, Steps};
 use rd_report::{Answer, digest, p6, push_dump, push_line};
 use rd_scene::Command;
 use rd_tree::{Id, Tree};
+use rd_undo::{Step, Undo};
 use rd_wire::encode;
 use std::alloc::{AllocError, Global};
 use std::marker::Model;
 use std::sync::ledger::Ledger;
 
+/// How many edits can be taken back one after another.
+const MAX_UNDOS: u32 = 100;
+
+/// The limit, so that clauses can say what it is.
+fn figure()
+    ensures { MAX_UNDOS ≡ max_undos }
+{}
+
 /// An engine, how many edits were done and refused since the first command, and the sums of the items that its paints
-/// made and of the pixels of their areas. After want of memory it is of no further use.
+/// made and of the pixels of their areas. In version 2 it keeps what undoes the latest edits. After want of memory it is of
+/// no further use.
 #[derive(Drop)]
 pub(crate) struct Session<A: Ledger, B: Ledger> {
     pub(crate) engine: Engine<A, B>,
@@ -39,6 +52,8 @@ pub(crate) struct Session<A: Ledger, B: Ledger> {
     pub(crate) refused: u64,
     pub(crate) built: u64,
     pub(crate) area: u64,
+    keeps: bool,
+    undo: Undo,
 }
 
 impl<A: Ledger, B: Ledger> Model for Session<A, B> {
@@ -56,13 +71,14 @@ impl<A: Ledger, B: Ledger> Model for Session<A, B> {
     ghost use Rattle.rd_tree.specs.contracts.node.Item as item;
     ghost use Rattle.rd_graph.specs.contracts.graph.OrderGraph as order;
     ghost use Rattle.rd_item.specs.contracts.leaf.Leaf as leaf;
+    ghost use Rattle.rd_undo.specs.contracts.undo.Undo as undo_row;
 
     ghost Value = { SessionState };
 
     ghost coded = { session_code (engine_code
         (document_code canvas_size.the_row.coded (key.the_row mark.the_row).coded item.the_row.coded)
         (kept_code order.the_row.coded (wrapper_code (key.the_row mark.the_row).coded) (made_code leaf.the_row.coded))
-        px.the_row.coded (region_code canvas_size.the_row.coded span.the_row.coded)) };
+        px.the_row.coded (region_code canvas_size.the_row.coded span.the_row.coded)) undo_row.the_row.coded };
 
     ghost view = { λ x. record {
       engine = x.engine;
@@ -70,6 +86,8 @@ impl<A: Ledger, B: Ledger> Model for Session<A, B> {
       refused = x.refused;
       built = x.built;
       area = x.area;
+      keeps = x.keeps;
+      undo = x.undo;
     } };
 }
 
@@ -105,22 +123,32 @@ fn push_edit(alloc: Global, text: &mut String, refused: &Option<u8>) -> Result<(
     }
 }
 
+/// Keeps one more step. The oldest goes where there are as many as are kept.
+fn note(undo: &mut Undo, step: Step)
+    ensures { undo.new ≡ buffer (keep_last undo.old.capacity (undo.old.items ++ step ∷ [])) undo.old.capacity }
+{
+    let _oldest = undo.push(step);
+}
+
 impl<A: Ledger, B: Ledger> Session<A, B> {
-    /// Before the first command.
-    pub(crate) fn new(alloc: Global, tree: Tree<B>) -> Result<Session<A, B>, NoMemory>
+    /// Before the first command of a script of this version.
+    pub(crate) fn new(alloc: Global, version: u8, tree: Tree<B>) -> Result<Session<A, B>, NoMemory>
         requires touched { IsAllTouched tree }
         requires well_formed { IsWellFormed tree }
-        ensures shows { IfOk result (λ x. Shows x (start tree)) }
+        ensures shows { IfOk result (λ x. Shows x (start version tree)) }
         ensures few { IfOk result (λ x. IsFew x 0) }
         ensures begun { IfOk result (λ x. IsBegun tree x.engine) }
     {
         let engine = Engine::new(alloc, tree)?;
+        let undo = Undo::new(alloc, MAX_UNDOS)?;
         Ok(Session {
             engine,
             accepted: 0,
             refused: 0,
             built: 0,
             area: 0,
+            keeps: version == 2,
+            undo,
         })
     }
 
@@ -185,11 +213,12 @@ impl<A: Ledger, B: Ledger> Session<A, B> {
         }
     }
 
-    /// Does an edit, or gives the number of the first test that refuses it.
-    fn edit(&mut self, edit: &Edit) -> Result<Option<u8>, NoMemory>
+    /// Does an edit, or gives the number of the first test that refuses it. What undoes it is not kept.
+    fn edit_only(&mut self, edit: &Edit) -> Result<Option<u8>, NoMemory>
         requires few { IsFew self.old (2 ^ 29) }
-        ensures ok { IfOk result (λ refused. (s : State) → Shows self.old s
-            → Advances (Step (Change edit.now)) (counter 0 0) (counter 0 0) s (edit_line refused) self.new) }
+        requires keeps { self.old.keeps ≡ false }
+        ensures ok { IfOk result (λ refused. (s : State) (m l : ℕ) → Shows self.old s
+            → Advances (MachineStep (Change edit.now)) (counter m m) (counter l l) s (edit_line refused) self.new) }
         ensures count { (n : ℕ) → IsFew self.old n → IsFew self.new (n + 1) }
         ensures watched { OnOk result (PaintsNot self.old.engine self.new.engine) }
     {
@@ -205,6 +234,141 @@ impl<A: Ledger, B: Ledger> Session<A, B> {
                     Ok(Some(fault.number()))
                 }
             },
+        }
+    }
+
+    /// Does an edit that no test refuses, and keeps what undoes it.
+    fn do_noted(&mut self, alloc: Global, edit: &Edit, looks: &mut Steps<B>) -> Result<(), NoMemory>
+        requires few { IsFew self.old (2 ^ 29) }
+        requires keeps { self.old.keeps ≡ true }
+        requires accepted { refusal_of self.old.engine.tree edit.now ≡ Nothing }
+        ensures ok { OnOk result ((s : State) (m : ℕ) → Shows self.old s
+            → Advances (MachineStep (Change edit.now)) (counter m m) (counter looks.old looks.new) s ok_line self.new) }
+        ensures err { OnErr result ((s : State) (m : ℕ) → Shows self.old s
+            → MayGoOn (MachineStep (Change edit.now)) (counter m m) (counter looks.old looks.new) s) }
+        ensures count { (n : ℕ) → IsFew self.old n → IsFew self.new (n + 1) }
+        ensures watched { OnOk result (PaintsNot self.old.engine self.new.engine) }
+    {
+        let step = Step::prepare(alloc, self.engine.tree(), edit, looks)?;
+        match self.engine.edit(edit) {
+            Ok(()) => {
+                self.accepted += 1;
+                note(&mut self.undo, step);
+                Ok(())
+            }
+            Err(_) => Err(AllocError),
+        }
+    }
+
+    /// Does an edit, or gives the number of the first test that refuses it. Keeps what undoes it.
+    fn edit_noted(
+        &mut self,
+        alloc: Global,
+        edit: &Edit,
+        looks: &mut Steps<B>,
+    ) -> Result<Option<u8>, NoMemory>
+        requires few { IsFew self.old (2 ^ 29) }
+        requires keeps { self.old.keeps ≡ true }
+        ensures ok { IfOk result (λ refused. (s : State) (m : ℕ) → Shows self.old s
+            → Advances (MachineStep (Change edit.now)) (counter m m) (counter looks.old looks.new) s (edit_line refused) self.new) }
+        ensures err { OnErr result ((s : State) (m : ℕ) → Shows self.old s
+            → MayGoOn (MachineStep (Change edit.now)) (counter m m) (counter looks.old looks.new) s) }
+        ensures count { (n : ℕ) → IsFew self.old n → IsFew self.new (n + 1) }
+        ensures watched { OnOk result (PaintsNot self.old.engine self.new.engine) }
+    {
+        match verdict(self.engine.tree(), edit) {
+            Some(fault) => {
+                self.refused += 1;
+                Ok(Some(fault.number()))
+            }
+            None => {
+                self.do_noted(alloc, edit, looks)?;
+                Ok(None)
+            }
+        }
+    }
+
+    /// Does an edit, or gives the number of the first test that refuses it.
+    fn edit(
+        &mut self,
+        alloc: Global,
+        edit: &Edit,
+        looks: &mut Steps<B>,
+    ) -> Result<Option<u8>, NoMemory>
+        requires few { IsFew self.old (2 ^ 29) }
+        ensures ok { IfOk result (λ refused. (s : State) (m : ℕ) → Shows self.old s
+            → Advances (MachineStep (Change edit.now)) (counter m m) (counter looks.old looks.new) s (edit_line refused) self.new) }
+        ensures err { OnErr result ((s : State) (m : ℕ) → Shows self.old s
+            → MayGoOn (MachineStep (Change edit.now)) (counter m m) (counter looks.old looks.new) s) }
+        ensures count { (n : ℕ) → IsFew self.old n → IsFew self.new (n + 1) }
+        ensures watched { OnOk result (PaintsNot self.old.engine self.new.engine) }
+    {
+        if self.keeps {
+            self.edit_noted(alloc, edit, looks)
+        } else {
+            self.edit_only(edit)
+        }
+    }
+
+    /// Does one of the edits that undo another. It is counted by 1, or by 0 where a test refuses it.
+    fn take_one(&mut self, edit: &Edit) -> Result<u64, NoMemory>
+        ensures ok { IfOk result (λ done. (s : State) → Shows self.old s
+            → (next : State) × TakesOne (refusal_of s.tree edit.now) edit.now done s next × Shows self.new next) }
+        ensures little { IfOk result (λ done. done ≤ 1) }
+        ensures count { (n : ℕ) → IsFew self.old n → IsFew self.new n }
+        ensures watched { OnOk result (PaintsNot self.old.engine self.new.engine) }
+    {
+        match self.engine.edit(edit) {
+            Ok(()) => Ok(1),
+            Err(fault) => match fault {
+                EditFault::NoMemory => Err(AllocError),
+                _ => Ok(0),
+            },
+        }
+    }
+
+    /// Does the edits that undo another. How many were done.
+    fn take_back(&mut self, edits: &[Edit]) -> Result<u64, NoMemory>
+        ensures ok { IfOk result (λ done. (s : State) → Shows self.old s
+            → (next : State) × TakesBack edits.now done s next × Shows self.new next) }
+        ensures count { (n : ℕ) → IsFew self.old n → IsFew self.new n }
+        ensures watched { OnOk result (PaintsNot self.old.engine self.new.engine) }
+    {
+        let mut done = 0;
+        for edit in edits {
+            done += self.take_one(edit)?;
+        }
+        Ok(done)
+    }
+
+    /// Takes back the newest of what is kept. How many edits that took; None where nothing is kept.
+    fn undo_kept(&mut self) -> Result<Option<u64>, NoMemory>
+        requires keeps { self.old.keeps ≡ true }
+        ensures ok { IfOk result (λ done. (s : State) (m l : ℕ) → Shows self.old s
+            → Advances (MachineStep Undoing) (counter m m) (counter l l) s (undone_line done) self.new) }
+        ensures count { (n : ℕ) → IsFew self.old n → IsFew self.new (n + 1) }
+        ensures watched { OnOk result (PaintsNot self.old.engine self.new.engine) }
+    {
+        match self.undo.pop() {
+            Some(step) => {
+                let done = self.take_back(step.edits())?;
+                Ok(Some(done))
+            }
+            None => Ok(None),
+        }
+    }
+
+    /// Takes back the latest edit that is not taken back yet. How many edits that took; None where there is none.
+    fn undo(&mut self) -> Result<Option<u64>, NoMemory>
+        ensures ok { IfOk result (λ done. (s : State) (m l : ℕ) → Shows self.old s
+            → Advances (MachineStep Undoing) (counter m m) (counter l l) s (undone_line done) self.new) }
+        ensures count { (n : ℕ) → IsFew self.old n → IsFew self.new (n + 1) }
+        ensures watched { OnOk result (PaintsNot self.old.engine self.new.engine) }
+    {
+        if self.keeps {
+            self.undo_kept()
+        } else {
+            Ok(None)
         }
     }
 
@@ -234,7 +398,7 @@ impl<A: Ledger, B: Ledger> Session<A, B> {
             → string_bytes text.new ≡ string_bytes text.old ++ reply question.now s) }
     {
         match question {
-            Command::Change(_) | Command::Paint => Ok(()),
+            Command::Change(_) | Command::Paint | Command::Undo => Ok(()),
             Command::Hit { x, y } => push_line(alloc, text, &Answer::Hit(self.hit(*x, *y))),
             Command::Pixel { x, y } => {
                 let color = self.engine.pixel(*x, *y);
@@ -281,16 +445,20 @@ impl<A: Ledger, B: Ledger> Session<A, B> {
     ) -> Result<(), NoMemory>
         requires few { IsFew self.old (2 ^ 29) }
         ensures ok { OnOk result ((s : State) → Shows self.old s
-            → Tells (Step command.now) (counter made.old made.new) (counter looks.old looks.new)
+            → Tells (MachineStep command.now) (counter made.old made.new) (counter looks.old looks.new)
             s (string_bytes text.old) (string_bytes text.new) self.new) }
         ensures err { OnErr result ((s : State) → Shows self.old s
-            → MayGoOn (Step command.now) (counter made.old made.new) (counter looks.old looks.new) s) }
+            → MayGoOn (MachineStep command.now) (counter made.old made.new) (counter looks.old looks.new) s) }
         ensures count { (n : ℕ) → IsFew self.old n → IsFew self.new (n + 1) }
     {
         match command {
             Command::Change(edit) => {
-                let refused = self.edit(edit)?;
+                let refused = self.edit(alloc, edit, looks)?;
                 push_edit(alloc, text, &refused)
+            }
+            Command::Undo => {
+                let done = self.undo()?;
+                push_line(alloc, text, &Answer::Undone(done))
             }
             Command::Paint => {
                 let note = self.paint(made, looks)?;
@@ -303,21 +471,26 @@ impl<A: Ledger, B: Ledger> Session<A, B> {
     /// Does a command without its answer.
     pub(crate) fn perform(
         &mut self,
+        alloc: Global,
         command: &Command,
         made: &mut Steps<A>,
         looks: &mut Steps<B>,
     ) -> Result<(), NoMemory>
         requires few { IsFew self.old (2 ^ 29) }
         ensures ok { OnOk result ((s : State) → Shows self.old s
-            → Does (Step command.now) (counter made.old made.new) (counter looks.old looks.new) s self.new) }
+            → Does (MachineStep command.now) (counter made.old made.new) (counter looks.old looks.new) s self.new) }
         ensures err { OnErr result ((s : State) → Shows self.old s
-            → MayGoOn (Step command.now) (counter made.old made.new) (counter looks.old looks.new) s) }
+            → MayGoOn (MachineStep command.now) (counter made.old made.new) (counter looks.old looks.new) s) }
         ensures count { (n : ℕ) → IsFew self.old n → IsFew self.new (n + 1) }
         ensures watched { OnOk result (Watched self.old.engine self.new.engine) }
     {
         match command {
             Command::Change(edit) => {
-                let _refused = self.edit(edit)?;
+                let _refused = self.edit(alloc, edit, looks)?;
+                Ok(())
+            }
+            Command::Undo => {
+                let _done = self.undo()?;
                 Ok(())
             }
             Command::Paint => {

@@ -2,18 +2,21 @@
 
 ghost use Rattle.std.specs.Prelude.{◌≡◌, ◌⊎◌, ◌≤◌, ◌^◌, ◌+◌, ◌++◌, [], ℕ, false, length, IfOk, OnErr, OnOk, string_bytes};
 ghost use Rattle.sha2.specs.Sha256.{sha256};
+ghost use Rattle.rd_engine.specs.Painted.{IsBegun};
 ghost use Rattle.rd_engine.specs.State.{EngineState};
 ghost use Rattle.rd_geom.specs.Canvas.{IsCanvas};
 ghost use Rattle.rd_paint.specs.Pictures.{Picture, size_of};
 ghost use Rattle.rd_report.specs.Pictures.{p6_text};
 ghost use Rattle.rd_report.specs.Summaries.{final_line};
 ghost use Rattle.rd_scene.specs.Figures.{max_commands};
+ghost use Rattle.rd_scene.specs.Planting.{Plants};
+ghost use Rattle.rd_tree.specs.Document.{Document};
 ghost use Rattle.rd_run.specs.Endings.{counter, stream};
 ghost use Rattle.rd_run.specs.Internal.Answered.{AnswersAs, MayPerform, MayFinish};
 ghost use Rattle.rd_run.specs.Internal.OnTiles.{IsBlankOn, AreOf, Show, IsRepaintedBy, Follow, IsCopyOf};
 ghost use Rattle.rd_run.specs.Internal.OnTiles.{GoesOnTiles, PerformsOnTiles, AnswersOnTiles};
 ghost use Rattle.rd_run.specs.Internal.Session.{Shows, IsFew, MayGoOn, Watched};
-ghost use Rattle.rd_run.specs.Machine.{State, Step, PaintsIf};
+ghost use Rattle.rd_run.specs.Machine.{State, Step, PaintsIf, start};
 ghost use Rattle.rd_run.specs.Pictures.{picture};
 ghost use Rattle.rd_run.specs.Tiled.{IsScriptTiles};
 
@@ -95,6 +98,7 @@ fn follow<A: Ledger, B: Ledger>(
 
 /// Does a command without its answer, and the tiles follow.
 fn perform_one<A: Ledger, B: Ledger>(
+    alloc: Global,
     session: &mut Session<A, B>,
     command: &Command,
     tiles: &mut Follower,
@@ -112,7 +116,7 @@ fn perform_one<A: Ledger, B: Ledger>(
     ensures count { (n : ℕ) → IsFew session.old n → IsFew session.new (n + 1) }
 {
     let before = session.paints();
-    session.perform(command, made, looks)?;
+    session.perform(alloc, command, made, looks)?;
     follow(session.engine(), before, tiles)
 }
 
@@ -140,6 +144,7 @@ fn finish_on<A: Ledger, B: Ledger>(
 
 /// Does the commands in turn.
 fn perform_all<A: Ledger, B: Ledger>(
+    alloc: Global,
     session: &mut Session<A, B>,
     commands: &[Command],
     tiles: &mut Follower,
@@ -159,7 +164,7 @@ fn perform_all<A: Ledger, B: Ledger>(
     ensures count { IsFew session.new max_commands }
 {
     for command in commands {
-        perform_one(session, command, tiles, made, looks)?;
+        perform_one(alloc, session, command, tiles, made, looks)?;
     }
     Ok(())
 }
@@ -193,6 +198,50 @@ fn push_digest<A: Ledger, B: Ledger>(
     push_final(alloc, &mut tiles.text, &digest(&bytes))
 }
 
+/// Does the commands of a script on tiles, from the tree that it plants, and puts the lines of that at the end of their text.
+fn tell<A: Ledger, B: Ledger>(
+    alloc: Global,
+    script: &Script,
+    session: &mut Session<A, B>,
+    tiles: &mut Follower,
+    made: &mut Steps<A>,
+    looks: &mut Steps<B>,
+) -> Result<(), NoMemory>
+    requires planted { (t : Document) × Plants script.now t × Shows session.old (start script.now.version t) }
+    requires none { IsFew session.old 0 }
+    requires shows { Show tiles.old session.old.engine.canvas }
+    requires empty { string_bytes tiles.old.text ≡ [] }
+    ensures all { OnOk result (AnswersOnTiles (counter made.old made.new) (counter looks.old looks.new)
+        script.now (string_bytes tiles.new.text)) }
+    ensures part { OnErr result (MayFinish (counter made.old made.new) (counter looks.old looks.new) script.now) }
+{
+    let commands = &script.commands;
+    perform_all(alloc, session, commands, tiles, made, looks)?;
+    finish_on(session, tiles, made, looks)?;
+    push_digest(alloc, session.engine(), tiles)
+}
+
+/// White tiles on which the commands of a script are done, from the tree that it plants. Without memory nothing may be counted yet.
+fn told_by<A: Ledger, B: Ledger>(
+    alloc: Global,
+    script: &Script,
+    session: &mut Session<A, B>,
+    made: &mut Steps<A>,
+    looks: &mut Steps<B>,
+) -> Result<Follower, NoMemory>
+    requires planted { (t : Document) × Plants script.now t × Shows session.old (start script.now.version t)
+        × IsBegun t session.old.engine }
+    requires none { IsFew session.old 0 }
+    ensures all { IfOk result (λ t. AnswersOnTiles (counter made.old made.new) (counter looks.old looks.new)
+        script.now (string_bytes t.text)) }
+    ensures part { OnErr result (((made.new ≡ made.old) × (looks.new ≡ looks.old))
+        ⊎ MayFinish (counter made.old made.new) (counter looks.old looks.new) script.now) }
+{
+    let mut tiles = blank(alloc, script.canvas)?;
+    tell(alloc, script, session, &mut tiles, made, looks)?;
+    Ok(tiles)
+}
+
 /// Does the commands of a script on tiles, and tells of it. Without memory nothing may be counted yet.
 fn told<A: Ledger, B: Ledger>(
     alloc: Global,
@@ -205,14 +254,9 @@ fn told<A: Ledger, B: Ledger>(
     ensures part { OnErr result (((made.new ≡ made.old) × (looks.new ≡ looks.old))
         ⊎ MayFinish (counter made.old made.new) (counter looks.old looks.new) script.now) }
 {
-    let commands = &script.commands;
     let tree: Tree<B> = plant(alloc, script)?;
-    let mut session = Session::new(alloc, tree)?;
-    let mut tiles = blank(alloc, script.canvas)?;
-    perform_all(&mut session, commands, &mut tiles, made, looks)?;
-    finish_on(&mut session, &mut tiles, made, looks)?;
-    push_digest(alloc, session.engine(), &mut tiles)?;
-    Ok(tiles)
+    let mut session = Session::new(alloc, script.version, tree)?;
+    told_by(alloc, script, &mut session, made, looks)
 }
 
 /// Does the commands of a script on tiles, and writes a line for each paint, and last the digest of the picture.

@@ -1,5 +1,5 @@
 -- The JSON value of a script has no float and is not deep, so that its text is one and is read as it.
-use Rattle.std.proofs.Common.{◌≡◌, ◌≤◌, ℕ, suc, max, true, false, ◌||◌, Bool, codes, List, [], ◌∷◌, map, Option, Some, None, option_map, Ordering, Less, Equal, Greater, refl, arith}
+use Rattle.std.proofs.Common.{◌≡◌, ◌≤◌, ℕ, suc, max, true, false, ◌||◌, Bool, codes, List, ◌∷◌, map, Option, Some, None, option_map, Ordering, Less, Equal, Greater, refl, arith, []}
 use Rattle.std.specs.Ordering.{nat_cmp, match_ordering}
 use Rattle.std.specs.Cmp.Lexicographic.{slice_cmp}
 use Rattle.std.specs.Prelude.{ℤ, pos, negsuc}
@@ -15,7 +15,7 @@ use Rattle.rd_edits.specs.declared.edit.Edit.{Edit}
 use Rattle.rd_edits.specs.declared.edit.Edit.TheVariants.{Insert, Remove, Move, SetStyle, SetRect, Shift, Scroll}
 use Rattle.rd_scene.specs.declared.script.SceneBox.{SceneBox}
 use Rattle.rd_scene.specs.declared.script.Command.{Command}
-use Rattle.rd_scene.specs.declared.script.Command.TheVariants.{Change, Paint, Hit, Pixel, Dump, Shot}
+use Rattle.rd_scene.specs.declared.script.Command.TheVariants.{Change, Paint, Hit, Pixel, Dump, Shot, Undo}
 use Rattle.rd_scene.specs.Differing.{differing}
 use Rattle.rd_scene.specs.Scripts.{Script}
 use Rattle.rd_scene.specs.Writing.{with_given, number_value, rect_value, sides_value, position_word, overflow_word, display_word, float_word, visibility_word, pointer_word, blend_word, isolation_word, id_value, color_value, content_value, z_value, with_placing, with_painting, with_blending, change_value, box_value, edit_value, at_pixel, command_value, canvas_value, scene_value}
@@ -190,6 +190,7 @@ command_flat (Hit x y) = pixel_flat (codes "hit") x y
 command_flat (Pixel x y) = pixel_flat (codes "pixel") x y
 command_flat Dump = object_flat 2 _ (done_flat (codes "dump"))
 command_flat Shot = object_flat 2 _ (done_flat (codes "shot"))
+command_flat Undo = object_flat 2 _ (done_flat (codes "undo"))
 
 scene_flat : (s : Script) → Flat 5 (scene_value s)
 unfolding scene_value

@@ -10,7 +10,7 @@ use Rattle.rd_edits.specs.declared.edit.Edit.{Edit}
 use Rattle.rd_edits.specs.declared.edit.Edit.TheVariants.{Insert, Remove, Move, SetStyle, SetRect, Shift, Scroll}
 use Rattle.rd_scene.specs.declared.script.SceneBox.{SceneBox}
 use Rattle.rd_scene.specs.declared.script.Command.{Command}
-use Rattle.rd_scene.specs.declared.script.Command.TheVariants.{Change, Paint, Hit, Pixel, Dump, Shot}
+use Rattle.rd_scene.specs.declared.script.Command.TheVariants.{Change, Paint, Hit, Pixel, Dump, Shot, Undo}
 use Rattle.rd_scene.specs.Checked.{good}
 use Rattle.rd_scene.specs.Scripts.{Script, IsScript, reading_of}
 use Rattle.rd_scene.specs.Writing.{scene_value}
@@ -84,6 +84,7 @@ IsCommand (Hit x y) = Unit {0}
 IsCommand (Pixel x y) = Unit {0}
 IsCommand Dump = Unit {0}
 IsCommand Shot = Unit {0}
+IsCommand Undo = Unit {0}
 
 -- the values that the types of a script's parts have
 pub record HasItsTypes (s : Script) : Type 0 where

@@ -1,14 +1,16 @@
 -- Commands as a script writes them. They are this project's own choice.
-use Rattle.std.specs.Prelude.{ℕ, ◌+◌, ℤ, pos, ◌-ℤ◌, if◌then◌else◌, List, [], ◌∷◌, codes, bytes_eq, IsTrue}
+use Rattle.std.specs.Prelude.{ℕ, ◌+◌, ℤ, pos, ◌-ℤ◌, if◌then◌else◌, List, ◌∷◌, codes, bytes_eq, IsTrue, Err, []}
 use Rattle.serde_json.specs.Data.{Data, Members, Items, no_items, item}
 use Rattle.rd_style.specs.Figures.{max_coordinate}
 use Rattle.rd_style.specs.Limits.{is_between}
 use Rattle.rd_scene.specs.declared.fault.Why.{Why}
+use Rattle.rd_scene.specs.declared.fault.Why.TheVariants as why
 use Rattle.rd_scene.specs.declared.fault.Place.TheVariants as place
 use Rattle.rd_scene.specs.declared.script.Command.{Command}
-use Rattle.rd_scene.specs.declared.script.Command.TheVariants.{Change, Paint, Hit, Pixel, Dump, Shot}
+use Rattle.rd_scene.specs.declared.script.Command.TheVariants.{Change, Paint, Hit, Pixel, Dump, Shot, Undo}
 use Rattle.rd_scene.specs.declared.version.Version.{Version}
-use Rattle.rd_scene.specs.Checked.{Checked, good, ◌⊛◌, ◌>>=◌}
+use Rattle.rd_scene.specs.declared.version.Version.TheVariants.{One, Two}
+use Rattle.rd_scene.specs.Checked.{Checked, rule, good, ◌⊛◌, ◌>>=◌}
 use Rattle.rd_scene.specs.Members.{members, known, needed, string, number}
 use Rattle.rd_scene.specs.Places.{FormFault, at}
 use Rattle.rd_scene.specs.Edits.{edit_named, FitsEdit}
@@ -16,6 +18,11 @@ use Rattle.rd_scene.specs.Edits.{edit_named, FitsEdit}
 -- a command that has no other member
 abbrev pub alone : Command → Members → Checked Why Command
 alone c ms = good (λ _. c) ⊛ known (codes "do" ∷ []) ms
+
+-- `undo` has no other member; version 1 has no such command
+unfoldable pub undo_of : Version → Members → Checked Why Command
+undo_of One ms = rule (Err why.Command)
+undo_of Two ms = alone Undo ms
 
 -- a column or a row of a pixel
 unfoldable pub pixel_at : List ℕ → Data → Checked Why ℤ
@@ -36,7 +43,8 @@ command_named version w ms d =
     if bytes_eq w (codes "hit") then at_pixel Hit ms d else
     if bytes_eq w (codes "pixel") then at_pixel Pixel ms d else
     if bytes_eq w (codes "dump") then alone Dump ms else
-    if bytes_eq w (codes "shot") then alone Shot ms else (edit_named version w ms d >>= λ e. good (Change e))
+    if bytes_eq w (codes "shot") then alone Shot ms else
+    if bytes_eq w (codes "undo") then undo_of version ms else (edit_named version w ms d >>= λ e. good (Change e))
 
 -- the word at the member `do`
 abbrev pub word_at : Data → Checked Why (List ℕ)
@@ -65,3 +73,4 @@ FitsCommand (Hit x y) = IsPixel x y
 FitsCommand (Pixel x y) = IsPixel x y
 FitsCommand Dump = Unit {0}
 FitsCommand Shot = Unit {0}
+FitsCommand Undo = Unit {0}

@@ -9,7 +9,7 @@ use Rattle.rd_edits.specs.declared.edit.Edit.{Edit}
 use Rattle.rd_edits.specs.declared.edit.Edit.TheVariants.{Insert, Remove, Move, SetStyle, SetRect, Shift, Scroll}
 use Rattle.rd_scene.specs.declared.script.SceneBox.{SceneBox}
 use Rattle.rd_scene.specs.declared.script.Command.{Command}
-use Rattle.rd_scene.specs.declared.script.Command.TheVariants.{Change, Paint, Hit, Pixel, Dump, Shot}
+use Rattle.rd_scene.specs.declared.script.Command.TheVariants.{Change, Paint, Hit, Pixel, Dump, Shot, Undo}
 use Rattle.rd_scene.specs.declared.version.Version.{Version}
 use Rattle.rd_scene.specs.declared.version.Version.TheVariants.{One, Two}
 
@@ -50,7 +50,7 @@ HasEdit version (SetRect id rect) = Unit {0}
 HasEdit version (Shift id dx dy) = Unit {0}
 HasEdit version (Scroll id x y) = version ≡ 1 → ⊥
 
--- a command that it may have
+-- a command that it may have; version 1 takes nothing back
 abbrev pub HasCommand : ℕ → Command → Type 0
 HasCommand version (Change e) = HasEdit version e
 HasCommand version Paint = Unit {0}
@@ -58,3 +58,4 @@ HasCommand version (Hit x y) = Unit {0}
 HasCommand version (Pixel x y) = Unit {0}
 HasCommand version Dump = Unit {0}
 HasCommand version Shot = Unit {0}
+HasCommand version Undo = version ≡ 1 → ⊥

@@ -1,6 +1,6 @@
 -- The JSON value of a script, whose compact text is canonical. Which members it has is this project's own choice; they
 -- stand in the byte order of their names.
-use Rattle.std.specs.Prelude.{ℕ, ◌/◌, ◌%◌, ◌==◌, ℤ, false, if◌then◌else◌, List, [], ◌∷◌, ◌++◌, map, codes, Option, Some, None, option_map}
+use Rattle.std.specs.Prelude.{ℕ, ◌/◌, ◌%◌, ◌==◌, ℤ, false, if◌then◌else◌, List, ◌∷◌, ◌++◌, map, codes, Option, Some, None, option_map, []}
 use Rattle.std.specs.Fmt.{digit_glyph}
 use Rattle.serde_json.specs.Data.{Data, null, number, unsigned, string, array, object, Members, no_members, put}
 use Rattle.serde_json.specs.Find.{of_integer}
@@ -31,7 +31,7 @@ use Rattle.rd_edits.specs.declared.edit.Edit.{Edit}
 use Rattle.rd_edits.specs.declared.edit.Edit.TheVariants.{Insert, Remove, Move, SetStyle, SetRect, Shift, Scroll}
 use Rattle.rd_scene.specs.declared.script.SceneBox.{SceneBox}
 use Rattle.rd_scene.specs.declared.script.Command.{Command}
-use Rattle.rd_scene.specs.declared.script.Command.TheVariants.{Change, Paint, Hit, Pixel, Dump, Shot}
+use Rattle.rd_scene.specs.declared.script.Command.TheVariants.{Change, Paint, Hit, Pixel, Dump, Shot, Undo}
 use Rattle.rd_scene.specs.Differing.{differing}
 use Rattle.rd_scene.specs.Scripts.{Script}
 
@@ -205,6 +205,7 @@ command_value (Hit x y) = at_pixel (codes "hit") x y
 command_value (Pixel x y) = at_pixel (codes "pixel") x y
 command_value Dump = bare (codes "dump")
 command_value Shot = bare (codes "shot")
+command_value Undo = bare (codes "undo")
 
 -- a canvas
 abbrev pub canvas_value : Size → Data

@@ -54,6 +54,22 @@ fn shot_of(members: &Map<String, Value>) -> Result<Command, Refusal>
     Ok(Command::Shot)
 }
 
+/// Takes the latest edit back, where the value has no other member. Version 1 has no such command.
+#[tactic(auto, unfolding(crate::specs::Commands::undo_of))]
+fn undo_of(version: Version, members: &Map<String, Value>) -> Result<Command, Refusal>
+    ensures value { Gives (λ c. c) result (spec.undo_of version (members_view members.now.entries)).first }
+    ensures fits { IfOk result (λ c. FitsCommand c) }
+    ensures had { IfOk result (λ c. HasCommand (number_of version) c) }
+{
+    match version {
+        Version::One => Err(Refusal::Rule(Why::Command)),
+        Version::Two => {
+            known(members, &["do"])?;
+            Ok(Command::Undo)
+        }
+    }
+}
+
 #[tactic(auto, unfolding(crate::specs::Commands::pixel_at))]
 fn pixel_at(v: &Value, name: &str) -> Result<i32, Why>
     ensures value { result ≡ (spec.pixel_at name.now (view v.now)).first }
@@ -128,6 +144,7 @@ fn command_named(
         "pixel" => pixel_of(members, v),
         "dump" => dump_of(members),
         "shot" => shot_of(members),
+        "undo" => undo_of(version, members),
         _ => change_named(alloc, version, word, members, v),
     }
 }

@@ -45,6 +45,8 @@ pub enum Command {
     Dump,
     /// Asks for the digest of the picture.
     Shot,
+    /// Takes the latest edit back that was not taken back yet.
+    Undo,
 }
 
 /// A scene and what is done to it. Contracts see a script that keeps the rules of the format: version 1 or 2; a canvas of

@@ -656,6 +656,7 @@ fn command_value(alloc: Global, command: &Command) -> Result<Value, AllocError>
         Command::Pixel { x, y } => at_pixel(alloc, "pixel", *x, *y),
         Command::Dump => bare(alloc, "dump"),
         Command::Shot => bare(alloc, "shot"),
+        Command::Undo => bare(alloc, "undo"),
     }
 }
 

@@ -142,6 +142,7 @@ fn say_command(rt: &impl Abort, out: &mut String, command: &Command) {
         Command::Pixel { x, y } => say_pair(rt, out, "pixel", *x, *y),
         Command::Dump => say(rt, out, "dump"),
         Command::Shot => say(rt, out, "shot"),
+        Command::Undo => say(rt, out, "undo"),
     }
 }
 

@@ -23,3 +23,5 @@ mod scene;
 mod stack;
 #[cfg(test)]
 mod tree;
+#[cfg(test)]
+mod undo;

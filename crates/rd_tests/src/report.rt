@@ -66,13 +66,15 @@ fn each_answer_has_its_line(rt: HostRuntime) {
         Answer::Pixel(Some(ORANGE)),
         Answer::Pixel(None),
         Answer::Shot(OF_ABC),
+        Answer::Undone(Some(3)),
+        Answer::Undone(None),
     ] {
         say(&rt, alloc, &mut text, &answer);
     }
     assert_eq!(rt;
         text.as_str(),
         "ok\nrefused 9\npaint 2 built 3 kept 1 area 16\nhit a-1\nhit none\n\
-pixel ff0a00\npixel none\nshot ba7816bf8f01cfea414140de5dae2223b00361a396177a9cb410ff61f20015ad\n"
+pixel ff0a00\npixel none\nshot ba7816bf8f01cfea414140de5dae2223b00361a396177a9cb410ff61f20015ad\nundone 3\nundo none\n"
     );
 }
 

@@ -344,6 +344,7 @@ fn commands_off_form(rt: HostRuntime) {
         (r#"{"do":7}"#, Why::Kind),
         (r#"{"do":"draw","x":1}"#, Why::Command),
         (r#"{"do":"scroll","id":"a","x":0,"y":0}"#, Why::Command),
+        (r#"{"do":"undo"}"#, Why::Command),
         (r#"{"do":"paint","x":1}"#, Why::Unknown),
         (r#"{"do":"shot","id":"a"}"#, Why::Unknown),
         (r#"{"do":"hit","x":0}"#, Why::Missing),
@@ -413,6 +414,7 @@ fn name(command: &Command) -> &'static str {
         Command::Hit { .. } | Command::Pixel { .. } => "another place",
         Command::Dump => "dump",
         Command::Shot => "shot",
+        Command::Undo => "undo",
     }
 }
 
@@ -468,12 +470,17 @@ fn gives_in_version_two(rt: &impl Abort, alloc: Global, command: &str, want: Out
 }
 
 #[test]
-fn the_command_of_version_two(rt: HostRuntime) {
+fn the_commands_of_version_two(rt: HostRuntime) {
     let alloc = rt.alloc();
-    let text = in_version_two(&rt, alloc, r#"{"do":"scroll","id":"a","x":3,"y":-2}"#);
-    let script = read_of(&rt, alloc, text.as_str());
-    assert_eq!(rt; script.commands.len(), 1);
-    assert_eq!(rt; name(&script.commands[0]), "scroll");
+    for (command, want) in [
+        (r#"{"do":"scroll","id":"a","x":3,"y":-2}"#, "scroll"),
+        (r#"{"do":"undo"}"#, "undo"),
+    ] {
+        let text = in_version_two(&rt, alloc, command);
+        let script = read_of(&rt, alloc, text.as_str());
+        assert_eq!(rt; script.commands.len(), 1);
+        assert_eq!(rt; name(&script.commands[0]), want);
+    }
     for (command, why) in [
         (r#"{"do":"scroll","id":"a","x":0,"dy":0}"#, Why::Unknown),
         (r#"{"do":"scroll","id":"","x":0}"#, Why::Range),
@@ -484,6 +491,7 @@ fn the_command_of_version_two(rt: HostRuntime) {
         ),
         (r#"{"do":"scroll","id":"a","y":0}"#, Why::Missing),
         (r#"{"do":"Scroll","id":"a","x":0,"y":0}"#, Why::Command),
+        (r#"{"do":"undo","id":"a"}"#, Why::Unknown),
     ] {
         gives_in_version_two(&rt, alloc, command, Outcome::Form(Place::Command(0), why));
     }

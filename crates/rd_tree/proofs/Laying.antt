@@ -6,6 +6,7 @@ pub mod Again
 pub mod Fits
 pub mod Kept
 pub mod Shown
+pub mod Views
 pub mod Added
 pub mod Draws
 pub mod Results

@@ -21,3 +21,5 @@ pub mod Putting
 pub mod Telling
 pub mod Shifts
 pub mod ByKey
+pub mod Parents
+pub mod Distinct

@@ -12,6 +12,7 @@ ghost use Rattle.rd_tree.specs.Figures.{max_boxes, max_depth};
 ghost use Rattle.rd_tree.specs.Limits.{FitsScroll, IsNear};
 ghost use Rattle.rd_tree.specs.Drawn.{AllNear};
 ghost use Rattle.rd_tree.specs.Forest.{tree, empty, size, starting_at, from_some, head, children, map_where, height, depth, in_subtree, is_among, IsApart, IsPlaceIn};
+ghost use Rattle.rd_tree.specs.Places as places;
 ghost use Rattle.rd_tree.specs.Shown.{shown, told};
 ghost use Rattle.rd_tree.specs.Seeking.{hull_reaches, is_marked, looks_until, siblings_from};
 ghost use Rattle.rd_tree.specs.Internal.Linked.{AddsText};
@@ -218,6 +219,7 @@ impl<B: Ledger> DrawnTree<B> {
         ensures ids { HasIds self.now.boxes }
         ensures limits { AllNear self.now.boxes }
         ensures depth { height self.now.boxes ≤ max_depth }
+        ensures most { taken self.now ≤ max_boxes }
     {
         self.root
     }
@@ -327,6 +329,15 @@ impl<B: Ledger> DrawnTree<B> {
             Some(up) => up.is(parent),
             None => false,
         }
+    }
+
+    /// The parent of a box. None exactly for the root.
+    pub(crate) fn parent(&self, key: BoxKey) -> Option<BoxKey>
+        requires { contains self.now key ≡ true }
+        ensures parent { result ≡ places.parent_of same_key key self.now.boxes }
+        ensures root { (result ≡ None) ↔ (key ≡ self.now.root) }
+    {
+        parent_of(&self.nodes, key)
     }
 
     /// Do a box and all below it stay within the limits once they are moved by canvas pixels, by where they are laid out?

@@ -78,7 +78,7 @@ impl Id {
     }
 
     /// The same id once more.
-    pub(crate) fn copy(&self) -> Result<Id, NoMemory>
+    pub fn copy(&self) -> Result<Id, NoMemory>
         ensures { IfOk result (λ id. id ≡ self.now) }
     {
         Ok(Id {

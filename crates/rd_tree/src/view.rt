@@ -23,7 +23,9 @@ use rd_style::Style;
 pub struct BoxView<'a> {
     /// The box.
     pub key: BoxKey,
-    /// Where its border box is drawn, in pixels of the canvas (CSS 2.2 section 8.1).
+    /// Its border box where it is laid out, in pixels of the canvas (CSS 2.2 section 8.1).
+    pub rect: Rect,
+    /// Where its border box is drawn, as boxes above it are scrolled, in pixels of the canvas.
     pub at: Rect,
     /// Its scroll offset.
     pub scroll: Scroll,
@@ -48,7 +50,7 @@ pub struct BoxView<'a> {
     pub blend_below: bool,
 }
 
-/// What a node, what a walk reads of it, and its row show of its box.
+/// What a node, what a walk reads of it, and its row show of its box, as if it were laid out where it is drawn.
 #[inline(always)]
 pub(crate) fn view_of(
     key: BoxKey,
@@ -63,6 +65,7 @@ pub(crate) fn view_of(
 {
     BoxView {
         key,
+        rect: node.item.rect,
         at: node.item.rect,
         scroll: node.item.scroll,
         style: &node.item.style,

@@ -1,24 +1,33 @@
 -- Which state of the machine an engine is in, and how it goes on.
-use Rattle.std.specs.Prelude.{◌≡◌, ◌⊎◌, ℕ, ◌+◌, ◌*◌, ◌^◌, ◌≤◌, List, [], ◌++◌, Option, Some, None}
+use Rattle.std.specs.Prelude.{◌≡◌, ◌⊎◌, ℕ, ◌+◌, ◌*◌, ◌^◌, ◌≤◌, List, ◌++◌, Option, Some, None, Bool, if◌then◌else◌, []}
+use Rattle.circular_buffer.specs.Buffer.{Buffer}
 use Rattle.rd_list.specs.Unordered.{unordered}
+use Rattle.rd_edits.specs.declared.edit.Edit.{Edit}
 use Rattle.rd_engine.specs.State.{EngineState}
 use Rattle.rd_engine.specs.Painted.{IsAreaPainted}
 use Rattle.rd_report.specs.Answers.{ok_line, refused_line, paint_line}
 use Rattle.rd_scene.specs.declared.script.Command.{Command}
-use Rattle.rd_scene.specs.declared.script.Command.TheVariants.{Change, Paint, Hit, Pixel, Dump, Shot}
+use Rattle.rd_scene.specs.declared.script.Command.TheVariants.{Change, Paint, Hit, Pixel, Dump, Shot, Undo}
 use Rattle.rd_engine.specs.declared.note.PaintNote.{PaintNote}
-use Rattle.rd_run.specs.Machine.{State, hit_answer, pixel_answer, dump_answer, shot_answer}
+use Rattle.rd_run.specs.Machine.{State, Undos, hit_answer, pixel_answer, dump_answer, shot_answer}
 use Rattle.rd_run.specs.Endings.{Counter}
+use Rattle.rd_run.specs.Figures.{max_undos}
 use Rattle.rd_run.specs.Internal.Lasts.{IsWellFormed, IsLast}
 
--- what a contract sees of a session: its engine, the edits that were done and refused, and the sums of the items that its
--- paints made and of the pixels of their areas
+-- what a contract sees of a session: its engine, the edits that were done and refused, the sums of the items that its
+-- paints made and of the pixels of their areas, whether it keeps what undoes edits, and what it keeps
 pub record SessionState : Type 0 where
   pub engine : EngineState
   pub accepted : ℕ
   pub refused : ℕ
   pub built : ℕ
   pub area : ℕ
+  pub keeps : Bool
+  pub undo : Buffer (List Edit)
+
+-- what undoes edits, where it is kept
+abbrev pub undos_of : Bool → Buffer (List Edit) → Option Undos
+undos_of keeps u = if keeps then Some u.items else None
 
 -- The machine is in the state s.
 pub record Shows (x : SessionState) (s : State) : Type 0 where
@@ -31,6 +40,8 @@ pub record Shows (x : SessionState) (s : State) : Type 0 where
   pub refused : s.counts.refused ≡ x.refused
   pub built : s.counts.built ≡ x.built
   pub area : s.counts.area ≡ x.area
+  pub undos : s.undos ≡ undos_of x.keeps x.undo
+  pub room : x.undo.capacity ≡ max_undos
   pub well_formed : IsWellFormed s.tree
 
 -- An engine painted once: its canvas in the area of that paint, which is counted.
@@ -101,3 +112,4 @@ reply (Hit x y) s = hit_answer x y s
 reply (Pixel x y) s = pixel_answer x y s
 reply Dump s = dump_answer s
 reply Shot s = shot_answer s
+reply Undo s = []

@@ -1,5 +1,5 @@
 -- Commands are read as they are written.
-use Rattle.std.proofs.Common.{◌≡◌, ℕ, ◌+◌, List, [], ◌∷◌, map, Option, Some, None, refl, ap, arith}
+use Rattle.std.proofs.Common.{◌≡◌, ℕ, ◌+◌, List, ◌∷◌, map, Option, Some, None, refl, ap, arith, []}
 use Rattle.std.specs.Prelude.{ℤ, pos, ◌-ℤ◌, All, IsTrue}
 use Rattle.std.proofs.lemmas.Int.{ints}
 use Rattle.std.proofs.lemmas.List.Elements.{All-head, All-tail}
@@ -14,12 +14,12 @@ use Rattle.rd_scene.specs.declared.fault.Place.TheVariants as place
 use Rattle.rd_scene.specs.declared.script.Command.{Command}
 use Rattle.rd_scene.specs.declared.version.Version.{Version}
 use Rattle.rd_scene.specs.declared.version.Version.TheVariants.{One, Two}
-use Rattle.rd_scene.specs.declared.script.Command.TheVariants.{Change, Paint, Hit, Pixel, Dump, Shot}
+use Rattle.rd_scene.specs.declared.script.Command.TheVariants.{Change, Paint, Hit, Pixel, Dump, Shot, Undo}
 use Rattle.rd_scene.specs.Figures.{max_distance}
 use Rattle.rd_scene.specs.Boxes.{an_id}
 use Rattle.rd_scene.specs.Canonical.{IsIdOrNone, IsEdit, IsCommand}
 use Rattle.rd_scene.specs.Checked.{Checked, good, ◌>>=◌}
-use Rattle.rd_scene.specs.Commands.{pixel_at, at_pixel, command_named, command_of, commands_from, FitsCommand}
+use Rattle.rd_scene.specs.Commands.{pixel_at, at_pixel, undo_of, command_named, command_of, commands_from, FitsCommand}
 use Rattle.rd_scene.specs.Edits.{id_or_null, insert_of, remove_of, move_of, set_style_of, set_rect_of, distance_at, shift_of, scroll_of, edit_named, FitsEdit}
 use Rattle.rd_scene.specs.Members.{number as number_from}
 use Rattle.rd_scene.specs.Places.{at}
@@ -71,13 +71,15 @@ edit_read Two (Scroll id x y) t f v = as_command _ _
 
 command_read : (version : Version) (c : Command) → IsCommand c → FitsCommand c → HasCommand (number_of version) c
     → command_of version (command_value c) ≡ good c
-unfolding command_of command_named at_pixel pixel_at
+unfolding command_of command_named at_pixel pixel_at undo_of
 command_read version (Change e) t f v = edit_read version e t f v
 command_read version Paint t f v = refl
 command_read version (Hit x y) t f v = names_read (λ _ x y. Hit x y) ⊗ column_read x f.0 ⊗ column_read y f.1
 command_read version (Pixel x y) t f v = names_read (λ _ x y. Pixel x y) ⊗ column_read x f.0 ⊗ column_read y f.1
 command_read version Dump t f v = refl
 command_read version Shot t f v = refl
+command_read One Undo t f v = absurd (v refl)
+command_read Two Undo t f v = refl
 
 pub commands_read : (version : Version) (i : ℕ) (cs : List Command) → All IsCommand cs → All FitsCommand cs
     → All (HasCommand (number_of version)) cs → commands_from version i (items_of (map command_value cs)) ≡ good cs

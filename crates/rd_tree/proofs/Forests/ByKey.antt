@@ -2,6 +2,7 @@
 use Rattle.std.proofs.Common.{◌≡◌, refl, ap, ◌∙◌, sym, ◌+◌, Bool, true, false, ◌||◌, cond, ◌∷◌, ◌++◌, inl, inr, arith}
 use Rattle.std.specs.Prelude.{Option, Some, None, option_map}
 use Rattle.rd_tree.specs.Forest.{Forest, empty, tree, keys, size, ◌▷◌, height, without_siblings, map_where, has, starting_at, item_of, children, in_subtree, with_children, is_among, insert_before, insert_among, without_branch, branch, IsApart}
+use Rattle.rd_tree.specs.Places.{parent_of}
 use Rattle.rd_tree.specs.Internal.Laid.{each_by}
 use Rattle.rd_tree.proofs.Linking.Standing.{cases, from_left, from_right, differs, apart_back}
 use Rattle.rd_tree.proofs.Linking.Cutting.{Among}
@@ -95,6 +96,10 @@ module _ {K D : Type 0} (g : K → D → D) where
     pub is_among-by : (j : K) (f : Forest K D) → is_among same j (each_by g f) ≡ is_among same j f
     is_among-by j empty = refl
     is_among-by j (tree k d below rest) = ap (λ b. same j k || b) (is_among-by j rest)
+
+    pub parent-by : (j : K) (f : Forest K D) → parent_of same j (each_by g f) ≡ parent_of same j f
+    parent-by j empty = refl
+    parent-by j (tree k d below rest) = rw (is_among-by j below, has-by j below, parent-by j below, parent-by j rest) refl
 
     pub item-by : ((a b : K) → same a b ≡ true → a ≡ b) → (j : K) (f : Forest K D) → item_of same j (each_by g f) ≡ option_map (g j) (item_of same j f)
     item-by sound j empty = refl

@@ -16,7 +16,7 @@ new-requires-clause-well_formed g c =
 pub returns-in-Ok-answer_all : goal.returns-in-Ok-answer_all
 returns-in-Ok-answer_all g c = (
   c.in-Ok-answer_all.ensures.faultless,
-  answered_all (Unit {0}) c.args.script.now c.in-Ok.tree _ (stream _ _ 0 0) _ _ _ _ c.in-Ok.ensures.planted
+  answered_all (Unit {0}) c.args.script.now _ c.in-Ok.tree _ (stream _ _ 0 0) _ _ _ _ c.in-Ok.ensures.planted (ap (λ (s : Script). s.version) c.script.view_is)
       (c.deref.ensures.value ∙ ap (λ (s : Script). s.commands) c.script.view_is)
       (c.in-Ok-answer_all.ensures.all _ c.in-Ok-new.ensures.shows),
 )
@@ -24,7 +24,7 @@ returns-in-Ok-answer_all g c = (
 pub returns : goal.returns
 returns g c =
     ends_early _ (IsScriptAnswer c.args.script.now) _ _ _ _ _ refl c.in-Err-answer_all.ensures.only
-    (answered_part (Unit {0}) c.args.script.now c.in-Ok.tree _ (stream _ _ 0 0) _ _ _ _ c.in-Ok.ensures.planted
+    (answered_part (Unit {0}) c.args.script.now _ c.in-Ok.tree _ (stream _ _ 0 0) _ _ _ _ c.in-Ok.ensures.planted (ap (λ (s : Script). s.version) c.script.view_is)
     (c.deref.ensures.value ∙ ap (λ (s : Script). s.commands) c.script.view_is)
     (c.in-Err-answer_all.ensures.part _ c.in-Ok-new.ensures.shows))
     c.in-Err-answer_all.ensures.fault c.in-Err-answer_all.ensures.still

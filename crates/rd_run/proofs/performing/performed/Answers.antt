@@ -24,19 +24,19 @@ returns-in_err-session-clause-part g c =
 pub returns-in_err-perform_all-clause-part : goal.returns-in_err-perform_all-clause-part
 returns-in_err-perform_all-clause-part g c =
     let r = err_from_is_err_and c.from_residual-in_err-perform_all.result c.from_residual-in_err-perform_all.ensures.1 in
-    rw (r.1) (inr (may_finish c.args.script.now _ _ _ _ 0 _ _ 0 c.in_ok-tree.ensures.planted
+    rw (r.1) (inr (may_finish c.args.script.now _ _ _ _ _ 0 _ _ 0 c.in_ok-tree.ensures.planted (ap (λ (s : Script). s.version) c.script.view_is)
     (c.deref.ensures.value ∙ ap (λ (s : Script). s.commands) c.script.view_is)
     (c.in_err-perform_all.ensures.part _ c.in_ok-session.ensures.shows)))
 
 pub returns-in_err-finish-clause-part : goal.returns-in_err-finish-clause-part
 returns-in_err-finish-clause-part g c =
     let r = err_from_is_err_and c.from_residual-in_err-finish.result c.from_residual-in_err-finish.ensures.1 in
-    rw (r.1) (inr (may_finish_on c.args.script.now _ _ _ _ _ _ _ _ _ c.in_ok-tree.ensures.planted
+    rw (r.1) (inr (may_finish_on c.args.script.now _ _ _ _ _ _ _ _ _ _ c.in_ok-tree.ensures.planted (ap (λ (s : Script). s.version) c.script.view_is)
     (c.deref.ensures.value ∙ ap (λ (s : Script). s.commands) c.script.view_is)
     (c.in_ok-perform_all.ensures.all _ c.in_ok-session.ensures.shows) c.in_err-finish.ensures.err))
 
 pub returns-clause-finished : goal.returns-clause-finished
 returns-clause-finished g c =
-    finished_on c.args.script.now _ _ _ _ _ _ _ _ _ _ c.in_ok-tree.ensures.planted
+    finished_on c.args.script.now _ _ _ _ _ _ _ _ _ _ _ c.in_ok-tree.ensures.planted (ap (λ (s : Script). s.version) c.script.view_is)
     (c.deref.ensures.value ∙ ap (λ (s : Script). s.commands) c.script.view_is)
     (c.in_ok-perform_all.ensures.all _ c.in_ok-session.ensures.shows) c.in_ok-finish.ensures.ok c.in_ok-finish.ensures.done

@@ -1,3 +1,5 @@
+use Rattle.std.proofs.Common.{arith}
+use Rattle.rd_tree.proofs.Nodes.Marks.{taken-marks}
 use Rattle.rd_tree.proofs.Nodes.Rooting.{rooted_seen}
 use Rattle.rd_tree.proofs.Nodes.Naming.{fits_seen, ids_seen}
 use Rattle.rd_tree.proofs.Nodes.Looking.{apart_seen}
@@ -21,3 +23,10 @@ returns-clause-depth g c = rw (← c.self.view_is) c.self.invariant.shallow
 
 pub returns-clause-ids : goal.returns-clause-ids
 returns-clause-ids g c = rw (← c.self.view_is) (ids_seen c.self.inside.nodes c.self.inside.root c.self.inside.ids c.self.invariant.sound)
+
+pub returns-clause-most : goal.returns-clause-most
+returns-clause-most g c =
+    let most = c.self.invariant.sound.tree.most in
+    let limit = c.self.invariant.sound.limit in
+    let t = taken-marks c.self.inside.nodes in
+    rw (← c.self.view_is) (omega (arith, most, limit, t))

@@ -1,4 +1,4 @@
-use Rattle.std.proofs.Common.{◌≡◌, ◌≤◌, ◌∙◌}
+use Rattle.std.proofs.Common.{◌≡◌, ◌≤◌}
 use Rattle.rd_tree.specs.Forest.{height}
 use Rattle.rd_tree.specs.Internal.Hands.{hand_at}
 use Rattle.rd_tree.specs.Internal.Laid.{laid_at, laid_by}
@@ -32,3 +32,6 @@ returns-clause-depth g c =
 
 pub returns-clause-ids : goal.returns-clause-ids
 returns-clause-ids g c = rw (← c.self.view_is) (ids_laid c.self.inside.hands.items c.self.inside.drawn.boxes c.known.ensures.ids)
+
+pub returns-clause-most : goal.returns-clause-most
+returns-clause-most g c = rw (← c.self.view_is) c.known.ensures.most

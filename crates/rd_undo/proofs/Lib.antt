@@ -1,0 +1,14 @@
+pub mod Put
+pub mod Putting
+pub mod Restoring
+pub mod Names
+pub mod Items
+pub mod Found
+pub mod Acting
+pub mod Leading
+pub mod Scrolling
+pub mod Values
+pub mod EachKind
+pub mod Law
+pub mod Visiting
+pub mod Histories

@@ -1,0 +1,27 @@
+use Rattle.std.proofs.Common.{◌≡◌, ◌∙◌, ap, sym, subst, arith, ◌∷◌, IfOk, []}
+use Rattle.rd_edits.specs.declared.edit.Edit.TheVariants.{SetStyle}
+use Rattle.rd_undo.proofs.Acting.{admitted}
+use Rattle.rd_undo.proofs.Visiting.{branch_size, style_told}
+use Rattle.rd_undo.proofs.inverse.of_style.Goals as goal
+
+pub visit_named-seen-requires-clause-known : goal.visit_named-seen-requires-clause-known
+visit_named-seen-requires-clause-known g c = (admitted (SetStyle c.args.id.now c.args.change.now) c.args.tree.now c.requires.proper c.requires.accepted).0
+
+pub returns-in_err-id-clause-looks : goal.returns-in_err-id-clause-looks
+returns-in_err-id-clause-looks g c =
+    let s = c.visit_named-seen.ensures.seen in
+    let b = branch_size c.args.id.now s.0 c.args.tree.now c.requires.proper s.1 c.visit_named-seen.result s.2 in
+    omega (arith, b, c.visit_named-seen.ensures.looks)
+
+pub returns-clause-looks : goal.returns-clause-looks
+returns-clause-looks g c =
+    let s = c.visit_named-seen.ensures.seen in
+    let b = branch_size c.args.id.now s.0 c.args.tree.now c.requires.proper s.1 c.visit_named-seen.result s.2 in
+    omega (arith, b, c.visit_named-seen.ensures.looks)
+
+pub returns-clause-inverse : goal.returns-clause-inverse
+returns-clause-inverse g c =
+    let s = c.visit_named-seen.ensures.seen in
+    let told = style_told c.args.id.now s.0 c.args.tree.now c.requires.proper s.1 c.visit_named-seen.result s.2 c.args.change.now in
+    subst (λ z. IfOk c.only.result (λ v. v.items ≡ z))
+    (ap (λ x. SetStyle x c.previous-change.result ∷ []) c.in_ok-id.ensures ∙ (ap (λ x. SetStyle c.args.id.now x ∷ []) c.previous-change.ensures ∙ sym told)) c.only.ensures
