@@ -1,5 +1,5 @@
 -- The lines of entries that are put one on another.
-use Rattle.std.proofs.Common.{◌≡◌, ℕ, zero, suc, ◌+◌, ◌<◌, ◌≤◌, List, [], ◌∷◌, ◌++◌, length, take, get_or, refl, sym, ◌∙◌, ap, arith, append_assoc, append-nil, inl, inr}
+use Rattle.std.proofs.Common.{◌≡◌, ℕ, zero, suc, ◌+◌, ◌<◌, ◌≤◌, List, [], ◌∷◌, ◌++◌, length, length-append, take, get_or, refl, sym, ◌∙◌, ap, arith, append_assoc, append-nil, inl, inr}
 use Rattle.std.proofs.lemmas.Bool.{cases_lt, lt-ltb, le-ltb}
 use Rattle.std.proofs.lemmas.List.{take_more}
 use Rattle.rd_item.specs.Items.{Made}
@@ -16,7 +16,7 @@ use Rattle.rd_list.specs.declared.kept.Entry.TheVariants as kept
 use Rattle.rd_list.proofs.News.{kept-append}
 use Rattle.rd_list.proofs.Viewing.{larger-none}
 use Rattle.rd_tree.specs.Document.{BoxForest}
-use Rattle.rd_report.specs.Dumps.{item_line, group_line, lines, width}
+use Rattle.rd_report.specs.Dumps.{NamedList, item_line, group_line, lines, width, named_item, named_group, named_list}
 
 abbrev KeptEntries : Type 0
 KeptEntries = Entries (Ordered EntryKey Wrapper) Made
@@ -31,22 +31,37 @@ flat-unordered nil = refl
 flat-unordered (leaf m xs) = ap (λ z. m ∷ z) (flat-unordered xs)
 flat-unordered (group g inner xs) = rw (flat-unordered inner, flat-unordered xs) refl
 
-lines-join : (t : BoxForest) (d : ℕ) (xs ys : Entries Wrapper Made) → lines t d (xs ▷ ys) ≡ lines t d xs ++ lines t d ys
-lines-join t d nil ys = refl
-lines-join t d (leaf i xs) ys =
-    ap (λ z. item_line t d i ++ z) (lines-join t d xs ys) ∙ sym (append_assoc (item_line t d i) (lines t d xs) (lines t d ys))
-lines-join t d (group g inner xs) ys =
-    let front : List ℕ = group_line t d g (width inner) ++ lines t (d + 1) inner in
-    ap (λ z. front ++ z) (lines-join t d xs ys) ∙ sym (append_assoc front (lines t d xs) (lines t d ys))
+named-join : (t : BoxForest) (xs ys : Entries Wrapper Made) → named_list t (xs ▷ ys) ≡ named_list t xs ▷ named_list t ys
+named-join t nil ys = refl
+named-join t (leaf m xs) ys = ap (leaf (named_item t m)) (named-join t xs ys)
+named-join t (group g inner xs) ys = ap (group (named_group t g) (named_list t inner)) (named-join t xs ys)
+
+-- a list has as many leaves by ids
+pub leaves-named : (t : BoxForest) (xs : Entries Wrapper Made) → length (flat (named_list t xs)) ≡ length (flat xs)
+leaves-named t nil = refl
+leaves-named t (leaf m xs) = ap suc (leaves-named t xs)
+leaves-named t (group g inner xs) =
+    length-append (flat (named_list t inner)) (flat (named_list t xs))
+    ∙ rw (leaves-named t inner, leaves-named t xs) (sym (length-append (flat inner) (flat xs)))
+
+lines-join : (d : ℕ) (xs ys : NamedList) → lines d (xs ▷ ys) ≡ lines d xs ++ lines d ys
+lines-join d nil ys = refl
+lines-join d (leaf i xs) ys =
+    ap (λ z. item_line d i ++ z) (lines-join d xs ys) ∙ sym (append_assoc (item_line d i) (lines d xs) (lines d ys))
+lines-join d (group g inner xs) ys =
+    let front : List ℕ = group_line d g (width inner) ++ lines (d + 1) inner in
+    ap (λ z. front ++ z) (lines-join d xs ys) ∙ sym (append_assoc front (lines d xs) (lines d ys))
 
 -- the lines of kept entries
 abbrev told : {A : Type 0} → BoxForest → ℕ → List (Entry A) → List ℕ
-told t d es = lines t d (unordered (kept_entries es))
+told t d es = lines d (named_list t (unordered (kept_entries es)))
 
 told-append : {A : Type 0} (t : BoxForest) (d : ℕ) (es fs : List (Entry A)) → told t d (es ++ fs) ≡ told t d es ++ told t d fs
 told-append t d es fs =
-    ap (λ z. lines t d (unordered z)) (kept-append es fs) ∙ ap (lines t d) (unordered-join (kept_entries es) (kept_entries fs))
-    ∙ lines-join t d (unordered (kept_entries es)) (unordered (kept_entries fs))
+    ap (λ z. lines d (named_list t (unordered z))) (kept-append es fs)
+    ∙ ap (λ z. lines d (named_list t z)) (unordered-join (kept_entries es) (kept_entries fs))
+    ∙ ap (lines d) (named-join t (unordered (kept_entries es)) (unordered (kept_entries fs)))
+    ∙ lines-join d (named_list t (unordered (kept_entries es))) (named_list t (unordered (kept_entries fs)))
 
 -- one more entry's lines
 pub lines_more : {A : Type 0} (t : BoxForest) (d : ℕ) (es : List (Entry A)) (i : ℕ) (x : Entry A) (begun before after : List ℕ)
@@ -86,4 +101,4 @@ depth_at (kept.Group g ∷ es) (suc i) x h is =
 pub depth_inside : (n : ℕ) → n + 1 ≤ larger (n + 1) 0
 depth_inside n = (at_least (n + 1) 0).0
 
-pub ruleset dumping = (flat-unordered, append_assoc, append-nil)
+pub ruleset dumping = (flat-unordered, leaves-named, append_assoc, append-nil)

@@ -6,7 +6,7 @@ ghost use Rattle.rd_list.specs.KeptView.{kept_entries};
 ghost use Rattle.rd_list.specs.Unordered.{unordered};
 ghost use Rattle.rd_list.specs.GroupDepth.{group_depth};
 ghost use Rattle.rd_report.specs.Dumps as dumps;
-ghost use Rattle.rd_report.specs.Dumps.{width};
+ghost use Rattle.rd_report.specs.Dumps.{width, named_item, named_group, named_list};
 
 use crate::words::{id_text, mode_text, part_text, pointer_text, push_color, push_shape};
 use rd_item::Item;
@@ -38,7 +38,7 @@ fn push_item_line<A: Ledger, B: Ledger>(
     item: &Item<A>,
 ) -> Result<(), AllocError>
     ensures { OnOk result (string_bytes out.new ≡ string_bytes out.old
-        ++ dumps.item_line tree.now.boxes depth item.now) }
+        ++ dumps.item_line depth (named_item tree.now.boxes item.now)) }
 {
     let visible = item.visible();
     let shape = item.shape();
@@ -64,8 +64,8 @@ fn push_group_line<A: Ledger, B: Ledger>(
     group: &Group<A>,
 ) -> Result<(), AllocError>
     ensures { OnOk result (string_bytes out.new ≡ string_bytes out.old
-        ++ dumps.group_line tree.now.boxes depth (record { key = group.now.key; opacity = group.now.opacity; blend = group.now.blend })
-        (width (unordered group.now.inner.entries))) }
+        ++ dumps.group_line depth (named_group tree.now.boxes (record { key = group.now.key; opacity = group.now.opacity; blend = group.now.blend }))
+        (width (named_list tree.now.boxes (unordered group.now.inner.entries)))) }
 {
     let id = id_text(tree, group.key);
     let opacity = group.opacity;
@@ -91,7 +91,7 @@ fn push_list<A: Ledger, B: Ledger>(
 ) -> Result<(), AllocError>
     requires { depth + group_depth list.now.entries < 2 ^ 64 }
     ensures { OnOk result (string_bytes out.new ≡ string_bytes out.old
-        ++ dumps.lines tree.now.boxes depth (unordered list.now.entries)) }
+        ++ dumps.lines depth (named_list tree.now.boxes (unordered list.now.entries))) }
 {
     push_entries(out, tree, depth, &list.entries)
 }
@@ -106,7 +106,7 @@ fn push_entries<A: Ledger, B: Ledger>(
 ) -> Result<(), AllocError>
     requires { depth + group_depth (kept_entries entries.now) < 2 ^ 64 }
     ensures { OnOk result (string_bytes out.new ≡ string_bytes out.old
-        ++ dumps.lines tree.now.boxes depth (unordered (kept_entries entries.now))) }
+        ++ dumps.lines depth (named_list tree.now.boxes (unordered (kept_entries entries.now)))) }
 {
     for entry in entries {
         push_entry(out, tree, depth, entry)?;
@@ -124,7 +124,7 @@ fn push_entry<A: Ledger, B: Ledger>(
 ) -> Result<(), AllocError>
     requires { depth + group_depth (kept_entries (entry.now ∷ [])) < 2 ^ 64 }
     ensures { OnOk result (string_bytes out.new ≡ string_bytes out.old
-        ++ dumps.lines tree.now.boxes depth (unordered (kept_entries (entry.now ∷ [])))) }
+        ++ dumps.lines depth (named_list tree.now.boxes (unordered (kept_entries (entry.now ∷ []))))) }
 {
     match entry {
         Entry::Leaf(item) => push_item_line(out, tree, depth, item),
@@ -144,7 +144,7 @@ fn push_whole<A: Ledger, B: Ledger>(
     requires leaves { length (flat list.list.now.entries) < 4294967296 }
     requires groups { group_depth list.list.now.entries < 4294967296 }
     ensures { OnOk result (string_bytes out.new ≡ string_bytes out.old
-        ++ dumps.dump_lines tree.now.boxes (unordered list.entry.list.now.entries)) }
+        ++ dumps.dump_lines (named_list tree.now.boxes (unordered list.entry.list.now.entries))) }
 {
     let leaves = list.leaves();
     write!(out, "dump {leaves}\n")?;
@@ -162,7 +162,7 @@ pub fn push_dump<A: Ledger, B: Ledger>(
     requires leaves { length (flat list.list.now.entries) < 4294967296 }
     requires groups { group_depth list.list.now.entries < 4294967296 }
     ensures pushed { OnOk result (string_bytes out.new ≡ string_bytes out.old
-        ++ dumps.dump_lines tree.now.boxes (unordered list.entry.list.now.entries)) }
+        ++ dumps.dump_lines (named_list tree.now.boxes (unordered list.entry.list.now.entries))) }
     ensures kept { OnErr result (string_bytes out.new ≡ string_bytes out.old) }
 {
     let mut lines = String::new(*out.allocator());

@@ -20,3 +20,4 @@ pub use dump::push_dump;
 pub use picture::{p6, picture_head, push_px};
 pub use summary::{Totals, push_final, push_summary};
 pub use tiles::push_tiles;
+pub use words::{id_text, part_text};

@@ -12,7 +12,7 @@ use std::alloc::AllocError;
 use std::sync::ledger::Ledger;
 
 /// The part of a box that a leaf paints.
-pub(crate) fn part_text(part: Part) -> &'static str
+pub fn part_text(part: Part) -> &'static str
     ensures { result.now ≡ words.part_text part }
 {
     match part {
@@ -44,7 +44,7 @@ pub(crate) fn pointer_text(hits: bool) -> &'static str
 }
 
 /// The id of a box, empty where there is no such box.
-pub(crate) fn id_text<B: Ledger>(tree: &Tree<B>, key: BoxKey) -> &str
+pub fn id_text<B: Ledger>(tree: &Tree<B>, key: BoxKey) -> &str
     ensures { result.now ≡ words.id_text key tree.now.boxes }
 {
     match tree.id(key) {

@@ -25,7 +25,7 @@ use Rattle.rd_scene.specs.declared.script.Command.{Command}
 use Rattle.rd_scene.specs.declared.script.Command.TheVariants.{Change, Paint, Hit, Pixel, Dump, Shot, Undo}
 use Rattle.rd_scene.specs.Planting.{Plants}
 use Rattle.rd_report.specs.Answers.{ok_line, refused_line, paint_line, hit_line, pixel_line, shot_line, undone_line}
-use Rattle.rd_report.specs.Dumps.{dump_lines}
+use Rattle.rd_report.specs.Dumps.{dump_lines, named_list}
 use Rattle.rd_report.specs.Words.{id_text}
 use Rattle.rd_run.specs.Figures.{max_undos}
 use Rattle.rd_run.specs.Pictures.{picture}
@@ -137,7 +137,7 @@ pixel_answer x y s = pixel_line (shown_at s.tree x y)
 
 -- the lines of the kept list
 abbrev pub dump_answer : State → List ℕ
-dump_answer s = dump_lines s.tree.boxes s.kept
+dump_answer s = dump_lines (named_list s.tree.boxes s.kept)
 
 -- the digest of the picture of the painting order of the tree
 abbrev pub shot_answer : State → List ℕ

@@ -7,7 +7,7 @@ use Rattle.rd_report.proofs.dump.+lines.Given as goal
 
 -- the lines of the entries so far
 abbrev pub invariant-push_entries-loop-entry : goal.invariant-push_entries-loop-entry
-invariant-push_entries-loop-entry g l = string_bytes l.out ≡ string_bytes l.fn.out ++ dumps.lines l.tree.boxes l.depth (unordered (kept_entries (take l.entry-index l.entries)))
+invariant-push_entries-loop-entry g l = string_bytes l.out ≡ string_bytes l.fn.out ++ dumps.lines l.depth (dumps.named_list l.tree.boxes (unordered (kept_entries (take l.entry-index l.entries))))
 
 abbrev pub decreases-push_list : goal.decreases-push_list
 decreases-push_list g l = 3 * list_size l.list.now.entries + 2

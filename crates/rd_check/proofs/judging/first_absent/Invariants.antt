@@ -1,0 +1,10 @@
+use Rattle.std.proofs.Common.{map}
+use Rattle.rd_check.specs.Internal.Finding as finding
+use Rattle.rd_check.specs.Internal.Finding.{IsHit}
+use Rattle.rd_check.specs.Internal.Sights.{found_name}
+use Rattle.rd_check.proofs.Searching.{NoneBelow}
+use Rattle.rd_check.proofs.judging.first_absent.Given as goal
+
+-- none so far
+abbrev pub invariant-loop-i : goal.invariant-loop-i
+invariant-loop-i l = NoneBelow (IsHit (map (finding.is_none_of l.names) (map found_name l.leaves))) l.i

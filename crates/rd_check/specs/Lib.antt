@@ -1,0 +1,6 @@
+pub mod Listed
+pub mod Dumped
+pub mod Verdicts
+pub mod Checked
+pub mod Spoken
+pub mod Internal
