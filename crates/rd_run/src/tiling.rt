@@ -70,6 +70,7 @@ fn retile<A: Ledger, B: Ledger>(
     let list = engine.view();
     let number = engine.paints();
     let all = tiles.canvas.columns() * tiles.canvas.rows();
+    tiles.buffers.make_room(list.leaves() as usize)?;
     let met = tiles
         .canvas
         .repaint_tiles(list, area, &mut tiles.buffers, number);
