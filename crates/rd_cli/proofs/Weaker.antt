@@ -2,7 +2,7 @@
 use Rattle.std.proofs.Common.{◌≡◌, ℕ, subst, inl, inr, Option, Some, None}
 use Rattle.rd_run.specs.Endings.{Stream, Counter, counter, EndsAs, Ends}
 use Rattle.rd_run.specs.declared.status.Status.{Status}
-use Rattle.rd_run.specs.declared.status.Status.TheVariants.{Done, Usage, NotJson, Form, ReadFault, WriteFault, NoMemory, TooLarge, BadWire}
+use Rattle.rd_run.specs.declared.status.Status.TheVariants.{Done, Usage, NotJson, Form, ReadFault, WriteFault, NoMemory, TooLarge, BadWire, BadDump}
 use Rattle.rd_run.specs.declared.words.WordsForm.{WordsForm}
 
 module _ (unread untouched less : Type 0) (source out : Stream) (made looks : Counter) (f : untouched → less) where
@@ -14,6 +14,7 @@ module _ (unread untouched less : Type 0) (source out : Stream) (made looks : Co
   weaker_as form ReadFault e = (e.0, f e.1, e.2)
   weaker_as form TooLarge e = (e.0, f e.1, e.2, e.3)
   weaker_as form BadWire e = (e.0, f e.1, e.2)
+  weaker_as form BadDump e = (e.0, f e.1, e.2)
   weaker_as form WriteFault e = e
   weaker_as form NoMemory e = (e.0, elim e.1 [ inl u ↦ inl (f u) | inr u ↦ inr u ])
 
@@ -28,6 +29,7 @@ module _ (unread untouched less : Type 0) (source out : Stream) (made looks : Co
   weaker None WriteFault e = absurd e
   weaker None TooLarge e = absurd e
   weaker None BadWire e = absurd e
+  weaker None BadDump e = absurd e
 
 -- the same of counters that began at 0
 pub from_zero : (unread less : Type 0) (source out : Stream) (m made l looks : ℕ) (words : Option WordsForm) (s : Status) → m ≡ 0 → l ≡ 0

@@ -19,6 +19,7 @@ pub mod Following
 pub mod Planted
 pub mod TiledAnswers
 pub mod Finishing
+pub mod Splitting
 pub mod Wiring
 pub mod PictureRows
 pub mod Counted

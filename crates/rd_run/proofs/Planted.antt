@@ -27,7 +27,7 @@ use Rattle.rd_run.specs.Internal.Answered.{AnswersAll, AnswersPart, AnswersAs, A
 use Rattle.rd_run.specs.Internal.Lasts.{IsWellFormed}
 use Rattle.rd_run.specs.Internal.Session.{SessionState, Shows, Does, MayGoOn}
 use Rattle.rd_run.specs.declared.status.Status.{Status}
-use Rattle.rd_run.specs.declared.status.Status.TheVariants.{Done, Usage, NotJson, Form, ReadFault, WriteFault, NoMemory, TooLarge, BadWire}
+use Rattle.rd_run.specs.declared.status.Status.TheVariants.{Done, Usage, NotJson, Form, ReadFault, WriteFault, NoMemory, TooLarge, BadWire, BadDump}
 use Rattle.rd_run.proofs.Going.{paints_if_goes}
 use Rattle.rd_run.proofs.Runs.{gains_none, stays, counted_on, within_on, within_more}
 
@@ -167,6 +167,7 @@ module _ (untouched : Type 0) (is_answer : List ℕ → Counts → Type 0) (m n 
   ends_written o q f f' text counts ReadFault a x y w = absurd w
   ends_written o q f f' text counts TooLarge a x y w = absurd w
   ends_written o q f f' text counts BadWire a x y w = absurd w
+  ends_written o q f f' text counts BadDump a x y w = absurd w
 
 module _ (untouched : Type 0) (m n l k : ℕ) where
   -- without memory, where the commands could be done

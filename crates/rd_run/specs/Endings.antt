@@ -18,10 +18,14 @@ use Rattle.rd_run.specs.Figures.{most_bytes}
 use Rattle.rd_wire.specs.Wires.{spelled, IsWire}
 use Rattle.rd_wire.specs.declared.wire.Wire as wires
 use Rattle.rd_run.specs.Tiled.{IsScriptTiles}
+use Rattle.rd_run.specs.Checks.{dump_before, script_from, IsLastTree, leaf_count, IsScriptVerdict, IsNoDumpText}
+use Rattle.rd_check.specs.Dumped.{IsDumpText}
+use Rattle.rd_tree.specs.Document.{Document}
+use Rattle.rd_tree.specs.Forest.{size}
 use Rattle.rd_run.specs.declared.status.Status.{Status}
-use Rattle.rd_run.specs.declared.status.Status.TheVariants.{Done, Usage, NotJson, Form, ReadFault, WriteFault, NoMemory, TooLarge, BadWire}
+use Rattle.rd_run.specs.declared.status.Status.TheVariants.{Done, Usage, NotJson, Form, ReadFault, WriteFault, NoMemory, TooLarge, BadWire, BadDump}
 use Rattle.rd_run.specs.declared.words.WordsForm.{WordsForm}
-use Rattle.rd_run.specs.declared.words.WordsForm.TheVariants.{Replay, Render, Tiles, Wire, Compose, Storm}
+use Rattle.rd_run.specs.declared.words.WordsForm.TheVariants.{Replay, Render, Tiles, Wire, Compose, Check, Storm}
 
 -- the exit status
 abbrev pub number : Status → ℕ
@@ -34,6 +38,7 @@ number WriteFault = 5
 number NoMemory = 6
 number TooLarge = 7
 number BadWire = 8
+number BadDump = 9
 
 -- where a rule of the format is broken
 abbrev pub place_text : Place → List ℕ
@@ -58,7 +63,7 @@ why_text why.Command = codes "Command"
 -- the line on standard error
 abbrev pub line_of : Status → List ℕ
 line_of Done = []
-line_of Usage = codes "usage: rd_cli replay | rd_cli render | rd_cli storm --seed N --boxes N --edits N | rd_cli tiles | rd_cli wire | rd_cli compose\n"
+line_of Usage = codes "usage: rd_cli replay | rd_cli render | rd_cli storm --seed N --boxes N --edits N | rd_cli tiles | rd_cli wire | rd_cli compose | rd_cli check\n"
 line_of NotJson = codes "not json\n"
 line_of (Form p w) = codes "form: " ++ (place_text p ++ (codes ": " ++ (why_text w ++ codes "\n")))
 line_of ReadFault = codes "read fault\n"
@@ -66,6 +71,7 @@ line_of WriteFault = codes "write fault\n"
 line_of NoMemory = codes "out of memory\n"
 line_of TooLarge = codes "input too large\n"
 line_of BadWire = codes "bad wire\n"
+line_of BadDump = codes "bad dump\n"
 
 -- What is known of a stream before and after a run: its bytes where it tells them (of a source those that are left, of a
 -- sink those that were written), and its count of faults.
@@ -116,6 +122,16 @@ ReadsScript form = ReadsInput form
 abbrev pub ReadsWire : WordsForm → Type 0
 ReadsWire Compose = Unit {0}
 ReadsWire form = ⊥
+
+-- words of a form that read a dump before a script
+abbrev pub ReadsDump : WordsForm → Type 0
+ReadsDump Check = Unit {0}
+ReadsDump form = ⊥
+
+-- the bytes of the script in the input that words of a form read
+abbrev pub script_bytes : WordsForm → List ℕ → List ℕ
+script_bytes Check bytes = script_from bytes
+script_bytes form bytes = bytes
 
 -- these bytes are the input that a form of words takes; 'unread' says that the source is the one of before
 abbrev pub IsInput : Type 0 → WordsForm → Stream → List ℕ → Type 0
@@ -175,6 +191,8 @@ IsAnswer Render bytes text counts = (s : Script) × IsScriptText bytes s × IsSc
 IsAnswer Tiles bytes text counts = (s : Script) × IsScriptText bytes s × IsScriptTiles s text counts
 IsAnswer Wire bytes text counts = (s : Script) × IsScriptText bytes s × IsScriptWire s text counts
 IsAnswer Compose bytes text counts = (w : wires.Wire) × IsWireText bytes w × IsWirePicture w text counts
+IsAnswer Check bytes text counts =
+    (s : Script) × IsScriptText (script_from bytes) s × IsScriptVerdict (dump_before bytes) s text counts
 IsAnswer (Storm seed boxes edits) bytes text counts = IsStormSummary seed boxes edits text counts
 
 module _ (out : Stream) (made looks : Counter) where
@@ -189,6 +207,14 @@ module _ (out : Stream) (made looks : Counter) where
   WritesPart form bytes =
       (text : List ℕ) × (counts : Counts) × IsAnswer form bytes text counts × GainsPart out.bytes out.bytes_now text
       × (made.now ≤ made.was + counts.built) × (looks.now ≤ looks.was + counts.looks)
+
+  -- What was done without memory: a part as above. Under `check` nothing is written then, and no more items were made than the
+  -- painting order of the tree at the end of the script has.
+  abbrev pub StopsPart : WordsForm → List ℕ → Type 0
+  StopsPart Check bytes =
+      (out.bytes_now ≡ out.bytes) × ((s : Script) × IsScriptText (script_from bytes) s × ((last : Document) × IsLastTree s last
+      × (made.now ≤ made.was + leaf_count last) × (looks.now ≤ looks.was + size last.boxes)))
+  StopsPart form bytes = WritesPart form bytes
 
 -- Is nothing written with this status?
 abbrev pub WritesNothing : Status → Type 0
@@ -206,16 +232,19 @@ module _ (unread untouched : Type 0) (source out : Stream) (made looks : Counter
   EndsAs form TooLarge =
       ReadsInput form × untouched × IsFaultless source × Takes source.bytes source.bytes_now (most_bytes + 1)
   EndsAs form NotJson =
-      ReadsScript form × untouched × ((bytes : List ℕ) × IsInput unread form source bytes × HasNoReading bytes)
+      ReadsScript form × untouched × ((bytes : List ℕ) × IsInput unread form source bytes × HasNoReading (script_bytes form bytes))
   EndsAs form (Form p w) =
-      ReadsScript form × untouched × ((bytes : List ℕ) × IsInput unread form source bytes × IsOffForm bytes p w)
+      ReadsScript form × untouched × ((bytes : List ℕ) × IsInput unread form source bytes × IsOffForm (script_bytes form bytes) p w)
   EndsAs form BadWire =
       ReadsWire form × untouched × ((bytes : List ℕ) × IsInput unread form source bytes × IsNoWireText bytes)
+  EndsAs form BadDump =
+      ReadsDump form × untouched × ((bytes : List ℕ) × IsInput unread form source bytes
+      × ((s : Script) × IsScriptText (script_from bytes) s) × IsNoDumpText (dump_before bytes))
   EndsAs form WriteFault =
       HasFailed out × ((bytes : List ℕ) × IsInput unread form source bytes × WritesPart out made looks form bytes)
   EndsAs form NoMemory =
       IsFaultless source × (untouched ⊎ (IsFaultless out
-      × ((bytes : List ℕ) × IsInput unread form source bytes × WritesPart out made looks form bytes)))
+      × ((bytes : List ℕ) × IsInput unread form source bytes × StopsPart out made looks form bytes)))
   EndsAs form Done =
       IsFaultless out × ((bytes : List ℕ) × IsInput unread form source bytes × WritesAll out made looks form bytes)
 
@@ -231,6 +260,9 @@ abbrev pub HasAnswer : WordsForm → Stream → Type 0
 HasAnswer (Storm seed boxes edits) source = Unit {0}
 HasAnswer Compose source =
     (bytes : List ℕ) × (w : wires.Wire) × (source.bytes ≡ Some bytes) × (length bytes ≤ most_bytes) × IsWireText bytes w
+HasAnswer Check source =
+    (bytes : List ℕ) × (script : Script) × (source.bytes ≡ Some bytes) × (length bytes ≤ most_bytes)
+    × IsScriptText (script_from bytes) script × IsDumpText (dump_before bytes)
 HasAnswer form source =
     (bytes : List ℕ) × (script : Script) × (source.bytes ≡ Some bytes) × (length bytes ≤ most_bytes)
     × IsScriptText bytes script

@@ -3,6 +3,7 @@ pub mod Words
 pub mod Pictures
 pub mod Machine
 pub mod Tiled
+pub mod Checks
 pub mod Endings
 pub mod Slots
 pub mod Internal

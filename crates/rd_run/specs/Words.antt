@@ -6,7 +6,7 @@ use Rattle.clap.specs.declared.builder.action.ArgAction.TheVariants.{Set}
 use Rattle.rd_gen.specs.Figures.{max_edits}
 use Rattle.rd_tree.specs.Figures.{max_boxes}
 use Rattle.rd_run.specs.declared.words.WordsForm.{WordsForm}
-use Rattle.rd_run.specs.declared.words.WordsForm.TheVariants.{Replay, Render, Tiles, Wire, Compose, Storm}
+use Rattle.rd_run.specs.declared.words.WordsForm.TheVariants.{Replay, Render, Tiles, Wire, Compose, Check, Storm}
 
 -- the argument that must be given, by its place
 abbrev pub mode : Rule
@@ -59,7 +59,8 @@ abbrev pub plain_form : Text → Option WordsForm
 plain_form m =
     if bytes_eq m (codes "replay") then Some Replay else if bytes_eq m (codes "render") then Some Render else
     if bytes_eq m (codes "tiles") then Some Tiles else
-    if bytes_eq m (codes "wire") then Some Wire else if bytes_eq m (codes "compose") then Some Compose else None
+    if bytes_eq m (codes "wire") then Some Wire else if bytes_eq m (codes "compose") then Some Compose else
+    if bytes_eq m (codes "check") then Some Check else None
 
 -- the form of the values of the mode, the seed, the boxes and the edits
 abbrev pub form_of : Option Text → Option Text → Option Text → Option Text → Option WordsForm

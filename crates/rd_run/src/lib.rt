@@ -7,6 +7,7 @@
 #![tactic(auto)]
 
 mod answers;
+mod checking;
 mod composing;
 mod input;
 pub mod laws;

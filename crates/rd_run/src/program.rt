@@ -7,6 +7,7 @@ ghost use Rattle.rd_run.specs.Internal.Limits.{IsWithinLimits};
 ghost use Rattle.rd_run.specs.declared.words.WordsForm.TheVariants.{Replay, Render, Tiles, Wire};
 
 use crate::answers::answer;
+use crate::checking::check_input;
 use crate::composing::compose;
 use crate::input::input;
 use crate::performing::{render, storm, wire};
@@ -116,6 +117,7 @@ fn serve_form<S: Source, O: Sink, A: Ledger, B: Ledger>(
         WordsForm::Tiles => serve_tiles(alloc, source, out, made, looks),
         WordsForm::Wire => serve_wire(alloc, source, out, made, looks),
         WordsForm::Compose => compose(alloc, source, out),
+        WordsForm::Check => check_input(alloc, source, out, made, looks),
         WordsForm::Storm { seed, boxes, edits } => {
             storm(alloc, seed, boxes, edits, out, made, looks)
         }
@@ -149,7 +151,8 @@ fn serve<S: Source, O: Sink, A: Ledger, B: Ledger>(
 /// does the commands of a generated script, and writes a summary of four lines; under `tiles` it does what it does under
 /// `render`, on tiles of 64 by 64 pixels, and writes a line for each paint and last the digest of the picture; under `wire` it
 /// writes the list that is kept at the end of a script in the wire form; under `compose` it reads such a list, and writes its
-/// picture. The line that goes with another status than 0 goes to `err`. `made` counts the items that paints make, and
+/// picture; under `check` it reads a dump and a script behind it, does the script's edits, and writes whether the dump is one of a
+/// list that stands for the painting order then, and if not, why not. The line that goes with another status than 0 goes to `err`. `made` counts the items that paints make, and
 /// `looks` the looks at boxes.
 pub fn run<S: Source, O: Sink, E: Sink, A: Ledger, B: Ledger>(
     alloc: Global,

@@ -26,6 +26,8 @@ pub enum Status {
     TooLarge,
     /// The input is the spelling of no wire.
     BadWire,
+    /// The bytes before the script are no dump.
+    BadDump,
 }
 
 impl Status {
@@ -43,6 +45,7 @@ impl Status {
             Status::NoMemory => 6,
             Status::TooLarge => 7,
             Status::BadWire => 8,
+            Status::BadDump => 9,
         }
     }
 }

@@ -90,7 +90,7 @@ fn write_line<E: Sink>(err: &mut E, status: Status) -> Result<(), Failed>
         Status::Done => Ok(()),
         Status::Usage => write_one(
             err,
-            "usage: rd_cli replay | rd_cli render | rd_cli storm --seed N --boxes N --edits N | rd_cli tiles | rd_cli wire | rd_cli compose\n",
+            "usage: rd_cli replay | rd_cli render | rd_cli storm --seed N --boxes N --edits N | rd_cli tiles | rd_cli wire | rd_cli compose | rd_cli check\n",
         ),
         Status::NotJson => write_one(err, "not json\n"),
         Status::Form { place, why } => write_form(err, place, why),
@@ -99,6 +99,7 @@ fn write_line<E: Sink>(err: &mut E, status: Status) -> Result<(), Failed>
         Status::NoMemory => write_one(err, "out of memory\n"),
         Status::TooLarge => write_one(err, "input too large\n"),
         Status::BadWire => write_one(err, "bad wire\n"),
+        Status::BadDump => write_one(err, "bad dump\n"),
     }
 }
 

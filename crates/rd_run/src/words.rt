@@ -26,6 +26,8 @@ pub enum WordsForm {
     Wire,
     /// To write the picture of a list in the wire form.
     Compose,
+    /// To say whether a dump is one of the painting order at the end of a script, and if not, why not.
+    Check,
     /// To do the commands of a generated script, and to write a summary.
     Storm { seed: u64, boxes: u32, edits: u32 },
 }
@@ -101,6 +103,8 @@ fn plain(mode: &str) -> Option<WordsForm>
         Some(WordsForm::Wire)
     } else if mode == "compose" {
         Some(WordsForm::Compose)
+    } else if mode == "check" {
+        Some(WordsForm::Check)
     } else {
         None
     }

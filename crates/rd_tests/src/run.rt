@@ -46,7 +46,7 @@ const LEVELS: &str = r##",
 
 const USAGE: &str =
     "usage: rd_cli replay | rd_cli render | rd_cli storm --seed N --boxes N --edits N \
-| rd_cli tiles | rd_cli wire | rd_cli compose\n";
+| rd_cli tiles | rd_cli wire | rd_cli compose | rd_cli check\n";
 
 /// The list of one white pixel, in the wire form.
 const ONE_WIRE: [u8; 83] = [

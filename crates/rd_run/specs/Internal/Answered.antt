@@ -2,16 +2,19 @@
 use Rattle.std.specs.Prelude.{◌≡◌, ◌⊎◌, ℕ, ◌+◌, ◌≤◌, false, List, ◌++◌}
 use Rattle.std.specs.Io.KnownBytes.{Appends}
 use Rattle.rd_io.specs.Causes.{GainsPart, Takes}
-use Rattle.rd_scene.specs.Reading.{IsOffForm, HasNoReading}
+use Rattle.rd_tree.specs.Document.{Document}
+use Rattle.rd_tree.specs.Forest.{size}
+use Rattle.rd_scene.specs.Reading.{IsScriptText, IsOffForm, HasNoReading}
 use Rattle.rd_scene.specs.Scripts.{Script}
 use Rattle.rd_scene.specs.declared.script.Command.{Command}
 use Rattle.rd_run.specs.Machine.{State, Counts, no_counts, Run, Finishes}
 use Rattle.rd_run.specs.Endings.{Stream, Counter, HasFailed, IsFaultless, HasRead, IsNoWireText}
+use Rattle.rd_run.specs.Checks.{dump_before, script_from, IsLastTree, IsVerdictOn, IsNoDumpText, leaf_count}
 use Rattle.rd_run.specs.Internal.Session.{SessionState, AreCounted, AreWithin, Shows}
 use Rattle.rd_run.specs.Internal.Lasts.{IsWellFormed}
 use Rattle.rd_run.specs.Figures.{most_bytes}
 use Rattle.rd_run.specs.declared.status.Status.{Status}
-use Rattle.rd_run.specs.declared.status.Status.TheVariants.{Done, NotJson, Form, ReadFault, WriteFault, NoMemory, TooLarge, BadWire}
+use Rattle.rd_run.specs.declared.status.Status.TheVariants.{Done, NotJson, Form, ReadFault, WriteFault, NoMemory, TooLarge, BadWire, BadDump}
 
 -- a state in which nothing was counted
 abbrev start_of : State → State
@@ -84,6 +87,48 @@ RefusesWire source TooLarge = IsFaultless source × Takes source.bytes source.by
 RefusesWire source BadWire = (bytes : List ℕ) × HasRead source bytes × IsNoWireText bytes
 RefusesWire source NoMemory = IsFaultless source
 RefusesWire source _ = ⊥
+
+-- why no bytes were read
+abbrev pub RefusesBytes : Stream → Status → Type 0
+RefusesBytes source ReadFault = HasFailed source
+RefusesBytes source TooLarge = IsFaultless source × Takes source.bytes source.bytes_now (most_bytes + 1)
+RefusesBytes source NoMemory = IsFaultless source
+RefusesBytes source _ = ⊥
+
+-- why bytes are no script
+abbrev pub RefusesText : List ℕ → Status → Type 0
+RefusesText bytes NotJson = HasNoReading bytes
+RefusesText bytes (Form p w) = IsOffForm bytes p w
+RefusesText bytes NoMemory = Unit {0}
+RefusesText bytes _ = ⊥
+
+-- how a dump was checked beside a tree
+module _ (untouched : Type 0) (dump : List ℕ) (last : Document) (out : Stream) (made looks : Counter) where
+  abbrev pub ChecksAs : Status → Type 0
+  ChecksAs Done =
+      IsFaultless out × ((text : List ℕ) × IsVerdictOn dump last text × Appends out.bytes out.bytes_now text
+      × (made.now ≡ made.was + leaf_count last) × (looks.now ≤ looks.was + size last.boxes))
+  ChecksAs WriteFault =
+      HasFailed out × ((text : List ℕ) × IsVerdictOn dump last text × GainsPart out.bytes out.bytes_now text
+      × (made.now ≤ made.was + leaf_count last) × (looks.now ≤ looks.was + size last.boxes))
+  ChecksAs NoMemory =
+      IsFaultless out × (out.bytes_now ≡ out.bytes)
+      × (made.now ≤ made.was + leaf_count last) × (looks.now ≤ looks.was + size last.boxes)
+  ChecksAs BadDump = untouched × IsNoDumpText dump
+  ChecksAs _ = ⊥
+
+-- the same of the tree at the end of a script, or there was no memory for that
+abbrev pub ChecksOf : Type 0 → List ℕ → Script → Stream → Counter → Counter → Status → Type 0
+ChecksOf untouched dump script out made looks s =
+    (untouched × (s ≡ NoMemory))
+    ⊎ ((last : Document) × IsLastTree script last × ChecksAs untouched dump last out made looks s)
+
+-- the same of bytes with a script behind the dump, or these are no script
+abbrev pub ChecksText : Type 0 → List ℕ → Stream → Counter → Counter → Status → Type 0
+ChecksText untouched bytes out made looks s =
+    (untouched × RefusesText (script_from bytes) s)
+    ⊎ ((script : Script) × IsScriptText (script_from bytes) script
+    × ChecksOf untouched (dump_before bytes) script out made looks s)
 
 -- all of a text was written, or a front of it before a fault
 abbrev pub Writes : Stream → List ℕ → Status → Type 0

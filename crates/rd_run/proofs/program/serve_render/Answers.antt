@@ -9,4 +9,4 @@ returns-in-Ok g c =
     render_ends (Unit {0}) _ _ _ _ _ c.in-Ok.script (s.0) _ s.1 s.2 c.render.ensures
 
 pub returns-in-Err : goal.returns-in-Err
-returns-in-Err g c = script_refused (Unit {0}) _ _ _ _ _ Render _ tt tt (λ bytes r. r) c.in-Err.ensures.refused (refl, refl, refl)
+returns-in-Err g c = script_refused (Unit {0}) _ _ _ _ _ Render _ tt tt (λ bytes r. r) (λ bytes. refl) c.in-Err.ensures.refused (refl, refl, refl)
