@@ -30,9 +30,6 @@ use std::marker::Model;
 use std::mem;
 use std::sync::ledger::Ledger;
 
-#[cfg(test)]
-mod tests;
-
 /// A tree with the list and the canvas of its last paint. Items are counted in the ledger `A`, looks at boxes in `B`.
 #[derive(Drop)]
 pub struct Engine<A: Ledger, B: Ledger> {

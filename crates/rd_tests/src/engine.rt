@@ -1,4 +1,5 @@
-//! An engine without memory: what an insertion or a paint that is refused leaves, and what the next one does.
+//! An engine without memory: what an insertion or a paint that is refused leaves, and what the next one does. A small scene that is
+//! painted, edited and painted again, worked out by hand.
 ghost use Rattle.std.specs.Prelude.{◌≡◌, ◌<◌};
 
 use super::planting::{id_of, rect_of};
@@ -7,7 +8,7 @@ use rd_engine::{Engine, PaintNote};
 use rd_geom::{Color, NoMemory, Px, Rect, Size, Steps};
 use rd_item::Item;
 use rd_list::Entry;
-use rd_style::{Style, fits, fits_rect};
+use rd_style::{Style, StyleChange, fits, fits_rect};
 use rd_tree::{Id, Tree};
 use std::alloc::Global;
 use std::marker::Brand;
@@ -25,6 +26,20 @@ const RED: Color = Color {
     r: 255,
     g: 0,
     b: 0,
+    a: 255,
+};
+
+const GREEN: Color = Color {
+    r: 0,
+    g: 255,
+    b: 0,
+    a: 255,
+};
+
+const BLUE: Color = Color {
+    r: 0,
+    g: 0,
+    b: 255,
     a: 255,
 };
 
@@ -275,4 +290,79 @@ fn inserted_and_painted<A: Ledger, B: Ledger>(
 #[test]
 fn what_is_refused_changes_nothing(rt: HostRuntime) {
     inserted_and_painted::<Brand, Brand>(&rt, rt.alloc(), Blank::new(1), Blank::new(1));
+}
+
+/// A box of one colour comes last below the root.
+fn put_box<A: Ledger, B: Ledger>(
+    rt: &impl Abort,
+    alloc: Global,
+    engine: &mut Engine<A, B>,
+    id: &str,
+    rect: [i32; 4],
+    background: Color,
+) {
+    let edit = Edit::Insert {
+        id: id_of(rt, alloc, id),
+        parent: id_of(rt, alloc, "root"),
+        before: None,
+        rect: rect_of(rt, rect),
+        style: filled(background, 255),
+    };
+    assert!(rt; engine.edit(&edit).is_ok());
+    assert!(rt; engine.pending());
+}
+
+/// A box gets another colour.
+fn recolor<A: Ledger, B: Ledger>(
+    rt: &impl Abort,
+    alloc: Global,
+    engine: &mut Engine<A, B>,
+    id: &str,
+    background: Color,
+) {
+    let edit = Edit::SetStyle {
+        id: id_of(rt, alloc, id),
+        change: StyleChange {
+            background: Some(background),
+            ..StyleChange::none()
+        },
+    };
+    assert!(rt; engine.edit(&edit).is_ok());
+    assert!(rt; engine.pending());
+}
+
+/// Two boxes that overlap and one apart from them; the lower of the two gets another colour.
+fn painted_twice<A: Ledger, B: Ledger>(rt: &impl Abort, alloc: Global, items: Blank, boxes: Blank)
+    requires items_name { items.name ≡ A.name }
+    requires items_parts { items.parts ≡ A.parts }
+    requires items_some { 0 < items.parts }
+    requires boxes_name { boxes.name ≡ B.name }
+    requires boxes_parts { boxes.parts ≡ B.parts }
+    requires boxes_some { 0 < boxes.parts }
+{
+    let mut made = Steps::<A>::new(items);
+    let mut looks = Steps::<B>::new(boxes);
+    let mut engine = begun::<A, B>(rt, alloc);
+    put_box(rt, alloc, &mut engine, "a", [1, 1, 4, 4], RED);
+    put_box(rt, alloc, &mut engine, "b", [3, 3, 4, 4], GREEN);
+    put_box(rt, alloc, &mut engine, "c", [8, 8, 2, 2], BLUE);
+    assert!(rt; engine.last_area().is_none());
+    let first = painted(rt, &mut engine, &mut made, &mut looks);
+    assert!(rt; first == note_of(1, 4, 0, 100));
+    recolor(rt, alloc, &mut engine, "a", BLUE);
+    let second = painted(rt, &mut engine, &mut made, &mut looks);
+    assert!(rt; second == note_of(2, 3, 1, 16));
+    assert!(rt; !engine.pending());
+    assert!(rt; engine.last_area().map_or(0, |area| area.count()) == 16);
+    let over = engine.tree().find(&id_of(rt, alloc, "b"));
+    assert!(rt; over.is_some() && engine.hit(4, 4) == over && engine.hit(10, 4).is_none());
+    assert!(rt; engine.pixel(4, 4) == Some(GREEN) && engine.pixel(2, 2) == Some(BLUE));
+    assert!(rt; engine.pixel(0, 0) == Some(WHITE) && engine.pixel(9, 9) == Some(BLUE));
+    assert!(rt; engine.pixel(10, 0).is_none() && engine.canvas().pixel(0, -1).is_none());
+    assert!(rt; engine.view().leaves() == 4);
+}
+
+#[test]
+fn a_scene_is_painted_anew_where_it_changed(rt: HostRuntime) {
+    painted_twice::<Brand, Brand>(&rt, rt.alloc(), Blank::new(1), Blank::new(1));
 }

@@ -1,4 +1,4 @@
-use Rattle.rd_engine.proofs.engine.tests.a_scene_is_painted_anew_where_it_changed.Given as goal
+use Rattle.rd_tests.proofs.engine.a_scene_is_painted_anew_where_it_changed.Given as goal
 
 -- each counter is of the ledger that its own blank opens
 abbrev pub ghosts-painted_twice-A-Ledger : goal.ghosts-painted_twice-A-Ledger
