@@ -10,6 +10,7 @@
 
 mod blend;
 mod color;
+mod count;
 mod enclosing;
 mod rect;
 mod span;

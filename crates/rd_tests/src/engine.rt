@@ -366,3 +366,15 @@ fn painted_twice<A: Ledger, B: Ledger>(rt: &impl Abort, alloc: Global, items: Bl
 fn a_scene_is_painted_anew_where_it_changed(rt: HostRuntime) {
     painted_twice::<Brand, Brand>(&rt, rt.alloc(), Blank::new(1), Blank::new(1));
 }
+
+/// An engine whose paints nobody counts.
+#[test]
+fn a_paint_needs_no_ledger(rt: HostRuntime) {
+    let alloc = rt.alloc();
+    let mut engine = begun::<Brand, Brand>(&rt, alloc);
+    put_box(&rt, alloc, &mut engine, "a", [1, 1, 4, 4], RED);
+    assert!(rt; engine.paints() < u64::MAX);
+    let note = engine.paint(&mut Steps::idle(), &mut Steps::idle());
+    assert!(rt; note.is_ok_and(|note| note == note_of(1, 2, 0, 100)));
+    assert!(rt; engine.pixel(2, 2) == Some(RED));
+}
