@@ -4,7 +4,8 @@ ghost use Rattle.rd_tree.specs.Document.{IsRooted};
 ghost use Rattle.rd_tree.specs.Forest.{size};
 ghost use Rattle.rd_tree.specs.Drawn.{drawn};
 ghost use Rattle.rd_stack.specs.Fresh as spec;
-ghost use Rattle.rd_stack.specs.Internal.Looks.{IsGone, IsVisited, IsFirst, size_from, painted_over, painted_from, with_those_below};
+ghost use Rattle.rd_stack.specs.Looks.{IsGone, IsVisited};
+ghost use Rattle.rd_stack.specs.Internal.Looks.{IsFirst, size_from, painted_over, painted_from, with_those_below};
 
 use crate::layers::{entry_of, is_grouped};
 use crate::painted::Painted;
@@ -18,7 +19,7 @@ use std::alloc::Global;
 use std::sync::ledger::Ledger;
 
 /// A box on top of those above it.
-fn under(alloc: Global, b: &BoxData, above: &[BoxData]) -> Result<Vec<BoxData>, NoMemory>
+pub fn under(alloc: Global, b: &BoxData, above: &[BoxData]) -> Result<Vec<BoxData>, NoMemory>
     ensures { IfOk result (λ v. v.items ≡ b.now ∷ above.now) }
 {
     let mut all = Vec::new(alloc);
@@ -28,13 +29,14 @@ fn under(alloc: Global, b: &BoxData, above: &[BoxData]) -> Result<Vec<BoxData>, 
 }
 
 /// What a walk needs of a box.
-struct Visit {
-    here: BoxData,
-    first_child: Option<BoxKey>,
-    next_sibling: Option<BoxKey>,
+pub struct Visit {
+    pub here: BoxData,
+    pub first_child: Option<BoxKey>,
+    pub next_sibling: Option<BoxKey>,
 }
 
-fn look_at<B: Ledger>(tree: &Tree<B>, key: BoxKey, looks: &mut Steps<B>) -> Option<Visit>
+/// Looks at a box, which is counted once. None where the key is not live.
+pub fn look_at<B: Ledger>(tree: &Tree<B>, key: BoxKey, looks: &mut Steps<B>) -> Option<Visit>
     ensures seen { MatchOption result (IsGone key (drawn tree.now)) (λ s. IsVisited key (drawn tree.now) s) }
     ensures looks { looks.new ≡ looks.old + 1 }
 {

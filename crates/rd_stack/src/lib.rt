@@ -16,6 +16,11 @@ mod parts;
 mod path;
 mod steps;
 
-pub use fresh::fresh_list;
-pub use parts::{back_of, border_of, content_of, is_seen, leaf_of, outline_of, takes_hits};
-pub use path::BoxData;
+pub use fresh::{Visit, fresh_list, look_at, under};
+pub use parts::{
+    back_of, border_of, content_of, is_seen, leaf_at, leaf_of, outline_of, takes_hits,
+};
+pub use path::{
+    BoxData, BoxPath, class_of, is_atom, is_blended, is_blended_layer, is_block, is_context,
+    is_float, is_in_line, is_layer, is_local, is_root,
+};

@@ -77,6 +77,7 @@ impl Model for BoxPath {
     ghost view = { λ s. record { above = s.above.items; here = s.here } };
 }
 
+/// Is no box above it?
 pub fn is_root(x: &BoxPath) -> bool
     ensures { result ≡ paths.is_root x.now }
 {
@@ -84,31 +85,35 @@ pub fn is_root(x: &BoxPath) -> bool
 }
 
 /// Does the box make a stacking context?
-pub(crate) fn is_context(e: &BoxPath) -> bool
+pub fn is_context(e: &BoxPath) -> bool
     ensures { result ≡ paths.is_context e.now }
 {
     real(&e.here.style, is_root(e))
 }
 
+/// How the box takes part in painting.
 pub fn class_of(x: &BoxPath) -> Class
     ensures { result ≡ paths.class_of x.now }
 {
     rd_style::class_of(&x.here.style, is_root(x))
 }
 
+/// Is it a block?
 pub fn is_block(x: &BoxPath) -> bool
     ensures { result ≡ paths.has_class classes.Block x.now }
 {
     matches!(class_of(x), Class::Block)
 }
 
-pub(crate) fn is_float(x: &BoxPath) -> bool
+/// Does it float?
+pub fn is_float(x: &BoxPath) -> bool
     ensures { result ≡ paths.has_class classes.Float x.now }
 {
     matches!(class_of(x), Class::Float)
 }
 
-pub(crate) fn is_atom(x: &BoxPath) -> bool
+/// Is it an atomic inline?
+pub fn is_atom(x: &BoxPath) -> bool
     ensures { result ≡ paths.has_class classes.Atom x.now }
 {
     matches!(class_of(x), Class::Atom)
@@ -156,7 +161,7 @@ fn boxes_between<'a>(e: &BoxPath, x: &'a BoxPath) -> &'a [BoxData]
 }
 
 /// Does no layer, float or atomic inline stand between e and x?
-pub(crate) fn is_local(e: &BoxPath, x: &BoxPath) -> bool
+pub fn is_local(e: &BoxPath, x: &BoxPath) -> bool
     ensures { result ≡ paths.is_local e.now x.now }
 {
     boxes_between(e, x).iter().all(|b| is_plain(b))
@@ -175,7 +180,7 @@ fn is_all_inline(c: &BoxPath, x: &BoxPath) -> bool
 }
 
 /// Is x a layer of the stacking context e?
-pub(crate) fn is_layer(e: &BoxPath, x: &BoxPath) -> bool
+pub fn is_layer(e: &BoxPath, x: &BoxPath) -> bool
     ensures { result ≡ paths.is_layer e.now x.now }
 {
     is_of_layer_class(x) && has_no_context_between(e, x)
@@ -189,7 +194,7 @@ pub fn is_blended(x: &BoxPath) -> bool
 }
 
 /// Is x a layer of the stacking context e that blends with what e paints?
-pub(crate) fn is_blended_layer(e: &BoxPath, x: &BoxPath) -> bool
+pub fn is_blended_layer(e: &BoxPath, x: &BoxPath) -> bool
     ensures { result ≡ paths.is_blended_layer e.now x.now }
 {
     is_layer(e, x) && is_blended(x)
@@ -202,7 +207,7 @@ fn is_below(c: &BoxPath, x: &BoxPath) -> bool
 }
 
 /// Is x an inline box or an atomic inline in the line of c, which e paints?
-pub(crate) fn is_in_line(e: &BoxPath, c: &BoxPath, x: &BoxPath) -> bool
+pub fn is_in_line(e: &BoxPath, c: &BoxPath, x: &BoxPath) -> bool
     ensures { result ≡ paths.is_in_line e.now c.now x.now }
 {
     is_local(e, x) && is_inline_level(x) && is_below(c, x) && is_all_inline(c, x)

@@ -1,10 +1,14 @@
 //! The plain program on small documents, of which every pixel and hit was worked out by hand.
 ghost use Rattle.std.specs.Prelude.{◌≡◌, ◌<◌};
 
-use super::planting::{Row, add, rect_of, root_alone};
-use rd_geom::{Color, Sides, Steps};
+use super::planting::{Row, add, id_of, rect_of, root_alone};
+use rd_geom::{Blend, Color, Sides, Steps};
+use rd_keys::Part;
 use rd_list::{PlainList, plain_hit, plain_pixel};
-use rd_stack::fresh_list;
+use rd_stack::{
+    BoxPath, Visit, fresh_list, is_atom, is_blended_layer, is_context, is_float, is_in_line,
+    is_layer, is_local, leaf_at, look_at, under,
+};
 use rd_style::{Display, Floating, Overflow, Pointer, Position, Style, Visibility};
 use rd_tree::{BoxKey, Tree};
 use std::alloc::Global;
@@ -364,6 +368,80 @@ fn unseen<B: Ledger>(rt: &impl Abort, alloc: Global, looks: &mut Steps<B>) {
     check(rt, alloc, &case, looks);
 }
 
+/// A box of the tree with those above it.
+fn path_to<B: Ledger>(
+    rt: &impl Abort,
+    alloc: Global,
+    tree: &Tree<B>,
+    above: Option<&BoxPath>,
+    id: &str,
+    looks: &mut Steps<B>,
+) -> BoxPath {
+    let key = tree.find(&id_of(rt, alloc, id)).expect(rt, "a box");
+    let Visit {
+        here,
+        first_child: _,
+        next_sibling: _,
+    } = look_at(tree, key, looks).expect(rt, "a visit");
+    match above {
+        Some(parent) => BoxPath {
+            above: under(alloc, &parent.here, &parent.above).expect(rt, "boxes above"),
+            here,
+        },
+        None => BoxPath {
+            above: Vec::new(alloc),
+            here,
+        },
+    }
+}
+
+/// A float in a layer has text and an atomic inline in a line; a blended layer stands in it too.
+fn classes<B: Ledger>(rt: &impl Abort, alloc: Global, looks: &mut Steps<B>) {
+    let mut floating = of_color(GREEN);
+    floating.float = Floating::Left;
+    let mut inline = of_color(BLUE);
+    inline.display = Display::Inline;
+    let mut atomic = of_color(BLACK);
+    atomic.display = Display::InlineBlock;
+    let mut blended = at_position(RED, Position::Relative, Some(1));
+    blended.blend = Blend::Multiply;
+    let tree: Tree<B> = planted(
+        rt,
+        alloc,
+        10,
+        &[
+            white(10),
+            a_box(
+                "layer",
+                "root",
+                [0, 0, 9, 9],
+                at_position(RED, Position::Relative, Some(0)),
+            ),
+            a_box("float", "layer", [1, 1, 8, 8], floating),
+            a_box("text", "float", [2, 2, 4, 4], inline),
+            a_box("atom", "text", [3, 3, 2, 2], atomic),
+            a_box("blended", "layer", [7, 7, 2, 2], blended),
+        ],
+    );
+    let root = path_to(rt, alloc, &tree, None, "root", looks);
+    let layer = path_to(rt, alloc, &tree, Some(&root), "layer", looks);
+    let float = path_to(rt, alloc, &tree, Some(&layer), "float", looks);
+    let text = path_to(rt, alloc, &tree, Some(&float), "text", looks);
+    let atom = path_to(rt, alloc, &tree, Some(&text), "atom", looks);
+    let mixed = path_to(rt, alloc, &tree, Some(&layer), "blended", looks);
+    assert!(rt; is_context(&root) && is_context(&layer) && !is_context(&float));
+    assert!(rt; is_float(&float) && !is_float(&text) && is_atom(&atom) && !is_atom(&text));
+    assert!(rt; is_layer(&root, &layer) && !is_layer(&layer, &float));
+    assert!(rt; is_blended_layer(&layer, &mixed) && !is_blended_layer(&root, &layer));
+    assert!(rt; is_local(&layer, &float) && !is_local(&layer, &text) && is_local(&float, &atom));
+    assert!(rt; is_in_line(&float, &float, &atom) && is_in_line(&float, &text, &atom));
+    assert!(rt; !is_in_line(&layer, &layer, &atom));
+    let canvas = rect_of(rt, [0, 0, 10, 10]);
+    let leaf = leaf_at(&canvas, &atom, Part::Back).expect(rt, "a leaf");
+    assert!(rt; leaf.visible == rect_of(rt, [3, 3, 2, 2]) && leaf.color == BLACK);
+    assert!(rt; leaf_at(&canvas, &atom, Part::Border).is_none());
+}
+
 fn all_scenes<B: Ledger>(rt: &impl Abort, alloc: Global, blank: Blank)
     requires name { blank.name ≡ B.name }
     requires parts { blank.parts ≡ B.parts }
@@ -375,6 +453,7 @@ fn all_scenes<B: Ledger>(rt: &impl Abort, alloc: Global, blank: Blank)
     contexts(rt, alloc, &mut looks);
     clips(rt, alloc, &mut looks);
     unseen(rt, alloc, &mut looks);
+    classes(rt, alloc, &mut looks);
 }
 
 #[test]

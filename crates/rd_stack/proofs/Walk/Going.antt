@@ -17,7 +17,7 @@ use Rattle.rd_tree.proofs.Nodes.Looking.{fit_from}
 use Rattle.rd_stack.specs.Paths.{BoxData}
 use Rattle.rd_stack.specs.Fresh.{box_data, grouping, painted, with_below}
 use Rattle.rd_stack.specs.Painting.{Painted}
-use Rattle.rd_stack.specs.Internal.Looks.{Onward}
+use Rattle.rd_stack.specs.Looks.{Onward}
 
 placed_as : (q : Rectangle) (s : Style) (r : Rectangle) (t : Style) → q ≡ r → s ≡ t → IsNear r → Fits t → IsPlaced (outset q s.outline_width)
 placed_as q s r t e h f g = rw (e, h) (extent_is_placed r t f g)
