@@ -145,11 +145,13 @@ def verdict(entries, tree):
 
 
 def edited_tree(canvas, boxes, commands):
-    """The tree at the end of a script of which the edits alone are done."""
+    """The tree at the end of a script of which the edits and the undos are done, and nothing else."""
     tree = oracle.Tree(canvas, boxes)
     for command in commands:
         if command["do"] in oracle.EDITS:
             tree.edit(command)
+        elif command["do"] == "undo":
+            tree.undo()
     return tree
 
 

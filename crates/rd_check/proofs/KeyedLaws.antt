@@ -6,7 +6,7 @@ use Rattle.rd_tree.specs.Document.{Document}
 use Rattle.rd_report.specs.Dumps.{NamedGroup, NamedList, width}
 use Rattle.rd_check.specs.Listed.{listed}
 use Rattle.rd_check.specs.Checked.{id_at, keyed, leaf_of_item, wrapper_of}
-use Rattle.rd_check.specs.Internal.Rows.{item, head, rows}
+use Rattle.rd_check.specs.Rows.{item, head, rows}
 use Rattle.rd_check.specs.Internal.Keyed.{row_id, keyed_row}
 
 pub ids_rows : (round : List NamedGroup) (depth : ℕ) (list : NamedList) → map id_at (listed round list) ≡ map row_id (rows depth list)

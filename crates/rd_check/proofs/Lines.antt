@@ -7,7 +7,8 @@ use Rattle.rd_list.specs.Entries.{Entries, nil, leaf, group, flat, wrappers, lis
 use Rattle.rd_report.specs.Dumps.{NamedList, width, item_line, group_line, lines, dump_lines}
 use Rattle.rd_check.specs.Dumped.{IsItem, IsGroup, IsDumpOf}
 use Rattle.rd_check.specs.Internal.Reading.{◌>>=◌, field, word_before, number_of}
-use Rattle.rd_check.specs.Internal.Rows.{item, head, NamedRow, FitsRow, rows, row_line, row_lines, row_at}
+use Rattle.rd_check.specs.Rows.{item, head, NamedRow, rows}
+use Rattle.rd_check.specs.Internal.Rows.{FitsRow, row_line, row_lines, row_at}
 use Rattle.rd_check.specs.Internal.Nesting.{nests, leaves_in}
 use Rattle.rd_check.specs.Internal.Head.{head_line, after_dump, leaves_at}
 use Rattle.rd_check.proofs.Spelled.{bytes_same}

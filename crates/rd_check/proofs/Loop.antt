@@ -11,7 +11,8 @@ use Rattle.rd_report.specs.Dumps.{NamedList}
 use Rattle.rd_check.specs.Dumped.{IsDumpOf}
 use Rattle.rd_check.specs.declared.row.Row as row
 use Rattle.rd_check.specs.Internal.Reading.{Fails}
-use Rattle.rd_check.specs.Internal.Rows.{NamedRow, FitsRow, rows, row_of, row_line, row_lines, row_at}
+use Rattle.rd_check.specs.Rows.{NamedRow, rows, row_of}
+use Rattle.rd_check.specs.Internal.Rows.{FitsRow, row_line, row_lines, row_at}
 use Rattle.rd_check.specs.Internal.Nesting.{without_done, one_less, opened, may_come, nests, leaf_count, leaves_in}
 use Rattle.rd_check.specs.Internal.Head.{head_line, leaves_at}
 use Rattle.rd_check.proofs.Readers.{parts_are}

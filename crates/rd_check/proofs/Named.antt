@@ -27,7 +27,7 @@ use Rattle.rd_check.specs.declared.verdict.Verdict.TheVariants.{Unknown, Twice, 
 use Rattle.rd_check.specs.Dumped.{IsDumpOf}
 use Rattle.rd_check.specs.Verdicts.{IsFirst, Never, Says}
 use Rattle.rd_check.specs.Checked.{IsUnknown, keyed, IsVerdict, IsChecked}
-use Rattle.rd_check.specs.Internal.Rows.{NamedRow, row_of, rows}
+use Rattle.rd_check.specs.Rows.{NamedRow, row_of, rows}
 use Rattle.rd_check.specs.Internal.Lines.{KeyedRow, Way}
 use Rattle.rd_check.specs.Internal.Keyed.{shown, row_id, keyed_row, IsUnknownId, IsNamed}
 use Rattle.rd_check.specs.Internal.Finding.{way_name, Tells}

@@ -6,7 +6,7 @@ use Rattle.rd_list.specs.Entries.{Entries, nil, leaf, group, flat, list_size, no
 use Rattle.rd_list.specs.GroupDepth.{group_depth}
 use Rattle.rd_list.specs.Views.{larger}
 use Rattle.rd_report.specs.Dumps.{width}
-use Rattle.rd_check.specs.Internal.Rows.{Row, item, head, rows}
+use Rattle.rd_check.specs.Rows.{Row, item, head, rows}
 use Rattle.rd_check.specs.Internal.Nesting.{without_done, one_less, opened, may_come, nests, leaves_in}
 
 larger_is : (a b n : ℕ) → larger a b ≤ n → (a ≤ n) × (b ≤ n)

@@ -7,8 +7,8 @@ use Rattle.rd_list.specs.Entries.{Entries, nil, leaf, group}
 use Rattle.rd_report.specs.Dumps.{width}
 use Rattle.rd_check.specs.Listed.{Listed, item, head, listed, entries_of}
 use Rattle.rd_check.specs.Verdicts.{name_of}
-use Rattle.rd_check.specs.Internal.Rows as line
-use Rattle.rd_check.specs.Internal.Rows.{rows}
+use Rattle.rd_check.specs.Rows as line
+use Rattle.rd_check.specs.Rows.{rows}
 use Rattle.rd_check.specs.Internal.Lines.{KeyedRow, row_name}
 use Rattle.rd_check.specs.Internal.Finding.{row_leaf}
 

@@ -13,7 +13,8 @@ use Rattle.rd_report.specs.Words.{part_text, pointer_text, color_text, mode_text
 use Rattle.rd_report.specs.Dumps.{NamedItem, NamedGroup, item_line, group_line}
 use Rattle.rd_check.specs.Dumped.{IsBytes, IsItem, IsGroup}
 use Rattle.rd_check.specs.Internal.Reading.{is_gap, ◌>>=◌, ◌⊗◌, made_by, field, word_before, number_of, byte_of, id_word, signed_of, part_of, pointer_of, mode_of, or_else, color_of}
-use Rattle.rd_check.specs.Internal.Rows.{item, head, NamedRow, FitsRow, row_line, is_placed, rect_of, rect_at, Label, label_at, Forms, forms_at, Paint, paint_at, to_item, item_at, Ending, plain_ending, ending_at, to_head, head_at, after_word, row_at}
+use Rattle.rd_check.specs.Rows.{item, head, NamedRow}
+use Rattle.rd_check.specs.Internal.Rows.{FitsRow, row_line, is_placed, rect_of, rect_at, Label, label_at, Forms, forms_at, Paint, paint_at, to_item, item_at, Ending, plain_ending, ending_at, to_head, head_at, after_word, row_at}
 use Rattle.rd_check.proofs.Placed.{placed_back, placed_some}
 use Rattle.rd_check.proofs.Spelled.{bytes_same}
 use Rattle.rd_check.proofs.Readers.{bind_some, parts_are, IsReader, IsMade, word_takes, word_again, word_other, field_reader, pair_reader, made_reader}

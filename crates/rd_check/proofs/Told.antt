@@ -19,8 +19,8 @@ use Rattle.rd_check.specs.Listed.{Listed, item, head, entries_of}
 use Rattle.rd_check.specs.Verdicts.{IsFirst, Never, name_of, names_of, IsTwice, IsLeafAt, IsExtra, IsDifferent, IsWrapped, IsAbsent, IsCrossed, Says}
 use Rattle.rd_check.specs.declared.verdict.Verdict.{Verdict}
 use Rattle.rd_check.specs.declared.verdict.Verdict.TheVariants.{Unknown, Twice, Extra, Differs, Wrapped, Missing, Order, Yes}
-use Rattle.rd_check.specs.Internal.Rows as line
-use Rattle.rd_check.specs.Internal.Rows.{rows}
+use Rattle.rd_check.specs.Rows as line
+use Rattle.rd_check.specs.Rows.{rows}
 use Rattle.rd_check.specs.Internal.Lines.{KeyedRow, row_name, Way}
 use Rattle.rd_check.specs.Internal.Finding.{leaf_name, way_name, Sight, sight_by, row_leaf, there, is_extra, unlike, is_different, astray, wrapped_from, is_none_of, is_absent, is_later, is_crossed, same_values, same_groups, IsHit, IsTwiceIn, IsCrossedIn, IsFirstPair, names_in, sights_in, TwiceIn, ExtraIn, DifferentIn, WrappedIn, AbsentIn, IsMissingIn, Tells}
 use Rattle.rd_check.proofs.Searching.{names_differ}

@@ -1,5 +1,6 @@
 pub mod Listed
 pub mod Dumped
+pub mod Rows
 pub mod Verdicts
 pub mod Checked
 pub mod Spoken

@@ -1,5 +1,5 @@
 //! The check of a dump.
-ghost use Rattle.std.specs.Prelude.{◌≡◌, ◌<◌, ◌≤◌, ◌+◌, length, IfOk, OnOk, IsErrOf};
+ghost use Rattle.std.specs.Prelude.{◌≡◌, ◌<◌, ◌≤◌, ◌+◌, ℕ, List, length, IfOk, OnOk, IsErrOf};
 ghost use Rattle.rd_list.specs.Entries.{flat};
 ghost use Rattle.rd_list.specs.Lists.{StandsFor};
 ghost use Rattle.rd_stack.specs.Fresh.{fresh_list};
@@ -7,14 +7,15 @@ ghost use Rattle.rd_tree.specs.Forest.{size};
 ghost use Rattle.rd_report.specs.Dumps.{NamedList};
 ghost use Rattle.rd_check.specs.Dumped.{IsDumpOf};
 ghost use Rattle.rd_check.specs.Checked.{IsChecked};
+ghost use Rattle.rd_check.specs.Rows.{IsReadFrom};
 
+use crate::dump::Dump;
 use crate::fault::CheckFault;
 use crate::judging::judge;
 use crate::naming::{Named, name_all};
-use crate::nesting::read;
 use crate::painted::Painted;
 use crate::verdict::Verdict;
-use rd_geom::Steps;
+use rd_geom::{NoMemory, Steps};
 use rd_partial::build_all;
 use rd_stack::laws::stands_for_itself;
 use rd_tree::Tree;
@@ -27,6 +28,35 @@ fn fresh_stands<B: Ledger>(tree: &Tree<B>)
 {
     let _root = tree.root();
     stands_for_itself();
+}
+
+impl Dump {
+    /// What the dump is of, beside the painting order of a tree: the first verdict that holds. The items of the painting order
+    /// are counted in `made`, looks in `looks`; without memory both count what was done.
+    pub fn check<A: Ledger, B: Ledger>(
+        &self,
+        alloc: Global,
+        tree: &Tree<B>,
+        made: &mut Steps<A>,
+        looks: &mut Steps<B>,
+    ) -> Result<Verdict, NoMemory>
+        // The verdict on the text that was read: the first of the table that holds, and `Yes` exactly where the dumped list stands
+        // for the painting order.
+        ensures verdict { IfOk result (λ v. (text : List ℕ) → IsReadFrom text self.now → IsChecked text tree.now v) }
+        // The items of the painting order.
+        ensures made { OnOk result (made.new ≡ made.old + length (flat (fresh_list tree.now))) }
+        ensures most { made.new ≤ made.old + length (flat (fresh_list tree.now)) }
+        // At most one look at each box.
+        ensures looks { looks.new ≤ looks.old + size tree.now.boxes }
+    {
+        fresh_stands(tree);
+        let fresh = build_all(alloc, tree, 1, made, looks)?;
+        let painted = Painted::of(alloc, &fresh)?;
+        match name_all(alloc, tree, &self.rows)? {
+            Named::Entries(entries) => Ok(judge(alloc, &entries, &painted)?),
+            Named::Unknown(i) => Ok(Verdict::Unknown { entry: i as u32 }),
+        }
+    }
 }
 
 /// What a dump is of, beside the painting order of a tree: the first verdict that holds. `Dump` exactly where the bytes
@@ -53,12 +83,6 @@ pub fn check<A: Ledger, B: Ledger>(
     // At most one look at each box.
     ensures looks { looks.new ≤ looks.old + size tree.now.boxes }
 {
-    fresh_stands(tree);
-    let rows = read(alloc, dump)?;
-    let fresh = build_all(alloc, tree, 1, made, looks)?;
-    let painted = Painted::of(alloc, &fresh)?;
-    match name_all(alloc, tree, &rows)? {
-        Named::Entries(entries) => Ok(judge(alloc, &entries, &painted)?),
-        Named::Unknown(i) => Ok(Verdict::Unknown { entry: i as u32 }),
-    }
+    let read = Dump::read(alloc, dump)?;
+    Ok(read.check(alloc, tree, made, looks)?)
 }

@@ -7,6 +7,7 @@
 mod around;
 mod checking;
 mod crossing;
+mod dump;
 mod fault;
 mod fields;
 mod judging;
@@ -23,6 +24,7 @@ mod verdict;
 mod words;
 
 pub use checking::check;
+pub use dump::Dump;
 pub use fault::CheckFault;
 pub use speaking::push_verdict;
 pub use verdict::Verdict;

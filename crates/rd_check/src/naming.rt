@@ -1,7 +1,7 @@
 //! The entries of a dump by the keys of their boxes.
 ghost use Rattle.std.specs.Prelude.{◌≡◌, Some, IfOk, map};
 ghost use Rattle.rd_tree.specs.Document.{Document, named};
-ghost use Rattle.rd_check.specs.Internal.Rows.{row_of};
+ghost use Rattle.rd_check.specs.Rows.{row_of};
 ghost use Rattle.rd_check.specs.Internal.Keyed as keyed;
 ghost use Rattle.rd_check.specs.Internal.Lines.{row_name};
 ghost use Rattle.rd_check.specs.Internal.Keyed.{shown, keyed_row, IsNamed};

@@ -3,7 +3,8 @@ ghost use Rattle.std.specs.Prelude.{◌≡◌, ◌==◌, ◌<◌, ◌≤◌, [],
 ghost use Rattle.std.specs.List.{AllByRecursion};
 ghost use Rattle.rd_report.specs.Dumps.{NamedList};
 ghost use Rattle.rd_check.specs.Dumped.{IsDumpOf};
-ghost use Rattle.rd_check.specs.Internal.Rows.{NamedRow, FitsRow, row_of, row_lines, rows};
+ghost use Rattle.rd_check.specs.Rows.{NamedRow, row_of, rows};
+ghost use Rattle.rd_check.specs.Internal.Rows.{FitsRow, row_lines};
 ghost use Rattle.rd_check.specs.Internal.Nesting as nesting;
 ghost use Rattle.rd_check.specs.Internal.Nesting.{without_done, one_less, opened, nests};
 ghost use Rattle.rd_check.specs.Internal.Head as head;

@@ -2,7 +2,7 @@
 ghost use Rattle.std.specs.Prelude.{◌≡◌, option_map};
 ghost use Rattle.rd_check.specs.Internal.Reading.{Gives};
 ghost use Rattle.rd_check.specs.Internal.Rows as rows;
-ghost use Rattle.rd_check.specs.Internal.Rows.{row_of};
+ghost use Rattle.rd_check.specs.Rows.{row_of};
 
 use crate::fault::CheckFault;
 use crate::fields::{

@@ -154,6 +154,22 @@ impl<A: Ledger, B: Ledger> Engine<A, B> {
         &self.tree
     }
 
+    /// The tree alone. The list and the canvas are gone.
+    pub fn into_tree(self) -> Tree<B>
+        ensures { result ≡ self.tree }
+    {
+        let Engine {
+            alloc: _,
+            tree,
+            list: _,
+            canvas: _,
+            pending: _,
+            paints: _,
+            area: _,
+        } = self;
+        tree
+    }
+
     /// The canvas, lent. Once there was a paint, it shows the list.
     pub fn canvas(&self) -> &Canvas
         ensures canvas { result.now ≡ self.now.canvas }

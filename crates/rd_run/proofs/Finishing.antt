@@ -1,15 +1,15 @@
 -- How runs end.
-use Rattle.std.proofs.Common.{◌≡◌, ◌⊎◌, ℕ, ◌+◌, ◌≤◌, List, [], ◌∷◌, ◌++◌, length, Option, Some, None, refl, sym, ◌∙◌, ap, subst, inl, inr, arith, length-append, append-nil}
+use Rattle.std.proofs.Common.{◌≡◌, ◌⊎◌, ℕ, ◌+◌, ◌≤◌, List, [], ◌∷◌, ◌++◌, length, Option, Some, None, Result, Ok, Err, IfOk, IfErr, refl, sym, ◌∙◌, ap, subst, inl, inr, arith, length-append, append-nil}
 use Rattle.std.specs.Io.KnownBytes.{Consumes, IsAtEnd}
 use Rattle.rd_io.specs.Causes.{Takes}
 use Rattle.rd_scene.specs.Scripts.{Script, form_faults}
 use Rattle.rd_scene.specs.Reading.{IsScriptText, IsOffForm, HasNoReading}
 use Rattle.rd_scene.specs.declared.fault.Place.{Place}
 use Rattle.rd_scene.specs.declared.fault.Why.{Why}
-use Rattle.rd_run.specs.Endings.{Stream, Counter, HasFailed, IsFaultless, HasRead, HasAnswer, EndsAs, Ends, Completes, IsScriptAnswer, IsScriptPicture, IsStormSummary, ReadsInput, ReadsScript, ReadsWire, ReadsDump, script_bytes, WritesPart, StopsPart, IsInput, IsAnswer, IsScriptWire, IsWireText, IsNoWireText, IsWirePicture}
+use Rattle.rd_run.specs.Endings.{Stream, Counter, HasFailed, IsFaultless, HasRead, HasAnswer, RefusesInput, EndsAs, Ends, Completes, IsScriptAnswer, IsScriptPicture, IsStormSummary, ReadsInput, ReadsScript, ReadsWire, ReadsDump, script_bytes, WritesPart, StopsPart, IsInput, IsAnswer, IsScriptWire, IsWireText, IsNoWireText, IsWirePicture}
 use Rattle.rd_run.specs.Checks.{dump_before, script_from, checked_counts, IsNoDumpText}
 use Rattle.rd_check.specs.Dumped.{IsDumpText}
-use Rattle.rd_run.specs.Internal.Answered.{AnswersAs, RefusesInput, RefusesWire, RefusesBytes, RefusesText, ChecksOf, ChecksText}
+use Rattle.rd_run.specs.Internal.Answered.{AnswersAs, RefusesWire, RefusesBytes, RefusesText, RefusesDump, ChecksScript, ChecksOf, ChecksText}
 use Rattle.rd_run.specs.Figures.{most_bytes}
 use Rattle.rd_wire.specs.declared.wire.Wire as wires
 use Rattle.rd_run.specs.Machine.{Counts}
@@ -18,6 +18,53 @@ use Rattle.rd_run.specs.declared.status.Status.{Status}
 use Rattle.rd_run.specs.declared.status.Status.TheVariants.{Done, Usage, NotJson, Form, ReadFault, WriteFault, NoMemory, TooLarge, BadWire, BadDump}
 use Rattle.rd_run.specs.declared.words.WordsForm.{WordsForm}
 use Rattle.rd_run.specs.declared.words.WordsForm.TheVariants.{Replay, Render, Tiles, Wire, Compose, Check, Storm}
+
+-- what was not read, of bytes, of a script and of a wire
+module _ (source : Stream) where
+  pub bytes_unread : (s : Status) → RefusesBytes source s → RefusesInput source s
+  bytes_unread ReadFault h = h
+  bytes_unread TooLarge h = h
+  bytes_unread NoMemory h = h
+  bytes_unread NotJson h = absurd h
+  bytes_unread (Form p w) h = absurd h
+  bytes_unread BadWire h = absurd h
+  bytes_unread BadDump h = absurd h
+  bytes_unread Done h = absurd h
+  bytes_unread Usage h = absurd h
+  bytes_unread WriteFault h = absurd h
+
+  pub wire_unread : (s : Status) → RefusesBytes source s → RefusesWire source s
+  wire_unread ReadFault h = h
+  wire_unread TooLarge h = h
+  wire_unread NoMemory h = h
+  wire_unread NotJson h = absurd h
+  wire_unread (Form p w) h = absurd h
+  wire_unread BadWire h = absurd h
+  wire_unread BadDump h = absurd h
+  wire_unread Done h = absurd h
+  wire_unread Usage h = absurd h
+  wire_unread WriteFault h = absurd h
+
+  text_unread : (bytes : List ℕ) (s : Status) → HasRead source bytes → RefusesText bytes s → RefusesInput source s
+  text_unread bytes NotJson r h = (bytes, r, h)
+  text_unread bytes (Form p w) r h = (bytes, r, h)
+  text_unread bytes NoMemory r h = r.faultless
+  text_unread bytes ReadFault r h = absurd h
+  text_unread bytes TooLarge r h = absurd h
+  text_unread bytes BadWire r h = absurd h
+  text_unread bytes BadDump r h = absurd h
+  text_unread bytes Done r h = absurd h
+  text_unread bytes Usage r h = absurd h
+  text_unread bytes WriteFault r h = absurd h
+
+  module _ (bytes : List ℕ) (read : HasRead source bytes) where
+    pub script_read : (r : Result Script Status) → IfOk r (IsScriptText bytes) → IfOk r (λ s. (b : List ℕ) × IsScriptText b s × HasRead source b)
+    script_read (Ok s) h = (bytes, h, read)
+    script_read (Err e) h = tt
+
+    pub script_unread : (r : Result Script Status) → IfErr r (RefusesText bytes) → IfErr r (RefusesInput source)
+    script_unread (Ok s) h = tt
+    script_unread (Err e) h = text_unread bytes e read h
 
 -- an answer is one also where less is known of a run that wrote nothing
 pub untouched_as : (P Q : Type 0) (is_answer : List ℕ → Counts → Type 0) (out : Stream) (made looks : Counter) (s : Status) → (P → Q)
@@ -119,16 +166,30 @@ module _ (unread untouched : Type 0) (source out : Stream) (made looks : Counter
   text_refused bytes Usage r h u = absurd h
   text_refused bytes WriteFault r h u = absurd h
 
+  -- or no dump before it
+  pub dump_refused : (script : Script) (bytes : List ℕ) (s : Status) → IsScriptText (script_from bytes) script → HasRead source bytes
+      → RefusesDump (dump_before bytes) s → untouched → EndsAs unread untouched source out made looks Check s
+  dump_refused script bytes BadDump t r h u = (tt, u, (bytes, r, (script, t), h))
+  dump_refused script bytes NoMemory t r h u = (r.faultless, inl u)
+  dump_refused script bytes NotJson t r h u = absurd h
+  dump_refused script bytes (Form p w) t r h u = absurd h
+  dump_refused script bytes ReadFault t r h u = absurd h
+  dump_refused script bytes TooLarge t r h u = absurd h
+  dump_refused script bytes BadWire t r h u = absurd h
+  dump_refused script bytes Done t r h u = absurd h
+  dump_refused script bytes Usage t r h u = absurd h
+  dump_refused script bytes WriteFault t r h u = absurd h
+
   -- a dump that was checked
   pub check_ends : (script : Script) (bytes : List ℕ) (s : Status) → IsScriptText (script_from bytes) script → HasRead source bytes
-      → ChecksOf untouched (dump_before bytes) script out made looks s → EndsAs unread untouched source out made looks Check s
+      → ChecksScript untouched (dump_before bytes) script out made looks s → EndsAs unread untouched source out made looks Check s
   check_ends script bytes s t r (inl u) = subst (λ (z : Status). EndsAs unread untouched source out made looks Check z) (sym u.1) (r.faultless, inl u.0)
   check_ends script bytes Done t r (inr h) =
       let c = h.2 in (c.0, (bytes, r, (c.1.0, checked_counts (h.0), (script, t, (h.0, h.1, c.1.1, refl)), c.1.2, c.1.3, c.1.4)))
   check_ends script bytes WriteFault t r (inr h) =
       let c = h.2 in (c.0, (bytes, r, (c.1.0, checked_counts (h.0), (script, t, (h.0, h.1, c.1.1, refl)), c.1.2, c.1.3, c.1.4)))
   check_ends script bytes NoMemory t r (inr h) = let c = h.2 in (r.faultless, inr (c.0, (bytes, r, (c.1, (script, t, (h.0, h.1, c.2, c.3))))))
-  check_ends script bytes BadDump t r (inr h) = let c = h.2 in (tt, c.0, (bytes, r, (script, t), c.1))
+  check_ends script bytes BadDump t r (inr h) = absurd h.2
   check_ends script bytes Usage t r (inr h) = absurd h.2
   check_ends script bytes NotJson t r (inr h) = absurd h.2
   check_ends script bytes (Form p w) t r (inr h) = absurd h.2
@@ -136,9 +197,14 @@ module _ (unread untouched : Type 0) (source out : Stream) (made looks : Counter
   check_ends script bytes TooLarge t r (inr h) = absurd h.2
   check_ends script bytes BadWire t r (inr h) = absurd h.2
 
+  pub dump_ends : (script : Script) (bytes : List ℕ) (s : Status) → IsScriptText (script_from bytes) script → HasRead source bytes
+      → ChecksOf untouched (dump_before bytes) script out made looks s → EndsAs unread untouched source out made looks Check s
+  dump_ends script bytes s t r (inl h) = dump_refused script bytes s t r h.1 h.0
+  dump_ends script bytes s t r (inr h) = check_ends script bytes s t r h
+
   pub text_ends : (bytes : List ℕ) (s : Status) → HasRead source bytes → ChecksText untouched bytes out made looks s → EndsAs unread untouched source out made looks Check s
   text_ends bytes s r (inl h) = text_refused bytes s r h.1 h.0
-  text_ends bytes s r (inr h) = check_ends (h.0) bytes s h.1 r h.2
+  text_ends bytes s r (inr h) = dump_ends (h.0) bytes s h.1 r h.2
 
   -- a run without a wire
   pub wire_refused : (s : Status) → RefusesWire source s → untouched → EndsAs unread untouched source out made looks Compose s
@@ -180,22 +246,22 @@ both_ways b x p w o t =
     cc
 
 -- a script within the limit
-abbrev IsGiven : Stream → Type 0
+abbrev pub IsGiven : Stream → Type 0
 IsGiven source =
     (bytes : List ℕ) × (script : Script) × (source.bytes ≡ Some bytes) × (length bytes ≤ most_bytes) × IsScriptText bytes script
 
-unreadable : (source : Stream) (bytes : List ℕ) → IsGiven source → HasRead source bytes → HasNoReading bytes → ⊥
+pub unreadable : (source : Stream) (bytes : List ℕ) → IsGiven source → HasRead source bytes → HasNoReading bytes → ⊥
 unreadable source bytes v r n =
     let same : bytes ≡ v.0 = all_taken source.bytes source.bytes_now (v.0) bytes v.2 r.taken r.ended in
     let none : HasNoReading (v.0) = subst HasNoReading same n in
     none (v.4.0) v.4.1
 
-broken : (source : Stream) (bytes : List ℕ) (p : Place) (w : Why) → IsGiven source → HasRead source bytes → IsOffForm bytes p w → ⊥
+pub broken : (source : Stream) (bytes : List ℕ) (p : Place) (w : Why) → IsGiven source → HasRead source bytes → IsOffForm bytes p w → ⊥
 broken source bytes p w v r o =
     let same : bytes ≡ v.0 = all_taken source.bytes source.bytes_now (v.0) bytes v.2 r.taken r.ended in
     both_ways (v.0) (v.1) p w (subst (λ b. IsOffForm b p w) same o) v.4
 
-too_large : (source : Stream) → IsGiven source → Takes source.bytes source.bytes_now (most_bytes + 1) → ⊥
+pub too_large : (source : Stream) → IsGiven source → Takes source.bytes source.bytes_now (most_bytes + 1) → ⊥
 too_large source v t = none_over source.bytes source.bytes_now (v.0) most_bytes v.2 v.3 t
 
 -- a wire within the limit

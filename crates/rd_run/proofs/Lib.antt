@@ -20,6 +20,7 @@ pub mod Planted
 pub mod TiledAnswers
 pub mod Finishing
 pub mod Splitting
+pub mod Lasting
 pub mod Wiring
 pub mod PictureRows
 pub mod Counted

@@ -1,16 +1,9 @@
 -- A dump and the script behind it.
-use Rattle.std.proofs.Common.{◌≡◌, ℕ, zero, suc, ◌+◌, ◌<◌, ◌≤◌, Bool, true, false, List, [], ◌∷◌, ◌++◌, length, take, drop, get_or, refl, sym, ap, subst, ◌∙◌, arith, eq-eqb, Option, None, inl, inr}
+use Rattle.std.proofs.Common.{◌≡◌, ℕ, zero, suc, ◌+◌, ◌<◌, ◌≤◌, Bool, true, false, List, [], ◌∷◌, length, take, drop, get_or, refl, sym, ap, subst, ◌∙◌, arith, eq-eqb, Option, inl, inr}
 use Rattle.std.specs.Prelude.{◌==◌, if◌then◌else◌}
 use Rattle.std.proofs.lemmas.Bool.Decides.{Decides-eqb}
 use Rattle.std.proofs.lemmas.Bool.{cases_lt}
-use Rattle.std.proofs.lemmas.List.{take_all, drop_all, take_more, length-take}
-use Rattle.rd_edits.specs.declared.edit.Edit.{Edit}
-use Rattle.rd_edits.specs.declared.fault.EditFault.{EditFault}
-use Rattle.rd_edits.specs.declared.fault.EditFault.TheVariants.{NoMemory}
-use Rattle.rd_edits.specs.Refusals.{refusal_of, IsRefused}
-use Rattle.rd_edits.specs.Edited.{IsEdited}
-use Rattle.rd_scene.specs.declared.script.Command.{Command}
-use Rattle.rd_scene.specs.declared.script.Command.TheVariants.{Change}
+use Rattle.std.proofs.lemmas.List.{take_all, drop_all, length-take}
 use Rattle.rd_tree.specs.Document.{Document}
 use Rattle.rd_tree.specs.Forest.{size}
 use Rattle.rd_scene.specs.Reading.{IsScriptText}
@@ -18,12 +11,12 @@ use Rattle.rd_scene.specs.Scripts.{Script}
 use Rattle.rd_check.specs.Checked.{IsChecked}
 use Rattle.rd_check.specs.Spoken.{verdict_line}
 use Rattle.rd_check.specs.declared.verdict.Verdict.{Verdict}
-use Rattle.rd_run.specs.Checks.{dump_before, script_from, Edits, Changes, Leads, leaf_count}
-use Rattle.rd_run.specs.Endings.{Stream, Counter}
-use Rattle.rd_run.specs.Internal.Answered.{ChecksAs, ChecksOf, ChecksText, Writes}
+use Rattle.rd_run.specs.Checks.{dump_before, script_from, leaf_count}
+use Rattle.rd_run.specs.Endings.{Stream, Counter, stream, counter}
+use Rattle.rd_run.specs.Machine.{State}
+use Rattle.rd_run.specs.Internal.Answered.{ChecksAs, ChecksLast, ChecksOf, ChecksText, Writes}
 use Rattle.rd_run.specs.declared.status.Status.{Status}
 use Rattle.rd_run.specs.declared.status.Status.TheVariants as status
-use Rattle.rd_run.proofs.Editing.{refused_by}
 
 -- ---- where the script begins
 
@@ -83,31 +76,12 @@ opens_not bs i n f k below e = elim (cases_lt k i) [
 pub few_before : (n : ℕ) (bs : List ℕ) → length bs < 4294967296 → length (take n bs) < 4294967296
 few_before n bs h = let l = length-take n bs in omega (arith, h, l)
 
--- ---- the tree after edits
-
-pub edit_done : (old new : Document) (e : Edit) → refusal_of old e ≡ None → IsEdited e old new → Changes (Change e) old new
-edit_done old new e n d = subst (λ (o : Option EditFault). Edits o e old new) (sym n) d
-
-pub edit_refused : (old new : Document) (e : Edit) (f : EditFault) → IsRefused old e f → (f ≡ NoMemory → ⊥) → new ≡ old → Changes (Change e) old new
-edit_refused old new e f r n k = subst (λ (o : Option EditFault). Edits o e old new) (sym (refused_by old e f r n)) k
-
-leads_on : (a b c : Document) (cs : List Command) (x : Command) → Leads a cs b → Changes x b c → Leads a (cs ++ x ∷ []) c
-leads_on a b c [] x l d = (c, subst (λ (z : Document). Changes x z c) l d, refl)
-leads_on a b c (y ∷ cs) x l d = (l.0, l.1, leads_on (l.0) b c cs x l.2 d)
-
-pub leads_more : (a b c : Document) (cs : List Command) (i : ℕ) (x : Command) → i < length cs → x ≡ get_or cs i x → Leads a (take i cs) b → Changes x b c → Leads a (take (i + 1) cs) c
-leads_more a b c cs i x h e l d =
-    subst (λ (z : List Command). Leads a z c) (sym (take_more cs i x h ∙ ap (λ (y : Command). take i cs ++ y ∷ []) (sym e))) (leads_on a b c (take i cs) x l d)
-
-pub leads_all : (a b : Document) (cs : List Command) (i : ℕ) → Leads a (take i cs) b → length cs ≤ i → Leads a cs b
-leads_all a b cs i l past = subst (λ (z : List Command). Leads a z b) (take_all i cs past) l
-
 -- ---- what is told
 
-module _ (untouched : Type 0) (out : Stream) (made looks : Counter) where
+module _ (out : Stream) (made looks : Counter) where
   -- the line of a verdict was written
   pub verdict_written : (dump : List ℕ) (last : Document) (v : Verdict) (text : List ℕ) (s : Status) → IsChecked dump last v → text ≡ verdict_line last.boxes v
-      → made.now ≡ made.was + leaf_count last → looks.now ≤ looks.was + size last.boxes → Writes out text s → ChecksAs untouched dump last out made looks s
+      → made.now ≡ made.was + leaf_count last → looks.now ≤ looks.was + size last.boxes → Writes out text s → ChecksAs dump last out made looks s
   verdict_written dump last v text status.Done h e m l w = (w.0, (text, (v, h, e), w.1, m, l))
   verdict_written dump last v text status.WriteFault h e m l w = (w.0, (text, (v, h, e), w.1, omega (arith, m), l))
   verdict_written dump last v text status.NoMemory h e m l w = absurd w
@@ -119,6 +93,30 @@ module _ (untouched : Type 0) (out : Stream) (made looks : Counter) where
   verdict_written dump last v text status.BadWire h e m l w = absurd w
   verdict_written dump last v text status.BadDump h e m l w = absurd w
 
+module _ (out : Stream) (m n o l k j : ℕ) where
+  -- The tree is that at the end of a script; what was counted before the check is counted too.
+  pub last_checked : (dump : List ℕ) (last : State) (t : Document) (s : Status) → t ≡ last.tree → n ≡ m → k ≤ l + last.counts.looks
+      → ChecksAs dump t out (counter n o) (counter k j) s → ChecksLast dump last out (counter m o) (counter l j) s
+  last_checked dump last t s e a b c = on s (subst (λ (d : Document). ChecksAs dump d out (counter n o) (counter k j) s) e c)
+    where
+      on : (s : Status) → ChecksAs dump last.tree out (counter n o) (counter k j) s → ChecksLast dump last out (counter m o) (counter l j) s
+      on status.Done h = let y = h.1.3 in let z = h.1.4 in (h.0, (h.1.0, h.1.1, h.1.2, omega (arith, a, y), omega (arith, b, z)))
+      on status.WriteFault h = let y = h.1.3 in let z = h.1.4 in (h.0, (h.1.0, h.1.1, h.1.2, omega (arith, a, y), omega (arith, b, z)))
+      on status.NoMemory h = let y = h.2 in let z = h.3 in (h.0, h.1, omega (arith, a, y), omega (arith, b, z))
+      on status.Usage h = absurd h
+      on status.NotJson h = absurd h
+      on (status.Form p y) h = absurd h
+      on status.ReadFault h = absurd h
+      on status.TooLarge h = absurd h
+      on status.BadWire h = absurd h
+      on status.BadDump h = absurd h
+
+-- without memory, where the tree could be had
+pub unchecked : (dump : List ℕ) (last : State) (o : Option (List ℕ)) (f m n l k : ℕ) → n ≤ m → k ≤ l + last.counts.looks
+    → ChecksLast dump last (stream o o f f) (counter m n) (counter l k) status.NoMemory
+unchecked dump last o f m n l k a b = (refl, refl, omega (arith, a), omega (arith, b))
+
+module _ (untouched : Type 0) (out : Stream) (made looks : Counter) where
   -- the two parts of the bytes are their dump and their script
   pub parts_checked : (bytes text dump : List ℕ) (script : Script) (s : Status) → text ≡ script_from bytes → dump ≡ dump_before bytes → IsScriptText text script
       → ChecksOf untouched dump script out made looks s → ChecksText untouched bytes out made looks s

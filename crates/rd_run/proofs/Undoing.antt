@@ -44,7 +44,7 @@ one_uncounted : (o : Option EditFault) (e : Edit) (n : ℕ) (a b : State) → Ta
 one_uncounted (Some f) e n a b h = ap (λ (x : State). x.counts) h.1
 one_uncounted None e n a b h = ap (λ (x : State). x.counts) h.1.2
 
-uncounted : (es : List Edit) (n : ℕ) (a b : State) → TakesBack es n a b → b.counts ≡ a.counts
+pub uncounted : (es : List Edit) (n : ℕ) (a b : State) → TakesBack es n a b → b.counts ≡ a.counts
 uncounted [] n a b h = ap (λ (x : State). x.counts) h.1
 uncounted (e ∷ es) n a b h = uncounted es h.1 h.2 b h.4 ∙ one_uncounted (refusal_of a.tree e) e h.0 a h.2 h.3
 

@@ -18,10 +18,8 @@ use Rattle.rd_run.specs.Figures.{most_bytes}
 use Rattle.rd_wire.specs.Wires.{spelled, IsWire}
 use Rattle.rd_wire.specs.declared.wire.Wire as wires
 use Rattle.rd_run.specs.Tiled.{IsScriptTiles}
-use Rattle.rd_run.specs.Checks.{dump_before, script_from, IsLastTree, leaf_count, IsScriptVerdict, IsNoDumpText}
+use Rattle.rd_run.specs.Checks.{dump_before, script_from, IsLastState, leaf_count, checked_looks, IsScriptVerdict, IsNoDumpText}
 use Rattle.rd_check.specs.Dumped.{IsDumpText}
-use Rattle.rd_tree.specs.Document.{Document}
-use Rattle.rd_tree.specs.Forest.{size}
 use Rattle.rd_run.specs.declared.status.Status.{Status}
 use Rattle.rd_run.specs.declared.status.Status.TheVariants.{Done, Usage, NotJson, Form, ReadFault, WriteFault, NoMemory, TooLarge, BadWire, BadDump}
 use Rattle.rd_run.specs.declared.words.WordsForm.{WordsForm}
@@ -107,6 +105,15 @@ pub record HasRead (source : Stream) (bytes : List ℕ) : Type 0 where
   pub ended : IsAtEnd source.bytes_now
   pub within : length bytes ≤ most_bytes
   pub faultless : IsFaultless source
+
+-- Why no script was read.
+abbrev pub RefusesInput : Stream → Status → Type 0
+RefusesInput source ReadFault = HasFailed source
+RefusesInput source TooLarge = IsFaultless source × Takes source.bytes source.bytes_now (most_bytes + 1)
+RefusesInput source NotJson = (bytes : List ℕ) × HasRead source bytes × HasNoReading bytes
+RefusesInput source (Form p w) = (bytes : List ℕ) × HasRead source bytes × IsOffForm bytes p w
+RefusesInput source NoMemory = IsFaultless source
+RefusesInput source _ = ⊥
 
 -- What words of a form read: a script, a wire, or nothing.
 abbrev pub ReadsInput : WordsForm → Type 0
@@ -212,8 +219,8 @@ module _ (out : Stream) (made looks : Counter) where
   -- painting order of the tree at the end of the script has.
   abbrev pub StopsPart : WordsForm → List ℕ → Type 0
   StopsPart Check bytes =
-      (out.bytes_now ≡ out.bytes) × ((s : Script) × IsScriptText (script_from bytes) s × ((last : Document) × IsLastTree s last
-      × (made.now ≤ made.was + leaf_count last) × (looks.now ≤ looks.was + size last.boxes)))
+      (out.bytes_now ≡ out.bytes) × ((s : Script) × IsScriptText (script_from bytes) s × ((last : State) × IsLastState s last
+      × (made.now ≤ made.was + leaf_count last.tree) × (looks.now ≤ looks.was + checked_looks last)))
   StopsPart form bytes = WritesPart form bytes
 
 -- Is nothing written with this status?

@@ -1,24 +1,23 @@
 //! The check of a dump beside the tree at the end of a script.
 
-ghost use Rattle.std.specs.Prelude.{◌≡◌, ◌==◌, ◌<◌, ◌≤◌, length, take, drop, IfOk, IfErr, OnOk, string_bytes};
-ghost use Rattle.rd_scene.specs.Reading.{IsScriptText};
-ghost use Rattle.rd_scene.specs.declared.script.Command.TheVariants.{Change as Edited};
+ghost use Rattle.std.specs.Prelude.{◌≡◌, ◌==◌, ◌<◌, ◌≤◌, ℕ, List, length, take, drop, IfOk, string_bytes};
+ghost use Rattle.rd_check.specs.Rows.{IsReadFrom};
 ghost use Rattle.rd_check.specs.Spoken.{verdict_line};
-ghost use Rattle.rd_run.specs.Checks.{dump_before, script_from, Changes, Leads, IsLastTree};
-ghost use Rattle.rd_run.specs.Endings.{counter, stream, EndsAs, HasRead};
-ghost use Rattle.rd_run.specs.Internal.Answered.{ChecksAs, ChecksOf, ChecksText, RefusesBytes, RefusesText};
+ghost use Rattle.rd_run.specs.Checks.{dump_before, script_from};
+ghost use Rattle.rd_run.specs.Endings.{counter, stream, EndsAs};
+ghost use Rattle.rd_run.specs.Internal.Answered.{ChecksAs, ChecksScript, ChecksOf, ChecksText};
 ghost use Rattle.rd_run.specs.declared.words.WordsForm.TheVariants.{Check};
 
-use crate::input::MOST_BYTES;
+use crate::input::{read_bytes, script_of};
+use crate::last::last_tree;
 use crate::performing::write;
 use crate::status::Status;
-use rd_check::{CheckFault, Verdict, check, push_verdict};
-use rd_edits::{Edit, EditFault, apply};
+use rd_check::{CheckFault, Dump, Verdict, push_verdict};
 use rd_geom::{NoMemory, Steps};
-use rd_io::{ReadAll, Sink, Source, read_all};
-use rd_scene::{Command, SceneFault, Script, plant, read};
+use rd_io::{Sink, Source};
+use rd_scene::Script;
 use rd_tree::Tree;
-use std::alloc::{AllocError, Global};
+use std::alloc::Global;
 use std::sync::ledger::Ledger;
 
 /// Is it the first byte of a script? No dump has it.
@@ -42,76 +41,6 @@ fn script_start(bytes: &[u8]) -> usize
     bytes.len()
 }
 
-/// The bytes of a source, to its end.
-fn bytes_of<S: Source>(alloc: Global, source: &mut S) -> Result<Vec<u8>, Status>
-    ensures read { IfOk result (λ bytes. HasRead
-        (stream (S.left source.old) (S.left source.new) (S.faults source.old) (S.faults source.new)) bytes.items) }
-    ensures refused { IfErr result (RefusesBytes
-        (stream (S.left source.old) (S.left source.new) (S.faults source.old) (S.faults source.new))) }
-{
-    match read_all(alloc, source, MOST_BYTES) {
-        Ok(bytes) => Ok(bytes),
-        Err(ReadAll::Fault) => Err(Status::ReadFault),
-        Err(ReadAll::TooLarge) => Err(Status::TooLarge),
-        Err(ReadAll::NoMemory) => Err(Status::NoMemory),
-    }
-}
-
-/// The script that bytes are.
-fn script_of(alloc: Global, bytes: &[u8]) -> Result<Script, Status>
-    ensures script { IfOk result (IsScriptText bytes.now) }
-    ensures refused { IfErr result (RefusesText bytes.now) }
-{
-    match read(alloc, bytes) {
-        Ok(script) => Ok(script),
-        Err(SceneFault::NotJson) => Err(Status::NotJson),
-        Err(SceneFault::Form { place, why }) => Err(Status::Form { place, why }),
-        Err(SceneFault::NoMemory) => Err(Status::NoMemory),
-    }
-}
-
-/// Does an edit, where no test refuses it.
-fn edit<B: Ledger>(tree: &mut Tree<B>, edit: &Edit) -> Result<(), NoMemory>
-    ensures { OnOk result (Changes (Edited edit.now) tree.old tree.new) }
-{
-    match apply(tree, edit) {
-        Ok(()) => Ok(()),
-        Err(fault) => match fault {
-            EditFault::NoMemory => Err(AllocError),
-            _ => Ok(()),
-        },
-    }
-}
-
-/// Does a command, where it is an edit.
-fn change<B: Ledger>(tree: &mut Tree<B>, command: &Command) -> Result<(), NoMemory>
-    ensures { OnOk result (Changes command.now tree.old tree.new) }
-{
-    match command {
-        Command::Change(change) => edit(tree, change),
-        _ => Ok(()),
-    }
-}
-
-/// Does the edits among commands.
-fn change_all<B: Ledger>(tree: &mut Tree<B>, commands: &[Command]) -> Result<(), NoMemory>
-    ensures { OnOk result (Leads tree.old commands.now tree.new) }
-{
-    for command in commands {
-        change(tree, command)?;
-    }
-    Ok(())
-}
-
-/// The tree at the end of a script.
-fn last_tree<B: Ledger>(alloc: Global, script: &Script) -> Result<Tree<B>, NoMemory>
-    ensures { IfOk result (IsLastTree script.now) }
-{
-    let mut tree: Tree<B> = plant(alloc, script)?;
-    change_all(&mut tree, &script.commands)?;
-    Ok(tree)
-}
-
 fn verdict_text<B: Ledger>(
     alloc: Global,
     tree: &Tree<B>,
@@ -127,21 +56,19 @@ fn verdict_text<B: Ledger>(
 /// Checks a dump beside a tree, and writes the verdict.
 fn check_tree<O: Sink, A: Ledger, B: Ledger>(
     alloc: Global,
-    dump: &[u8],
+    dump: &Dump,
     tree: &Tree<B>,
     out: &mut O,
     made: &mut Steps<A>,
     looks: &mut Steps<B>,
 ) -> Status
-    requires { length dump.now < 4294967296 }
-    ensures { ChecksAs ((out.new ≡ out.old) × (made.new ≡ made.old) × (looks.new ≡ looks.old)) dump.now tree.now
+    ensures { (text : List ℕ) → IsReadFrom text dump.now → ChecksAs text tree.now
         (stream (O.written out.old) (O.written out.new) (O.faults out.old) (O.faults out.new))
         (counter made.old made.new) (counter looks.old looks.new) result }
 {
-    let verdict = match check(alloc, dump, tree, made, looks) {
+    let verdict = match dump.check(alloc, tree, made, looks) {
         Ok(verdict) => verdict,
-        Err(CheckFault::Dump) => return Status::BadDump,
-        Err(CheckFault::NoMemory) => return Status::NoMemory,
+        Err(_) => return Status::NoMemory,
     };
     match verdict_text(alloc, tree, verdict) {
         Ok(text) => write(out, text.as_bytes()),
@@ -152,22 +79,43 @@ fn check_tree<O: Sink, A: Ledger, B: Ledger>(
 /// Checks a dump beside the tree at the end of a script, and writes the verdict.
 fn check_script<O: Sink, A: Ledger, B: Ledger>(
     alloc: Global,
-    dump: &[u8],
+    dump: &Dump,
     script: &Script,
     out: &mut O,
     made: &mut Steps<A>,
     looks: &mut Steps<B>,
 ) -> Status
-    requires { length dump.now < 4294967296 }
-    ensures { ChecksOf ((out.new ≡ out.old) × (made.new ≡ made.old) × (looks.new ≡ looks.old)) dump.now script.now
+    ensures { (text : List ℕ) → IsReadFrom text dump.now
+        → ChecksScript ((out.new ≡ out.old) × (made.new ≡ made.old) × (looks.new ≡ looks.old)) text script.now
         (stream (O.written out.old) (O.written out.new) (O.faults out.old) (O.faults out.new))
         (counter made.old made.new) (counter looks.old looks.new) result }
 {
-    let tree: Tree<B> = match last_tree(alloc, script) {
+    let tree: Tree<B> = match last_tree(alloc, script, made, looks) {
         Ok(tree) => tree,
         Err(_) => return Status::NoMemory,
     };
     check_tree(alloc, dump, &tree, out, made, looks)
+}
+
+/// Reads a dump, checks it beside the tree at the end of a script, and writes the verdict.
+fn check_dump<O: Sink, A: Ledger, B: Ledger>(
+    alloc: Global,
+    bytes: &[u8],
+    script: &Script,
+    out: &mut O,
+    made: &mut Steps<A>,
+    looks: &mut Steps<B>,
+) -> Status
+    requires { length bytes.now < 4294967296 }
+    ensures { ChecksOf ((out.new ≡ out.old) × (made.new ≡ made.old) × (looks.new ≡ looks.old)) bytes.now script.now
+        (stream (O.written out.old) (O.written out.new) (O.faults out.old) (O.faults out.new))
+        (counter made.old made.new) (counter looks.old looks.new) result }
+{
+    match Dump::read(alloc, bytes) {
+        Ok(dump) => check_script(alloc, &dump, script, out, made, looks),
+        Err(CheckFault::Dump) => Status::BadDump,
+        Err(CheckFault::NoMemory) => Status::NoMemory,
+    }
 }
 
 /// Checks the dump before a script in bytes, and writes the verdict.
@@ -187,7 +135,7 @@ fn check_bytes<O: Sink, A: Ledger, B: Ledger>(
     let text = &bytes[start..];
     let dump = &bytes[..start];
     match script_of(alloc, text) {
-        Ok(script) => check_script(alloc, dump, &script, out, made, looks),
+        Ok(script) => check_dump(alloc, dump, &script, out, made, looks),
         Err(status) => status,
     }
 }
@@ -205,7 +153,7 @@ pub(crate) fn check_input<S: Source, O: Sink, A: Ledger, B: Ledger>(
         (stream (O.written out.old) (O.written out.new) (O.faults out.old) (O.faults out.new))
         (counter made.old made.new) (counter looks.old looks.new) Check result }
 {
-    match bytes_of(alloc, source) {
+    match read_bytes(alloc, source) {
         Ok(all) => check_bytes(alloc, all.as_slice(), out, made, looks),
         Err(status) => status,
     }

@@ -10,11 +10,11 @@ ghost use Rattle.rd_run.specs.Internal.Answered.{AnswersAs, RefusesWire};
 ghost use Rattle.rd_run.specs.Pictures.{row_of, wire_picture};
 ghost use Rattle.rd_run.specs.declared.words.WordsForm.TheVariants.{Compose};
 
-use crate::input::MOST_BYTES;
+use crate::input::read_bytes;
 use crate::performing::write;
 use crate::status::Status;
 use rd_geom::{NoMemory, Px};
-use rd_io::{ReadAll, Sink, Source, read_all};
+use rd_io::{Sink, Source};
 use rd_report::{picture_head, push_px};
 use rd_wire::{Wire, WireFault, decode, pixel};
 use std::alloc::Global;
@@ -26,11 +26,9 @@ fn wire_input<S: Source>(alloc: Global, source: &mut S) -> Result<Wire, Status>
     ensures refused { IfErr result (RefusesWire
         (stream (S.left source.old) (S.left source.new) (S.faults source.old) (S.faults source.new))) }
 {
-    let bytes = match read_all(alloc, source, MOST_BYTES) {
+    let bytes = match read_bytes(alloc, source) {
         Ok(bytes) => bytes,
-        Err(ReadAll::Fault) => return Err(Status::ReadFault),
-        Err(ReadAll::TooLarge) => return Err(Status::TooLarge),
-        Err(ReadAll::NoMemory) => return Err(Status::NoMemory),
+        Err(status) => return Err(status),
     };
     match decode(alloc, &bytes) {
         Ok(wire) => Ok(wire),

@@ -9,7 +9,7 @@ ghost use Rattle.rd_run.specs.declared.words.WordsForm.TheVariants.{Replay, Rend
 use crate::answers::answer;
 use crate::checking::check_input;
 use crate::composing::compose;
-use crate::input::input;
+use crate::input::read_input;
 use crate::performing::{render, storm, wire};
 use crate::status::Status;
 use crate::telling::tell;
@@ -33,7 +33,7 @@ fn serve_replay<S: Source, O: Sink, A: Ledger, B: Ledger>(
         (stream (O.written out.old) (O.written out.new) (O.faults out.old) (O.faults out.new))
         (counter made.old made.new) (counter looks.old looks.new) Replay result }
 {
-    match input(alloc, source) {
+    match read_input(alloc, source) {
         Ok(script) => answer(alloc, &script, out, made, looks),
         Err(status) => status,
     }
@@ -52,7 +52,7 @@ fn serve_render<S: Source, O: Sink, A: Ledger, B: Ledger>(
         (stream (O.written out.old) (O.written out.new) (O.faults out.old) (O.faults out.new))
         (counter made.old made.new) (counter looks.old looks.new) Render result }
 {
-    match input(alloc, source) {
+    match read_input(alloc, source) {
         Ok(script) => render(alloc, &script, out, made, looks),
         Err(status) => status,
     }
@@ -71,7 +71,7 @@ fn serve_tiles<S: Source, O: Sink, A: Ledger, B: Ledger>(
         (stream (O.written out.old) (O.written out.new) (O.faults out.old) (O.faults out.new))
         (counter made.old made.new) (counter looks.old looks.new) Tiles result }
 {
-    match input(alloc, source) {
+    match read_input(alloc, source) {
         Ok(script) => tiles(alloc, &script, out, made, looks),
         Err(status) => status,
     }
@@ -90,7 +90,7 @@ fn serve_wire<S: Source, O: Sink, A: Ledger, B: Ledger>(
         (stream (O.written out.old) (O.written out.new) (O.faults out.old) (O.faults out.new))
         (counter made.old made.new) (counter looks.old looks.new) Wire result }
 {
-    match input(alloc, source) {
+    match read_input(alloc, source) {
         Ok(script) => wire(alloc, &script, out, made, looks),
         Err(status) => status,
     }
@@ -145,15 +145,15 @@ fn serve<S: Source, O: Sink, A: Ledger, B: Ledger>(
     }
 }
 
-/// Does all that the program does, and gives its exit status. The words are those after the program's name. Under the
-/// word `replay` it reads a script from `source` and writes to `out` the lines that answer its commands; under `render`
-/// it reads one, does its commands, and writes the picture of what is painted at its end (Netpbm P6); under `storm` it
-/// does the commands of a generated script, and writes a summary of four lines; under `tiles` it does what it does under
-/// `render`, on tiles of 64 by 64 pixels, and writes a line for each paint and last the digest of the picture; under `wire` it
-/// writes the list that is kept at the end of a script in the wire form; under `compose` it reads such a list, and writes its
-/// picture; under `check` it reads a dump and a script behind it, does the script's edits, and writes whether the dump is one of a
-/// list that stands for the painting order then, and if not, why not. The line that goes with another status than 0 goes to `err`. `made` counts the items that paints make, and
-/// `looks` the looks at boxes.
+/// Does all that the program does, and gives its exit status. The words are those after the program's name. Under the word
+/// `replay` it reads a script from `source` and writes to `out` the lines that answer its commands; under `render` it reads
+/// one, does its commands, and writes the picture of what is painted at its end (Netpbm P6); under `storm` it does the commands
+/// of a generated script, and writes a summary of four lines; under `tiles` it does what it does under `render`, on tiles of 64
+/// by 64 pixels, and writes a line for each paint and last the digest of the picture; under `wire` it writes the list that is
+/// kept at the end of a script in the wire form; under `compose` it reads such a list, and writes its picture; under `check` it
+/// reads a dump and a script behind it, does the script's edits and undos, and writes whether the dump is one of a list that
+/// stands for the painting order then, and if not, why not. The line that goes with another status than 0 goes to `err`. `made`
+/// counts the items that paints make, and `looks` the looks at boxes.
 pub fn run<S: Source, O: Sink, E: Sink, A: Ledger, B: Ledger>(
     alloc: Global,
     words: &[String],

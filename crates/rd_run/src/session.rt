@@ -159,6 +159,22 @@ impl<A: Ledger, B: Ledger> Session<A, B> {
         &self.engine
     }
 
+    /// The tree alone.
+    pub(crate) fn into_tree(self) -> Tree<B>
+        ensures { result ≡ self.engine.tree }
+    {
+        let Session {
+            engine,
+            accepted: _,
+            refused: _,
+            built: _,
+            area: _,
+            keeps: _,
+            undo: _,
+        } = self;
+        engine.into_tree()
+    }
+
     /// How many paints there were.
     pub(crate) fn paints(&self) -> u64
         ensures count { result ≡ self.now.engine.paints }

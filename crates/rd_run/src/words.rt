@@ -58,7 +58,7 @@ fn number(digits: &[u8]) -> u128
 }
 
 /// The number that 1 to 20 digits write, if it is from `least` to `most`.
-fn number_in(text: &str, least: u64, most: u64) -> Option<u64>
+pub fn number_in(text: &str, least: u64, most: u64) -> Option<u64>
     ensures value { result ≡ spec.number_in least most text.now }
     ensures within { IfSome result (λ n. (least ≤ n) × (n ≤ most)) }
 {

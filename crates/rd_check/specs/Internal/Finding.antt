@@ -16,7 +16,7 @@ use Rattle.rd_item.specs.declared.leaf.Shape.{Shape}
 use Rattle.rd_list.specs.Wrappers.{Wrapper}
 use Rattle.rd_list.specs.Lists.{leaves_meet}
 use Rattle.rd_check.specs.Verdicts.{IsFirst, Never}
-use Rattle.rd_check.specs.Internal.Rows.{item, head}
+use Rattle.rd_check.specs.Rows.{item, head}
 use Rattle.rd_check.specs.Internal.Lines.{KeyedRow, row_name, Way}
 use Rattle.rd_check.specs.declared.verdict.Verdict.{Verdict}
 use Rattle.rd_check.specs.declared.verdict.Verdict.TheVariants.{Unknown, Twice, Extra, Differs, Wrapped, Missing, Order, Yes}

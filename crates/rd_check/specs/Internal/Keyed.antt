@@ -3,7 +3,7 @@ use Rattle.std.specs.Prelude.{◌≡◌, ℕ, ◌<◌, List, length, map, Some, 
 use Rattle.rd_tree.specs.Document.{Document, named}
 use Rattle.rd_check.specs.Verdicts.{IsFirst, Never}
 use Rattle.rd_check.specs.Checked.{leaf_of_item, wrapper_of}
-use Rattle.rd_check.specs.Internal.Rows.{item, head, NamedRow}
+use Rattle.rd_check.specs.Rows.{item, head, NamedRow}
 use Rattle.rd_check.specs.Internal.Lines.{KeyedRow}
 use Rattle.rd_check.specs.Internal.Rounds.{group_of}
 use Rattle.rd_check.specs.declared.naming.Entry as entry

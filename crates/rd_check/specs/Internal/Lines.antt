@@ -4,7 +4,7 @@ use Rattle.rd_keys.specs.declared.entry.EntryKey.{EntryKey}
 use Rattle.rd_keys.specs.declared.entry.EntryKey.TheVariants as key
 use Rattle.rd_item.specs.declared.leaf.Leaf.{Leaf}
 use Rattle.rd_list.specs.Wrappers.{Wrapper}
-use Rattle.rd_check.specs.Internal.Rows.{Row, item, head}
+use Rattle.rd_check.specs.Rows.{Row, item, head}
 
 abbrev pub KeyedRow : Type 0
 KeyedRow = Row Wrapper Leaf

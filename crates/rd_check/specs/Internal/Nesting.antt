@@ -1,6 +1,6 @@
 -- Lines that are those of a nested list.
 use Rattle.std.specs.Prelude.{ℕ, zero, suc, ◌+◌, ◌-◌, Bool, ◌&&◌, ◌==◌, nat_lt, List, [], ◌∷◌, length}
-use Rattle.rd_check.specs.Internal.Rows.{Row, item, head}
+use Rattle.rd_check.specs.Rows.{Row, item, head}
 
 -- How many entries the open groups still want, the innermost first; those that want no more are closed.
 abbrev pub without_done : List ℕ → List ℕ

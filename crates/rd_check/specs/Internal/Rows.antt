@@ -7,26 +7,10 @@ use Rattle.rd_geom.specs.declared.color.Color.{Color}
 use Rattle.rd_geom.specs.declared.blend.Blend.{Blend}
 use Rattle.rd_geom.specs.declared.blend.Blend.TheVariants.{Normal}
 use Rattle.rd_keys.specs.declared.entry.Part.{Part}
-use Rattle.rd_list.specs.Entries.{Entries, nil, leaf, group}
-use Rattle.rd_report.specs.Dumps.{NamedItem, NamedGroup, width, item_line, group_line}
+use Rattle.rd_report.specs.Dumps.{NamedItem, NamedGroup, item_line, group_line}
 use Rattle.rd_check.specs.Dumped.{IsItem, IsGroup}
-use Rattle.rd_check.specs.declared.row.Row as row
-use Rattle.rd_check.specs.declared.row.What.TheVariants as what
+use Rattle.rd_check.specs.Rows.{item, head, NamedRow}
 use Rattle.rd_check.specs.Internal.Reading.{◌>>=◌, ◌⊗◌, made_by, field, word_before, number_of, byte_of, id_word, signed_of, part_of, color_of, pointer_of, mode_of, or_else}
-
--- an entry by its line: below how many groups it is, and a leaf, or a group with the number of its own entries
-pub data Row (G L : Type 0) : Type 0 where
-  item : ℕ → L → Row G L
-  head : ℕ → G → ℕ → Row G L
-
--- the lines of a list below so many groups
-abbrev pub rows : {G L : Type 0} → ℕ → Entries G L → List (Row G L)
-rows depth nil = []
-rows depth (leaf l rest) = item depth l ∷ rows depth rest
-rows depth (group g inner rest) = head depth g (width inner) ∷ rows (depth + 1) inner ++ rows depth rest
-
-abbrev pub NamedRow : Type 0
-NamedRow = Row NamedGroup NamedItem
 
 -- its text
 abbrev pub row_line : NamedRow → List ℕ
@@ -42,13 +26,6 @@ row_lines (r ∷ rs) = row_line r ++ row_lines rs
 abbrev pub FitsRow : NamedRow → Type 0
 FitsRow (item depth i) = (depth < 2 ^ 64) × IsItem i
 FitsRow (head depth g entries) = (depth < 2 ^ 64) × IsGroup g × (entries < 2 ^ 64)
-
--- a line in memory
-abbrev pub row_of : row.Row → NamedRow
-row_of r = elim r.what as (λ w. NamedRow) [
-  | what.Item p ↦ item r.depth (record { id = r.id; part = p.part; visible = p.visible; shape = p.shape; color = p.color; hits = p.hits; made_at = p.made_at })
-  | what.Group o b n ↦ head r.depth (record { id = r.id; opacity = o; blend = b }) n
-]
 
 -- ---- reading
 

@@ -9,7 +9,7 @@ use Rattle.rd_scene.specs.Scripts.{Script}
 use Rattle.rd_scene.specs.declared.script.Command.{Command}
 use Rattle.rd_run.specs.Machine.{State, Counts, no_counts, Run, Finishes}
 use Rattle.rd_run.specs.Endings.{Stream, Counter, HasFailed, IsFaultless, HasRead, IsNoWireText}
-use Rattle.rd_run.specs.Checks.{dump_before, script_from, IsLastTree, IsVerdictOn, IsNoDumpText, leaf_count}
+use Rattle.rd_run.specs.Checks.{dump_before, script_from, IsLastState, IsVerdictOn, IsNoDumpText, leaf_count, checked_looks}
 use Rattle.rd_run.specs.Internal.Session.{SessionState, AreCounted, AreWithin, Shows}
 use Rattle.rd_run.specs.Internal.Lasts.{IsWellFormed}
 use Rattle.rd_run.specs.Figures.{most_bytes}
@@ -71,15 +71,6 @@ module _ (untouched : Type 0) (is_answer : List ℕ → Counts → Type 0) (out 
   AnswersAs NoMemory = untouched ⊎ (IsFaultless out × AnsweredPart)
   AnswersAs _ = ⊥
 
--- why no script was read
-abbrev pub RefusesInput : Stream → Status → Type 0
-RefusesInput source ReadFault = HasFailed source
-RefusesInput source TooLarge = IsFaultless source × Takes source.bytes source.bytes_now (most_bytes + 1)
-RefusesInput source NotJson = (bytes : List ℕ) × HasRead source bytes × HasNoReading bytes
-RefusesInput source (Form p w) = (bytes : List ℕ) × HasRead source bytes × IsOffForm bytes p w
-RefusesInput source NoMemory = IsFaultless source
-RefusesInput source _ = ⊥
-
 -- why no wire was read
 abbrev pub RefusesWire : Stream → Status → Type 0
 RefusesWire source ReadFault = HasFailed source
@@ -102,8 +93,14 @@ RefusesText bytes (Form p w) = IsOffForm bytes p w
 RefusesText bytes NoMemory = Unit {0}
 RefusesText bytes _ = ⊥
 
+-- why bytes are no dump
+abbrev pub RefusesDump : List ℕ → Status → Type 0
+RefusesDump dump BadDump = IsNoDumpText dump
+RefusesDump dump NoMemory = Unit {0}
+RefusesDump dump _ = ⊥
+
 -- how a dump was checked beside a tree
-module _ (untouched : Type 0) (dump : List ℕ) (last : Document) (out : Stream) (made looks : Counter) where
+module _ (dump : List ℕ) (last : Document) (out : Stream) (made looks : Counter) where
   abbrev pub ChecksAs : Status → Type 0
   ChecksAs Done =
       IsFaultless out × ((text : List ℕ) × IsVerdictOn dump last text × Appends out.bytes out.bytes_now text
@@ -114,14 +111,32 @@ module _ (untouched : Type 0) (dump : List ℕ) (last : Document) (out : Stream)
   ChecksAs NoMemory =
       IsFaultless out × (out.bytes_now ≡ out.bytes)
       × (made.now ≤ made.was + leaf_count last) × (looks.now ≤ looks.was + size last.boxes)
-  ChecksAs BadDump = untouched × IsNoDumpText dump
   ChecksAs _ = ⊥
 
--- the same of the tree at the end of a script, or there was no memory for that
+-- how it was checked beside the tree at the end of a script
+module _ (dump : List ℕ) (last : State) (out : Stream) (made looks : Counter) where
+  abbrev pub ChecksLast : Status → Type 0
+  ChecksLast Done =
+      IsFaultless out × ((text : List ℕ) × IsVerdictOn dump last.tree text × Appends out.bytes out.bytes_now text
+      × (made.now ≡ made.was + leaf_count last.tree) × (looks.now ≤ looks.was + checked_looks last))
+  ChecksLast WriteFault =
+      HasFailed out × ((text : List ℕ) × IsVerdictOn dump last.tree text × GainsPart out.bytes out.bytes_now text
+      × (made.now ≤ made.was + leaf_count last.tree) × (looks.now ≤ looks.was + checked_looks last))
+  ChecksLast NoMemory =
+      IsFaultless out × (out.bytes_now ≡ out.bytes)
+      × (made.now ≤ made.was + leaf_count last.tree) × (looks.now ≤ looks.was + checked_looks last)
+  ChecksLast _ = ⊥
+
+-- the same, or there was no memory for that
+abbrev pub ChecksScript : Type 0 → List ℕ → Script → Stream → Counter → Counter → Status → Type 0
+ChecksScript untouched dump script out made looks s =
+    (untouched × (s ≡ NoMemory))
+    ⊎ ((last : State) × IsLastState script last × ChecksLast dump last out made looks s)
+
+-- the same of bytes, or these are no dump
 abbrev pub ChecksOf : Type 0 → List ℕ → Script → Stream → Counter → Counter → Status → Type 0
 ChecksOf untouched dump script out made looks s =
-    (untouched × (s ≡ NoMemory))
-    ⊎ ((last : Document) × IsLastTree script last × ChecksAs untouched dump last out made looks s)
+    (untouched × RefusesDump dump s) ⊎ ChecksScript untouched dump script out made looks s
 
 -- the same of bytes with a script behind the dump, or these are no script
 abbrev pub ChecksText : Type 0 → List ℕ → Stream → Counter → Counter → Status → Type 0

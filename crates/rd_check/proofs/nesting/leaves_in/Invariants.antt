@@ -1,5 +1,5 @@
 use Rattle.std.proofs.Common.{◌≡◌, ◌≤◌, map, take}
-use Rattle.rd_check.specs.Internal.Rows.{row_of}
+use Rattle.rd_check.specs.Rows.{row_of}
 use Rattle.rd_check.specs.Internal.Nesting.{leaves_in}
 use Rattle.rd_check.proofs.nesting.leaves_in.Given as goal
 

@@ -1,6 +1,6 @@
 use Rattle.std.proofs.Common.{sym, ap, ◌∙◌, map, arith}
 use Rattle.std.proofs.lemmas.Result.{err_from_is_err_and}
-use Rattle.rd_check.specs.Internal.Rows.{row_of}
+use Rattle.rd_check.specs.Rows.{row_of}
 use Rattle.rd_check.specs.Internal.Nesting.{leaves_in}
 use Rattle.rd_check.proofs.Lines.{dump_reader, is_dump}
 use Rattle.rd_check.proofs.Loop.{no_head, no_rows, miscounted, few_lines}

@@ -2,7 +2,7 @@ use Rattle.std.proofs.Common.{◌≡◌, ◌++◌, ◌∷◌, [], sym, ap, ◌�
 use Rattle.std.proofs.lemmas.Result.{err_from_is_err_and}
 use Rattle.std.proofs.lemmas.List.{map_push}
 use Rattle.std.proofs.lemmas.Bool.{eqb-true, eqb-false}
-use Rattle.rd_check.specs.Internal.Rows.{row_of}
+use Rattle.rd_check.specs.Rows.{row_of}
 use Rattle.rd_check.specs.Internal.Nesting.{one_less, opened, may_come}
 use Rattle.rd_check.proofs.Loop.{read_more, shorter, no_more, misplaced, unfinished, finished, not_zero, err_is}
 use Rattle.rd_check.specs.declared.fault.CheckFault.TheVariants as faults

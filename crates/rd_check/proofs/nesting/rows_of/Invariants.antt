@@ -1,5 +1,5 @@
 use Rattle.std.proofs.Common.{map, reverse, length}
-use Rattle.rd_check.specs.Internal.Rows.{row_of}
+use Rattle.rd_check.specs.Rows.{row_of}
 use Rattle.rd_check.proofs.Loop.{HasRead}
 use Rattle.rd_check.proofs.nesting.rows_of.Given as goal
 

@@ -1,4 +1,4 @@
-use Rattle.std.proofs.Common.{◌≡◌, sym, subst}
+use Rattle.std.proofs.Common.{sym, subst}
 use Rattle.rd_engine.specs.State.{EngineState}
 use Rattle.rd_edits.specs.Refusals.{refusal_of}
 use Rattle.rd_run.specs.Machine.{State, TakesOne}

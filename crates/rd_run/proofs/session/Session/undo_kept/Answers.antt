@@ -1,4 +1,4 @@
-use Rattle.std.proofs.Common.{◌≡◌, true, sym, subst, refl, ◌+◌, ◌-◌, List, arith}
+use Rattle.std.proofs.Common.{◌≡◌, true, sym, subst, refl, ◌+◌, List, arith}
 use Rattle.rd_edits.specs.declared.edit.Edit.{Edit}
 use Rattle.rd_run.specs.Machine.{TakesBack, older}
 use Rattle.rd_run.specs.Internal.Session.{SessionState, Shows, IsFew}
