@@ -1,5 +1,5 @@
-//! Tests of the public calls of the crates from the tree up; those of the crates below stand in `rd_low_tests`, and those that read
-//! what is private in their crates. A check of a crate with tests of its own proves the whole crate once more; here the crates below
+//! Tests of the public calls of the crates from the tree up; those of the crates below stand in `rd_low_tests`, those of the program
+//! in `rd_run_tests`, and those that read what is private in their crates. A check of a crate with tests of its own proves the whole crate once more; here the crates below
 //! stand proved, and the tests alone are checked.
 #![tactic(auto)]
 
@@ -17,8 +17,6 @@ mod partial;
 mod planting;
 #[cfg(test)]
 mod report;
-#[cfg(test)]
-mod run;
 #[cfg(test)]
 mod scene;
 #[cfg(test)]

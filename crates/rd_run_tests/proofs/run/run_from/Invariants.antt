@@ -1,4 +1,4 @@
-use Rattle.rd_tests.proofs.run.run_from.Given as goal
+use Rattle.rd_run_tests.proofs.run.run_from.Given as goal
 
 -- each counter is of the ledger that its own blank opens
 abbrev pub ghosts-counted-A-Ledger : goal.ghosts-counted-A-Ledger
