@@ -4,6 +4,7 @@ pub mod Fitting
 pub mod Looks
 pub mod Marks
 pub mod Moving
+pub mod Passes
 pub mod PlanCode
 pub mod PlanFalls
 pub mod Planning

@@ -6,14 +6,15 @@ ghost use Rattle.rd_list.specs.Blocks.{Covers, Tells};
 ghost use Rattle.rd_list.specs.Entries.{is_empty};
 ghost use Rattle.rd_list.specs.EntryNames.{kept_leaves};
 ghost use Rattle.rd_list.specs.KeptView.{kept_entries};
-ghost use Rattle.rd_merge.specs.Internal.Looks.{IsLookedTo, LeavesStay, gone_at, goes_inside, has_touched, inner_at, name_of, noted};
-ghost use Rattle.rd_merge.specs.Internal.Marks.{AreMarked, AreRunsMarked};
+ghost use Rattle.rd_merge.specs.Internal.Looks.{LeavesStay, gone_at, goes_inside, has_touched, inner_at, name_of, noted};
+ghost use Rattle.rd_merge.specs.Internal.Passes.{IsNoted, IsPass};
 ghost use Rattle.rd_merge.specs.Internal.Sought.{AreChained};
 ghost use Rattle.rd_merge.specs.Looking.{IsLooked, kept_names};
+ghost use Rattle.rd_merge.specs.declared.passing.Leaves.TheVariants as known;
 
 use crate::going::{Touches, key_of, stays_at};
 use crate::marks::{Marks, are_unnamed};
-use crate::passing::{next_before, stands_still};
+use crate::passing::{Leaves, Pass, stands_still};
 use crate::sought::Finder;
 use rd_keys::EntryKey;
 use rd_list::{Block, Entry};
@@ -28,6 +29,13 @@ pub(crate) struct Looked {
     pub(crate) found: Vec<Option<usize>>,
     pub(crate) inner: Vec<usize>,
     next: usize,
+}
+
+/// What is noted in a pass, and what finds the names that are sought.
+#[derive(Drop)]
+struct Notes {
+    looked: Looked,
+    finder: Finder,
 }
 
 /// Is there no entry?
@@ -102,38 +110,6 @@ fn push_if(places: &mut Vec<usize>, is_wanted: bool, place: usize) -> Result<(),
     Ok(())
 }
 
-/// Notes what is found at one entry.
-#[inline(always)]
-fn look_at<A: Ledger, T: Touches>(
-    looked: &mut Looked,
-    finder: &mut Finder,
-    marks: &Marks,
-    names: &[EntryKey],
-    place: usize,
-    entry: &Entry<A>,
-    tree: &T,
-) -> Result<(), AllocError>
-    requires finder { IfSome finder.old.table (λ s. AreChained s.is_wide names.now s.lasts.items s.befores.items) }
-    requires marks { AreMarked marks.now.is_wide names.now marks.now.marks.items }
-    requires once { Once names.now }
-    requires found { length looked.old.found.items ≡ length names.now }
-    ensures finder { OnOk result (IfSome finder.new.table (λ s. AreChained s.is_wide names.now s.lasts.items s.befores.items)) }
-    ensures gone { OnOk result (looked.new.gone.items
-        ≡ looked.old.gone.items ++ gone_at (T.is_touched tree.now) place entry.now) }
-    ensures found { OnOk result (looked.new.found.items
-        ≡ noted (place_of same_entry names.now (name_of entry.now)) place looked.old.found.items) }
-    ensures inner { OnOk result (looked.new.inner.items
-        ≡ looked.old.inner.items ++ inner_at (T.is_touched tree.now) names.now place entry.now) }
-{
-    let name = finder.find_from(marks, names, key_of(entry), looked.next)?;
-    note(&mut looked.found, &mut looked.next, name, place);
-    let stays = stays_at(entry, tree);
-    push_if(&mut looked.gone, !stays, place)?;
-    let is_inner = is_inner(stays, name.is_some(), entry, tree);
-    push_if(&mut looked.inner, is_inner, place)?;
-    Ok(())
-}
-
 /// Nothing is found as yet.
 fn nothing(alloc: Global, names: &[EntryKey]) -> Result<Looked, AllocError>
     ensures gone { IfOk result (λ l. l.gone.items ≡ []) }
@@ -152,151 +128,120 @@ fn nothing(alloc: Global, names: &[EntryKey]) -> Result<Looked, AllocError>
     })
 }
 
-/// Passes over entries before an end of which nothing is noted, and notes what is found at the next one, if there is one. All entries
-/// before them have been looked at. The place after it.
-#[inline(always)]
-fn look_on<A: Ledger, T: Touches>(
-    looked: &mut Looked,
-    finder: &mut Finder,
-    marks: &Marks,
-    names: &[EntryKey],
-    entries: &[Entry<A>],
-    is_still: bool,
-    from: usize,
-    end: usize,
-    tree: &T,
-) -> Result<usize, AllocError>
-    requires finder { IfSome finder.old.table (λ s. AreChained s.is_wide names.now s.lasts.items s.befores.items) }
-    requires marks { AreMarked marks.now.is_wide names.now marks.now.marks.items }
-    requires names { Once names.now }
-    requires entries { Once (kept_names (kept_entries entries.now)) }
-    requires from { from < end }
-    requires end { end ≤ length entries.now }
-    requires still { is_still ≡ true → LeavesStay (T.is_touched tree.now) entries.now from end }
-    requires looked { IsLookedTo (T.is_touched tree.now) entries.now names.now from
-        looked.old.gone.items looked.old.found.items looked.old.inner.items }
-    ensures finder { IfOk result (λ n. IfSome finder.new.table (λ s. AreChained s.is_wide names.now s.lasts.items s.befores.items)) }
-    ensures after { IfOk result (λ n. from < n) }
-    ensures within { IfOk result (λ n. n ≤ end) }
-    ensures looked { IfOk result (λ n. IsLookedTo (T.is_touched tree.now) entries.now names.now n
-        looked.new.gone.items looked.new.found.items looked.new.inner.items) }
-{
-    let place = next_before(
-        entries,
-        from,
-        end,
-        is_still,
-        marks.is_wide,
-        &marks.marks,
-        names,
-        tree,
-    );
-    if place == end {
-        return Ok(end);
+impl<A: Ledger, T: Touches> Pass<'_, A, T> {
+    /// Notes what is found at one entry.
+    #[inline(always)]
+    fn at(
+        &self,
+        looked: &mut Looked,
+        finder: &mut Finder,
+        place: usize,
+        entry: &Entry<A>,
+    ) -> Result<(), AllocError>
+        requires pass { IsPass self.now }
+        requires finder { IfSome finder.old.table (λ s. AreChained s.is_wide self.now.names.now s.lasts.items s.befores.items) }
+        requires found { length looked.old.found.items ≡ length self.now.names.now }
+        ensures finder { OnOk result (IfSome finder.new.table (λ s. AreChained s.is_wide self.now.names.now s.lasts.items s.befores.items)) }
+        ensures gone { OnOk result (looked.new.gone.items
+            ≡ looked.old.gone.items ++ gone_at (T.is_touched self.now.tree.now) place entry.now) }
+        ensures found { OnOk result (looked.new.found.items
+            ≡ noted (place_of same_entry self.now.names.now (name_of entry.now)) place looked.old.found.items) }
+        ensures inner { OnOk result (looked.new.inner.items
+            ≡ looked.old.inner.items ++ inner_at (T.is_touched self.now.tree.now) self.now.names.now place entry.now) }
+    {
+        let name = finder.find_from(self.marks, self.names, key_of(entry), looked.next)?;
+        note(&mut looked.found, &mut looked.next, name, place);
+        let stays = stays_at(entry, self.tree);
+        push_if(&mut looked.gone, !stays, place)?;
+        let is_inner = is_inner(stays, name.is_some(), entry, self.tree);
+        push_if(&mut looked.inner, is_inner, place)?;
+        Ok(())
     }
-    look_at(looked, finder, marks, names, place, &entries[place], tree)?;
-    Ok(place + 1)
-}
 
-/// Notes what is found at the entries from one place up to another, where all before them have been looked at.
-#[inline(always)]
-fn look_between<A: Ledger, T: Touches>(
-    looked: &mut Looked,
-    finder: &mut Finder,
-    marks: &Marks,
-    names: &[EntryKey],
-    entries: &[Entry<A>],
-    is_still: bool,
-    from: usize,
-    end: usize,
-    tree: &T,
-) -> Result<(), AllocError>
-    requires finder { IfSome finder.old.table (λ s. AreChained s.is_wide names.now s.lasts.items s.befores.items) }
-    requires marks { AreMarked marks.now.is_wide names.now marks.now.marks.items }
-    requires names { Once names.now }
-    requires entries { Once (kept_names (kept_entries entries.now)) }
-    requires from { from ≤ end }
-    requires end { end ≤ length entries.now }
-    requires still { is_still ≡ true → LeavesStay (T.is_touched tree.now) entries.now from end }
-    requires looked { IsLookedTo (T.is_touched tree.now) entries.now names.now from
-        looked.old.gone.items looked.old.found.items looked.old.inner.items }
-    ensures finder { OnOk result (IfSome finder.new.table (λ s. AreChained s.is_wide names.now s.lasts.items s.befores.items)) }
-    ensures looked { OnOk result (IsLookedTo (T.is_touched tree.now) entries.now names.now end
-        looked.new.gone.items looked.new.found.items looked.new.inner.items) }
-{
-    let mut place = from;
-    while place < end {
-        place = look_on(
-            looked, finder, marks, names, entries, is_still, place, end, tree,
-        )?;
+    /// Passes over entries before an end of which nothing is noted, and notes what is found at the next one, if there is one. All
+    /// entries before them have been looked at. The place after it.
+    #[inline(always)]
+    fn on(
+        &self,
+        notes: &mut Notes,
+        leaves: Leaves,
+        from: usize,
+        end: usize,
+    ) -> Result<usize, AllocError>
+        requires pass { IsPass self.now }
+        requires from { from < end }
+        requires end { end ≤ length self.now.entries.now }
+        requires still { leaves ≡ known.Untouched
+            → LeavesStay (T.is_touched self.now.tree.now) self.now.entries.now from end }
+        requires noted { IsNoted (T.is_touched self.now.tree.now) self.now from notes.old }
+        ensures after { IfOk result (λ n. from < n) }
+        ensures within { IfOk result (λ n. n ≤ end) }
+        ensures noted { IfOk result (λ n. IsNoted (T.is_touched self.now.tree.now) self.now n notes.new) }
+    {
+        let place = self.next_before(leaves, from, end);
+        if place == end {
+            return Ok(end);
+        }
+        let entry = &self.entries[place];
+        self.at(&mut notes.looked, &mut notes.finder, place, entry)?;
+        Ok(place + 1)
     }
-    Ok(())
-}
 
-/// The same, where boxes may be touched.
-#[inline(never)]
-fn look_anywhere<A: Ledger, T: Touches>(
-    looked: &mut Looked,
-    finder: &mut Finder,
-    marks: &Marks,
-    names: &[EntryKey],
-    entries: &[Entry<A>],
-    from: usize,
-    end: usize,
-    tree: &T,
-) -> Result<(), AllocError>
-    requires finder { IfSome finder.old.table (λ s. AreChained s.is_wide names.now s.lasts.items s.befores.items) }
-    requires marks { AreMarked marks.now.is_wide names.now marks.now.marks.items }
-    requires names { Once names.now }
-    requires entries { Once (kept_names (kept_entries entries.now)) }
-    requires from { from ≤ end }
-    requires end { end ≤ length entries.now }
-    requires looked { IsLookedTo (T.is_touched tree.now) entries.now names.now from
-        looked.old.gone.items looked.old.found.items looked.old.inner.items }
-    ensures finder { OnOk result (IfSome finder.new.table (λ s. AreChained s.is_wide names.now s.lasts.items s.befores.items)) }
-    ensures looked { OnOk result (IsLookedTo (T.is_touched tree.now) entries.now names.now end
-        looked.new.gone.items looked.new.found.items looked.new.inner.items) }
-{
-    look_between(
-        looked, finder, marks, names, entries, false, from, end, tree,
-    )
-}
+    /// Notes what is found at the entries from one place up to another, where all before them have been looked at.
+    #[inline(always)]
+    fn between(
+        &self,
+        notes: &mut Notes,
+        leaves: Leaves,
+        from: usize,
+        end: usize,
+    ) -> Result<(), AllocError>
+        requires pass { IsPass self.now }
+        requires from { from ≤ end }
+        requires end { end ≤ length self.now.entries.now }
+        requires still { leaves ≡ known.Untouched
+            → LeavesStay (T.is_touched self.now.tree.now) self.now.entries.now from end }
+        requires noted { IsNoted (T.is_touched self.now.tree.now) self.now from notes.old }
+        ensures { OnOk result (IsNoted (T.is_touched self.now.tree.now) self.now end notes.new) }
+    {
+        let mut place = from;
+        while place < end {
+            place = self.on(notes, leaves, place, end)?;
+        }
+        Ok(())
+    }
 
-/// The same of the entries of a block, which is passed as a whole where nothing is noted of it.
-#[inline(always)]
-fn look_in_block<A: Ledger, T: Touches>(
-    looked: &mut Looked,
-    finder: &mut Finder,
-    marks: &Marks,
-    names: &[EntryKey],
-    entries: &[Entry<A>],
-    block: &Block,
-    start: usize,
-    tree: &T,
-) -> Result<(), AllocError>
-    requires finder { IfSome finder.old.table (λ s. AreChained s.is_wide names.now s.lasts.items s.befores.items) }
-    requires marks { AreMarked marks.now.is_wide names.now marks.now.marks.items }
-    requires runs { AreRunsMarked names.now marks.now.runs.items }
-    requires names { Once names.now }
-    requires entries { Once (kept_names (kept_entries entries.now)) }
-    requires end { start + block.now.count ≤ length entries.now }
-    requires told { block.now.is_open ≡ false → Tells block.now (take block.now.count (drop start entries.now)) }
-    requires looked { IsLookedTo (T.is_touched tree.now) entries.now names.now start
-        looked.old.gone.items looked.old.found.items looked.old.inner.items }
-    ensures finder { OnOk result (IfSome finder.new.table (λ s. AreChained s.is_wide names.now s.lasts.items s.befores.items)) }
-    ensures looked { OnOk result (IsLookedTo (T.is_touched tree.now) entries.now names.now (start + block.now.count)
-        looked.new.gone.items looked.new.found.items looked.new.inner.items) }
-{
-    let end = start + block.count;
-    if !stands_still(block, tree) {
-        return look_anywhere(looked, finder, marks, names, entries, start, end, tree);
+    /// The same, where boxes may be touched.
+    #[inline(never)]
+    fn anywhere(&self, notes: &mut Notes, from: usize, end: usize) -> Result<(), AllocError>
+        requires pass { IsPass self.now }
+        requires from { from ≤ end }
+        requires end { end ≤ length self.now.entries.now }
+        requires noted { IsNoted (T.is_touched self.now.tree.now) self.now from notes.old }
+        ensures { OnOk result (IsNoted (T.is_touched self.now.tree.now) self.now end notes.new) }
+    {
+        self.between(notes, Leaves::Unknown, from, end)
     }
-    if are_unnamed(&marks.runs, block.told.keys) {
-        return Ok(());
+
+    /// The same of the entries of a block, which is passed as a whole where nothing is noted of it.
+    #[inline(always)]
+    fn in_block(&self, notes: &mut Notes, block: &Block, start: usize) -> Result<(), AllocError>
+        requires pass { IsPass self.now }
+        requires end { start + block.now.count ≤ length self.now.entries.now }
+        requires told { block.now.is_open ≡ false
+            → Tells block.now (take block.now.count (drop start self.now.entries.now)) }
+        requires noted { IsNoted (T.is_touched self.now.tree.now) self.now start notes.old }
+        ensures { OnOk result (IsNoted (T.is_touched self.now.tree.now) self.now (start + block.now.count) notes.new) }
+    {
+        let end = start + block.count;
+        if !stands_still(block, self.tree) {
+            return self.anywhere(notes, start, end);
+        }
+        if are_unnamed(&self.marks.runs, block.told.keys) {
+            return Ok(());
+        }
+        self.between(notes, Leaves::Untouched, start, end)
     }
-    look_between(
-        looked, finder, marks, names, entries, true, start, end, tree,
-    )
 }
 
 /// One pass over the entries of a kept level, for the names of a new one.
@@ -314,36 +259,27 @@ pub(crate) fn look<A: Ledger, T: Touches>(
     ensures { IfOk result (λ l. IsLooked (T.is_touched tree.now) (kept_entries entries.now) names.now
         l.gone.items l.found.items l.inner.items) }
 {
-    let mut looked = nothing(alloc, names)?;
+    let looked = nothing(alloc, names)?;
     if entries.is_empty() {
         return Ok(looked);
     }
     let is_wide = names.len() > 128 && entries.len() > 4096;
     let marks = Marks::new(alloc, is_wide, names)?;
-    let mut finder = Finder::new(alloc);
+    let pass = Pass {
+        entries,
+        names,
+        marks: &marks,
+        tree,
+    };
+    let mut notes = Notes {
+        looked,
+        finder: Finder::new(alloc),
+    };
     let mut place = 0;
     for block in blocks {
-        look_in_block(
-            &mut looked,
-            &mut finder,
-            &marks,
-            names,
-            entries,
-            block,
-            place,
-            tree,
-        )?;
+        pass.in_block(&mut notes, block, place)?;
         place += block.count;
     }
-    look_anywhere(
-        &mut looked,
-        &mut finder,
-        &marks,
-        names,
-        entries,
-        place,
-        entries.len(),
-        tree,
-    )?;
-    Ok(looked)
+    pass.anywhere(&mut notes, place, entries.len())?;
+    Ok(notes.looked)
 }

@@ -79,15 +79,15 @@ impl Marks {
             runs,
         })
     }
-}
 
-/// Is the mark of this box set?
-#[inline(always)]
-pub(crate) fn has_mark(is_wide: bool, marks: &[bool], owner: BoxKey) -> bool
-    requires { length marks.now ≡ box_marks is_wide }
-    ensures { result ≡ slice_index_or marks.now (box_mark is_wide owner) false }
-{
-    marks[mark_of(is_wide, owner)]
+    /// Is the mark of this box set?
+    #[inline(always)]
+    pub(crate) fn has(&self, owner: BoxKey) -> bool
+        requires { length self.now.marks.items ≡ box_marks self.now.is_wide }
+        ensures { result ≡ slice_index_or self.now.marks.items (box_mark self.now.is_wide owner) false }
+    {
+        self.marks[mark_of(self.is_wide, owner)]
+    }
 }
 
 /// Is the mark of none of these 64 slots set, from the first of them up to the last?

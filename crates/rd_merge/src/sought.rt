@@ -5,7 +5,7 @@ ghost use Rattle.rd_graph.specs.Orders.{Once};
 ghost use Rattle.rd_merge.specs.Internal.Marks.{AreMarked};
 ghost use Rattle.rd_merge.specs.Internal.Sought.{AreChained, mark_count, mark_of};
 
-use crate::marks::{Marks, box_of, has_mark};
+use crate::marks::{Marks, box_of};
 use rd_keys::EntryKey;
 use std::alloc::{AllocError, Global};
 
@@ -155,7 +155,7 @@ impl Finder {
         if first < names.len() && is_same(names[first], name) {
             return Ok(Some(first));
         }
-        if !has_mark(marks.is_wide, &marks.marks, box_of(name)) {
+        if !marks.has(box_of(name)) {
             return Ok(None);
         }
         self.find(names, name)

@@ -9,15 +9,15 @@ use Rattle.rd_merge.specs.Looking.{gone_places, inner_places, kept_names}
 use Rattle.rd_merge.proofs.Looks.{names_length}
 use Rattle.rd_merge.proofs.looking.look.Goals as goal
 
-pub look_in_block-requires-clause-end : goal.look_in_block-requires-clause-end
-look_in_block-requires-clause-end g c =
+pub in_block-requires-clause-end : goal.in_block-requires-clause-end
+in_block-requires-clause-end g c =
     let a = ahead_first c.args.blocks.now c.args.entries.now c.loop-block.block-index c.loop-block.place c.block-item.result c.loop-block-test.true c.block-item.is c.loop-block.invariant.within c.loop-block.invariant.ahead in
     let l = a.0 in
     let w = c.loop-block.invariant.within in
     omega (arith, l, w)
 
-pub look_in_block-requires-clause-told : goal.look_in_block-requires-clause-told
-look_in_block-requires-clause-told g c =
+pub in_block-requires-clause-told : goal.in_block-requires-clause-told
+in_block-requires-clause-told g c =
     (ahead_first c.args.blocks.now c.args.entries.now c.loop-block.block-index c.loop-block.place c.block-item.result c.loop-block-test.true c.block-item.is c.loop-block.invariant.within c.loop-block.invariant.ahead).1
 
 pub loop-block-preserved : goal.loop-block-preserved
@@ -25,14 +25,14 @@ loop-block-preserved g c =
     let a = ahead_first c.args.blocks.now c.args.entries.now c.loop-block.block-index c.loop-block.place c.block-item.result c.loop-block-test.true c.block-item.is c.loop-block.invariant.within c.loop-block.invariant.ahead in
     let l = a.0 in
     let w = c.loop-block.invariant.within in
-    record { within = omega (arith, l, w); ahead = a.2; finder = c.in_ok-look_in_block.ensures.finder; looked = c.in_ok-look_in_block.ensures.looked }
+    record { within = omega (arith, l, w); ahead = a.2; noted = c.in_ok-in_block.ensures }
 
 pub returns : goal.returns
 returns g c =
     let t = g.T.Touches.is_touched c.args.tree.now in
     let es = c.args.entries.now in
     let n = length es in
-    let l = c.in_ok-look_anywhere.ensures.looked in
+    let l = c.in_ok-anywhere.ensures.looked in
     let all = take_whole es n (omega arith) in
     record {
       gone_are = l.gone_are ∙ ap (λ xs. gone_places entry_names (is_untouched t) 0 (kept_leaves (kept_entries xs))) all;

@@ -7,9 +7,8 @@ use Rattle.rd_merge.proofs.sought.Finder.find_from.Goals as goal
 pub returns-then-is_same-clause-place : goal.returns-then-is_same-clause-place
 returns-then-is_same-clause-place c = sym (named_at c.args.names.now c.args.name c.args.first _ c.requires.once c.if-first-names.true (sym c.is_same.ensures ∙ c.if-is_same.true))
 
-pub returns-then-not-has_mark-clause-place : goal.returns-then-not-has_mark-clause-place
-returns-then-not-has_mark-clause-place c =
+pub returns-then-not-has-clause-place : goal.returns-then-not-has-clause-place
+returns-then-not-has-clause-place c =
     let m = c.args.marks.now in
-    let unset : get_or m.marks.items (box_mark m.is_wide (box_of c.args.name)) false ≡ false =
-    ap (λ k. get_or m.marks.items (box_mark m.is_wide k) false) (sym c.box_of.ensures) ∙ ap (λ ms. get_or ms (box_mark m.is_wide c.box_of.result) false) (sym c.deref.ensures.value) ∙ sym c.has_mark.ensures ∙ c.if-not-has_mark.true in
+    let unset : get_or m.marks.items (box_mark m.is_wide (box_of c.args.name)) false ≡ false = ap (λ k. get_or m.marks.items (box_mark m.is_wide k) false) (sym c.box_of.ensures) ∙ sym c.has.ensures ∙ c.if-not-has.true in
     sym (unmarked (box_mark m.is_wide) (box_marks m.is_wide) (mark_small m.is_wide) c.args.names.now m.marks.items c.requires.marks c.args.name unset)
