@@ -11,10 +11,10 @@ use Rattle.rd_scene.specs.Scripts.{Script}
 use Rattle.rd_check.specs.Checked.{IsChecked}
 use Rattle.rd_check.specs.Spoken.{verdict_line}
 use Rattle.rd_check.specs.declared.verdict.Verdict.{Verdict}
-use Rattle.rd_run.specs.Checks.{dump_before, script_from, leaf_count}
+use Rattle.rd_run.specs.Checks.{dump_before, script_from, leaf_count, checked_looks}
 use Rattle.rd_run.specs.Endings.{Stream, Counter, stream, counter}
 use Rattle.rd_run.specs.Machine.{State}
-use Rattle.rd_run.specs.Internal.Answered.{ChecksAs, ChecksLast, ChecksOf, ChecksText, Writes}
+use Rattle.rd_run.specs.Internal.Answered.{ChecksAs, ChecksOf, ChecksText, Writes}
 use Rattle.rd_run.specs.declared.status.Status.{Status}
 use Rattle.rd_run.specs.declared.status.Status.TheVariants as status
 
@@ -81,7 +81,7 @@ few_before n bs h = let l = length-take n bs in omega (arith, h, l)
 module _ (out : Stream) (made looks : Counter) where
   -- the line of a verdict was written
   pub verdict_written : (dump : List ℕ) (last : Document) (v : Verdict) (text : List ℕ) (s : Status) → IsChecked dump last v → text ≡ verdict_line last.boxes v
-      → made.now ≡ made.was + leaf_count last → looks.now ≤ looks.was + size last.boxes → Writes out text s → ChecksAs dump last out made looks s
+      → made.now ≡ made.was + leaf_count last → looks.now ≤ looks.was + size last.boxes → Writes out text s → ChecksAs dump last (size last.boxes) out made looks s
   verdict_written dump last v text status.Done h e m l w = (w.0, (text, (v, h, e), w.1, m, l))
   verdict_written dump last v text status.WriteFault h e m l w = (w.0, (text, (v, h, e), w.1, omega (arith, m), l))
   verdict_written dump last v text status.NoMemory h e m l w = absurd w
@@ -96,10 +96,10 @@ module _ (out : Stream) (made looks : Counter) where
 module _ (out : Stream) (m n o l k j : ℕ) where
   -- The tree is that at the end of a script; what was counted before the check is counted too.
   pub last_checked : (dump : List ℕ) (last : State) (t : Document) (s : Status) → t ≡ last.tree → n ≡ m → k ≤ l + last.counts.looks
-      → ChecksAs dump t out (counter n o) (counter k j) s → ChecksLast dump last out (counter m o) (counter l j) s
-  last_checked dump last t s e a b c = on s (subst (λ (d : Document). ChecksAs dump d out (counter n o) (counter k j) s) e c)
+      → ChecksAs dump t (size t.boxes) out (counter n o) (counter k j) s → ChecksAs dump last.tree (checked_looks last) out (counter m o) (counter l j) s
+  last_checked dump last t s e a b c = on s (subst (λ (d : Document). ChecksAs dump d (size d.boxes) out (counter n o) (counter k j) s) e c)
     where
-      on : (s : Status) → ChecksAs dump last.tree out (counter n o) (counter k j) s → ChecksLast dump last out (counter m o) (counter l j) s
+      on : (s : Status) → ChecksAs dump last.tree (size last.tree.boxes) out (counter n o) (counter k j) s → ChecksAs dump last.tree (checked_looks last) out (counter m o) (counter l j) s
       on status.Done h = let y = h.1.3 in let z = h.1.4 in (h.0, (h.1.0, h.1.1, h.1.2, omega (arith, a, y), omega (arith, b, z)))
       on status.WriteFault h = let y = h.1.3 in let z = h.1.4 in (h.0, (h.1.0, h.1.1, h.1.2, omega (arith, a, y), omega (arith, b, z)))
       on status.NoMemory h = let y = h.2 in let z = h.3 in (h.0, h.1, omega (arith, a, y), omega (arith, b, z))
@@ -113,7 +113,7 @@ module _ (out : Stream) (m n o l k j : ℕ) where
 
 -- without memory, where the tree could be had
 pub unchecked : (dump : List ℕ) (last : State) (o : Option (List ℕ)) (f m n l k : ℕ) → n ≤ m → k ≤ l + last.counts.looks
-    → ChecksLast dump last (stream o o f f) (counter m n) (counter l k) status.NoMemory
+    → ChecksAs dump last.tree (checked_looks last) (stream o o f f) (counter m n) (counter l k) status.NoMemory
 unchecked dump last o f m n l k a b = (refl, refl, omega (arith, a), omega (arith, b))
 
 module _ (untouched : Type 0) (out : Stream) (made looks : Counter) where

@@ -3,6 +3,7 @@
 ghost use Rattle.std.specs.Prelude.{◌≡◌, ◌==◌, ◌<◌, ◌≤◌, ℕ, List, length, take, drop, IfOk, string_bytes};
 ghost use Rattle.rd_check.specs.Rows.{IsReadFrom};
 ghost use Rattle.rd_check.specs.Spoken.{verdict_line};
+ghost use Rattle.rd_tree.specs.Forest.{size};
 ghost use Rattle.rd_run.specs.Checks.{dump_before, script_from};
 ghost use Rattle.rd_run.specs.Endings.{counter, stream, EndsAs};
 ghost use Rattle.rd_run.specs.Internal.Answered.{ChecksAs, ChecksScript, ChecksOf, ChecksText};
@@ -62,7 +63,7 @@ fn check_tree<O: Sink, A: Ledger, B: Ledger>(
     made: &mut Steps<A>,
     looks: &mut Steps<B>,
 ) -> Status
-    ensures { (text : List ℕ) → IsReadFrom text dump.now → ChecksAs text tree.now
+    ensures { (text : List ℕ) → IsReadFrom text dump.now → ChecksAs text tree.now (size tree.now.boxes)
         (stream (O.written out.old) (O.written out.new) (O.faults out.old) (O.faults out.new))
         (counter made.old made.new) (counter looks.old looks.new) result }
 {

@@ -3,7 +3,6 @@ use Rattle.std.specs.Prelude.{◌≡◌, ◌⊎◌, ℕ, ◌+◌, ◌≤◌, fal
 use Rattle.std.specs.Io.KnownBytes.{Appends}
 use Rattle.rd_io.specs.Causes.{GainsPart, Takes}
 use Rattle.rd_tree.specs.Document.{Document}
-use Rattle.rd_tree.specs.Forest.{size}
 use Rattle.rd_scene.specs.Reading.{IsScriptText, IsOffForm, HasNoReading}
 use Rattle.rd_scene.specs.Scripts.{Script}
 use Rattle.rd_scene.specs.declared.script.Command.{Command}
@@ -99,39 +98,25 @@ RefusesDump dump BadDump = IsNoDumpText dump
 RefusesDump dump NoMemory = Unit {0}
 RefusesDump dump _ = ⊥
 
--- how a dump was checked beside a tree
-module _ (dump : List ℕ) (last : Document) (out : Stream) (made looks : Counter) where
+-- how a dump was checked beside a tree, with at most so many looks
+module _ (dump : List ℕ) (tree : Document) (most : ℕ) (out : Stream) (made looks : Counter) where
   abbrev pub ChecksAs : Status → Type 0
   ChecksAs Done =
-      IsFaultless out × ((text : List ℕ) × IsVerdictOn dump last text × Appends out.bytes out.bytes_now text
-      × (made.now ≡ made.was + leaf_count last) × (looks.now ≤ looks.was + size last.boxes))
+      IsFaultless out × ((text : List ℕ) × IsVerdictOn dump tree text × Appends out.bytes out.bytes_now text
+      × (made.now ≡ made.was + leaf_count tree) × (looks.now ≤ looks.was + most))
   ChecksAs WriteFault =
-      HasFailed out × ((text : List ℕ) × IsVerdictOn dump last text × GainsPart out.bytes out.bytes_now text
-      × (made.now ≤ made.was + leaf_count last) × (looks.now ≤ looks.was + size last.boxes))
+      HasFailed out × ((text : List ℕ) × IsVerdictOn dump tree text × GainsPart out.bytes out.bytes_now text
+      × (made.now ≤ made.was + leaf_count tree) × (looks.now ≤ looks.was + most))
   ChecksAs NoMemory =
       IsFaultless out × (out.bytes_now ≡ out.bytes)
-      × (made.now ≤ made.was + leaf_count last) × (looks.now ≤ looks.was + size last.boxes)
+      × (made.now ≤ made.was + leaf_count tree) × (looks.now ≤ looks.was + most)
   ChecksAs _ = ⊥
-
--- how it was checked beside the tree at the end of a script
-module _ (dump : List ℕ) (last : State) (out : Stream) (made looks : Counter) where
-  abbrev pub ChecksLast : Status → Type 0
-  ChecksLast Done =
-      IsFaultless out × ((text : List ℕ) × IsVerdictOn dump last.tree text × Appends out.bytes out.bytes_now text
-      × (made.now ≡ made.was + leaf_count last.tree) × (looks.now ≤ looks.was + checked_looks last))
-  ChecksLast WriteFault =
-      HasFailed out × ((text : List ℕ) × IsVerdictOn dump last.tree text × GainsPart out.bytes out.bytes_now text
-      × (made.now ≤ made.was + leaf_count last.tree) × (looks.now ≤ looks.was + checked_looks last))
-  ChecksLast NoMemory =
-      IsFaultless out × (out.bytes_now ≡ out.bytes)
-      × (made.now ≤ made.was + leaf_count last.tree) × (looks.now ≤ looks.was + checked_looks last)
-  ChecksLast _ = ⊥
 
 -- the same, or there was no memory for that
 abbrev pub ChecksScript : Type 0 → List ℕ → Script → Stream → Counter → Counter → Status → Type 0
 ChecksScript untouched dump script out made looks s =
     (untouched × (s ≡ NoMemory))
-    ⊎ ((last : State) × IsLastState script last × ChecksLast dump last out made looks s)
+    ⊎ ((last : State) × IsLastState script last × ChecksAs dump last.tree (checked_looks last) out made looks s)
 
 -- the same of bytes, or these are no dump
 abbrev pub ChecksOf : Type 0 → List ℕ → Script → Stream → Counter → Counter → Status → Type 0
