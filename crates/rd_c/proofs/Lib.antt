@@ -1,0 +1,9 @@
+pub mod LooseWords
+pub mod HeldWords
+pub mod Answering
+pub mod Asking
+pub mod Putting
+pub mod Telling
+pub mod Spanning
+pub mod Batching
+pub mod Rendering

@@ -1,0 +1,14 @@
+pub mod Asked
+pub mod Batched
+pub mod Copied
+pub mod Handles
+pub mod Held
+pub mod Listed
+pub mod Made
+pub mod Memory
+pub mod Numbers
+pub mod Reading
+pub mod Rendered
+pub mod Shown
+pub mod Spans
+pub mod Spelled
