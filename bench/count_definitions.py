@@ -89,10 +89,10 @@ def clauses(path):
             outer = line
         if re.match(r'(pub )?ghost \w+: \{', bare):
             found.append((bare, '', False))
-        if re.match(r'(pub |pub\(crate\) )?(final |const )*fn ', bare):
+        if re.match(r'(pub |pub\(crate\) )?(final |const |extern "C" )*fn ', bare):
             of_trait = re.match(r'(pub )?trait\b', outer) or re.match(r'impl\b.* for ', outer)
             name = re.search(r'fn (\w+)', bare).group(1)
-            now, public = '', bare.startswith('pub fn') or bare.startswith('pub const fn') or (of_trait and line[0] == ' ')
+            now, public = '', bare.startswith(('pub fn', 'pub const fn', 'pub extern "C" fn')) or (of_trait and line[0] == ' ')
         elif now is not None and (bare in ('{', '{}') or bare.endswith(';') and not now):
             if public:
                 found.append((now, name, bare == '{}'))
