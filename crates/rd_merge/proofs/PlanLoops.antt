@@ -9,11 +9,12 @@ use Rattle.rd_graph.specs.Patches.{PatchOf, CanBePatched, IsPatched}
 use Rattle.rd_graph.proofs.Reaching.Calls.{once_of}
 use Rattle.rd_graph.proofs.Lists.Entries.{same_entry-refl, has_in}
 use Rattle.rd_graph.proofs.Lists.Listing.{Has, cases, never, map_has}
+use Rattle.rd_geom.specs.declared.blend.Blend.{Blend}
 use Rattle.rd_keys.specs.Keys.{BoxKey}
 use Rattle.rd_keys.specs.declared.entry.EntryKey.{EntryKey}
 use Rattle.rd_item.specs.declared.leaf.Leaf.{Leaf}
 use Rattle.rd_item.specs.Items.{Made}
-use Rattle.rd_list.specs.Wrappers.{Wrapper}
+use Rattle.rd_list.specs.Wrappers.{Wrapper, wrapper}
 use Rattle.rd_list.specs.Entries.{nil, leaf, group, ◌▷◌, list_size}
 use Rattle.rd_list.specs.EntryNames.{entry_names, made_leaf, kept_leaves, new_names}
 use Rattle.rd_list.specs.Kept.{Ordered, KeptList, within}
@@ -37,7 +38,7 @@ use Rattle.rd_merge.specs.PlanView.{steps_seen}
 use Rattle.rd_merge.specs.declared.plan.Step.{Step}
 use Rattle.rd_merge.specs.declared.plan.Step.TheVariants as step
 use Rattle.rd_merge.specs.Internal.Adding.{AddsSteps}
-use Rattle.rd_merge.specs.Internal.Planning.{EntriesFit, GroupFits, GroupsFit, NewSteps, InnerSteps, place_in}
+use Rattle.rd_merge.specs.Internal.Planning.{EntriesFit, GroupFits, GroupsFit, InnerSteps, IsGroupStep, NewSteps, PlansGroup, place_in}
 use Rattle.rd_merge.proofs.Finding.{old_is, within_is, within_new_is, within_new_none, fits_in_group}
 use Rattle.rd_merge.proofs.Places.{HasGroup, is_inner, inner_next}
 use Rattle.rd_merge.proofs.Puts.{at}
@@ -90,6 +91,29 @@ module _ (touched : BoxKey → Bool) (xs : Olds) where
   pub leaf_step : {A : Type 0} (x : NewEntry A) (m : Made) (place : Option ℕ) → x ≡ new.Leaf m → place ∷ [] ≡ map (λ k. place_in touched xs k) (new_names (new_entries (x ∷ []))) → NewSteps touched xs (new_entries (x ∷ [])) (leaf place nil)
   leaf_step (new.Leaf m) n place e h = (let same : place ∷ [] ≡ place_in touched xs (entry_names.leaf m.leaf) ∷ [] = h in cc, tt)
   leaf_step (new.Group k o b inner) n place e h = absurd (cc)
+
+  pub group_fit : {A : Type 0} (x : NewEntry A) (k : BoxKey) (o : ℕ) (b : Blend) (inner : News) (place : Option ℕ) → x ≡ new.Group k o b inner → place ∷ [] ≡ map (λ k. place_in touched xs k) (new_names (new_entries (x ∷ [])))
+      → EntriesFit touched xs (new_entries (x ∷ [])) → GroupFits touched xs place inner
+  group_fit (new.Leaf m) k o b inner place e h f = absurd (cc)
+  group_fit {A} (new.Group j p c list) k o b inner place e h f =
+      let at : place ≡ place_in touched xs (entry_names.group (wrapper j p c)) = let same : place ∷ [] ≡ place_in touched xs (entry_names.group (wrapper j p c)) ∷ [] = h in cc in
+      let is : list ≡ inner = cc in
+      subst (λ (q : Option ℕ). GroupFits touched xs q inner) (sym at) (subst (λ (z : News). GroupFits touched xs (place_in touched xs (entry_names.group (wrapper j p c))) z) is f.0)
+
+  pub group_step : {A : Type 0} (x : NewEntry A) (k : BoxKey) (o : ℕ) (b : Blend) (inner : News) (place : Option ℕ) (s : Steps) → x ≡ new.Group k o b inner → place ∷ [] ≡ map (λ k. place_in touched xs k) (new_names (new_entries (x ∷ [])))
+      → IsGroupStep touched xs place inner s → NewSteps touched xs (new_entries (x ∷ [])) s
+  group_step x k o b inner place nil e h p = absurd p
+  group_step x k o b inner place (leaf q s) e h p = absurd p
+  group_step (new.Leaf m) k o b inner place (group g i s) e h p = absurd (cc)
+  group_step (new.Group j q c list) k o b inner place (group g i s) e h p =
+      let at : place ≡ place_in touched xs (entry_names.group (wrapper j q c)) = let same : place ∷ [] ≡ place_in touched xs (entry_names.group (wrapper j q c)) ∷ [] = h in cc in
+      let is : inner ≡ list = cc in (
+        subst (λ (u : Option ℕ). PlansGroup touched xs u list true g i) at (subst (λ (z : News). PlansGroup touched xs place z true g i) is p.0),
+        subst (λ (z : Steps). NewSteps touched xs nil z) (sym p.1) tt,
+      )
+
+  pub group_smaller : {A : Type 0} (x : NewEntry A) (k : BoxKey) (o : ℕ) (b : Blend) (inner : News) → x ≡ new.Group k o b inner → list_size (new_entries (x ∷ [])) ≡ list_size inner + 1
+  group_smaller {A} x k o b inner e = ap (λ (z : NewEntry A). list_size (new_entries (z ∷ []))) e ∙ (let s : list_size (new_entries (new.Group k o b inner ∷ [])) ≡ list_size inner + 1 = omega arith in s)
 
   adds_join : {A : Type 0} (fs bs : News) (old now then : List (Step A)) → AddsSteps touched xs fs old now → AddsSteps touched xs bs now then → AddsSteps touched xs (fs ▷ bs) old then
   adds_join fs bs old now then a b = (

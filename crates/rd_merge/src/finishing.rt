@@ -14,7 +14,6 @@ use crate::opening::{next_item, open, push_next};
 use crate::plan::{Plan, Step};
 use crate::taking::NewEntries;
 use rd_list::{Block, Entry, FIRST, Group, Kept, NewList, Seek, renew_blocks};
-use std::alloc::Global;
 use std::sync::ledger::Ledger;
 
 /// The plan, filled from the two lists: new entries are put at their places, and the rest stays where it is unless the plan has a line.
@@ -39,15 +38,7 @@ pub fn finish<A: Ledger>(kept: Kept<A>, new: NewList<A>, plan: Plan<A>) -> Kept<
     let mut seek = FIRST;
     let mut fresh = NewEntries::new(alloc, new);
     for step in steps {
-        seek = finish_step(
-            alloc,
-            &mut had,
-            seek,
-            &mut entries,
-            &mut made,
-            &mut fresh,
-            step,
-        );
+        seek = finish_step(&mut had, seek, &mut entries, &mut made, &mut fresh, step);
     }
     let had = in_line_blocks(had, &entries, &made, patch.line(), parts);
     let entries = in_line(alloc, entries, made, patch.line(), aside, room);
@@ -62,7 +53,6 @@ pub fn finish<A: Ledger>(kept: Kept<A>, new: NewList<A>, plan: Plan<A>) -> Kept<
 /// One step: an entry is put at its place, or on top of the ones that are made.
 #[cycle(finishing)]
 fn finish_step<A: Ledger>(
-    alloc: Global,
     blocks: &mut Vec<Block>,
     last: Seek,
     entries: &mut Vec<Entry<A>>,
@@ -97,7 +87,7 @@ fn finish_step<A: Ledger>(
         }
         Step::Group { old, is_new, plan } => {
             let seek = clear::<A>(blocks, last, old);
-            let entry = finish_group(alloc, entries, fresh, old, is_new, Box::into_inner(plan));
+            let entry = finish_group(entries, fresh, old, is_new, Box::into_inner(plan));
             put_in_block(blocks, seek, entries, made, old, entry)
         }
     }
@@ -107,7 +97,6 @@ fn finish_step<A: Ledger>(
 #[cycle(finishing)]
 #[inline(never)]
 fn finish_group<A: Ledger>(
-    alloc: Global,
     entries: &mut Vec<Entry<A>>,
     fresh: &mut NewEntries<A>,
     old: Option<usize>,
@@ -127,7 +116,7 @@ fn finish_group<A: Ledger>(
     ensures rest { ChangesAt old entries.old.items entries.new.items }
     ensures len { vec_len entries.new ≡ vec_len entries.old }
 {
-    let group = open(alloc, entries, fresh, old, is_new);
+    let group = open(plan.alloc, entries, fresh, old, is_new);
     let inner = finish(group.kept, group.new, plan);
     Entry::Group(Group {
         key: group.key,

@@ -4,7 +4,6 @@ ghost use Rattle.rd_graph.specs.Patches.{line_of};
 ghost use Rattle.rd_list.specs.Entries as list;
 ghost use Rattle.rd_list.specs.EntryNames.{new_names};
 ghost use Rattle.rd_list.specs.NewView.{new_entries, in_runs};
-ghost use Rattle.rd_list.specs.Wrappers.{wrapper};
 ghost use Rattle.rd_merge.specs.Going.{is_untouched};
 ghost use Rattle.rd_merge.specs.Internal.Fitting.{FitsFor};
 ghost use Rattle.rd_merge.specs.Merging.{CanBeMerged, IsPlan, MergedInto, StandsAfter};
@@ -12,14 +11,12 @@ ghost use Rattle.rd_merge.specs.Plans.{PlacesFit, filled, old_list};
 ghost use Rattle.rd_merge.specs.PlanView.{steps_seen};
 ghost use Rattle.rd_merge.specs.Internal.Adding.{AddsSteps};
 ghost use Rattle.rd_merge.specs.Internal.PlanRoom.{HasLineRoom};
-ghost use Rattle.rd_merge.specs.Internal.Planning.{EntriesFit, GroupFits, GroupsFit, NewSteps, InnerSteps, place_in};
+ghost use Rattle.rd_merge.specs.Internal.Planning.{EntriesFit, GroupFits, GroupsFit, InnerSteps, IsGroupStep, NewSteps, place_in};
 
 use crate::going::Touches;
 use crate::looking::look;
 use crate::plan::{Plan, Step};
-use rd_geom::Blend;
 use rd_graph::{Patch, count_aside, count_of};
-use rd_keys::BoxKey;
 use rd_list::{Block, Entry, Kept, NewEntry, NewList, new_keys};
 use std::alloc::{AllocError, Global};
 use std::sync::ledger::Ledger;
@@ -95,6 +92,13 @@ fn block_room(
     Vec::with_capacity(alloc, singles.saturating_add(pairs.saturating_mul(2)))
 }
 
+/// Steps, and how many of them are those of groups.
+#[derive(Drop)]
+struct Planned<A: Ledger> {
+    steps: Vec<Step<A>>,
+    groups: usize,
+}
+
 #[cycle(planning)]
 fn plan_level<A: Ledger, T: Touches>(
     alloc: Global,
@@ -110,14 +114,15 @@ fn plan_level<A: Ledger, T: Touches>(
     let patch = kept
         .graph
         .patch(alloc, &looked.gone, &names, &looked.found)?;
-    let mut groups = looked.inner.len();
-    let mut steps = plan_entries(alloc, kept, &new.runs, &looked.found, tree, &mut groups)?;
+    let planned = plan_entries(alloc, kept, &new.runs, &looked.found, tree)?;
+    let mut steps = planned.steps;
     let mut inner = plan_groups(alloc, kept, &looked.inner, tree)?;
     steps.append(&mut inner)?;
     let made = Vec::with_capacity(alloc, names.len())?;
     let aside = aside_room(alloc, &patch)?;
     let room = line_room(alloc, &patch)?;
     let parts = part_room(alloc, &patch, kept.blocks.len())?;
+    let groups = planned.groups.saturating_add(looked.inner.len());
     let blocks = block_room(alloc, &patch, kept.blocks.len(), steps.len(), groups)?;
     Ok(Plan {
         alloc,
@@ -140,22 +145,22 @@ fn plan_entries<A: Ledger, T: Touches>(
     runs: &[Vec<NewEntry<A>>],
     found: &[Option<usize>],
     tree: &T,
-    groups: &mut usize,
-) -> Result<Vec<Step<A>>, AllocError>
+) -> Result<Planned<A>, AllocError>
     requires fit { EntriesFit (T.is_touched tree.now) kept.now.entries (in_runs runs.now) }
     requires found { found.now
         ≡ map (λ k. place_in (T.is_touched tree.now) kept.now.entries k) (new_names (in_runs runs.now)) }
-    ensures { IfOk result (λ v.
-        NewSteps (T.is_touched tree.now) kept.now.entries (in_runs runs.now) (steps_seen v.items)) }
+    ensures { IfOk result (λ p.
+        NewSteps (T.is_touched tree.now) kept.now.entries (in_runs runs.now) (steps_seen p.steps.items)) }
 {
-    let mut steps = Vec::with_capacity(alloc, found.len())?;
+    let steps = Vec::with_capacity(alloc, found.len())?;
+    let mut planned = Planned { steps, groups: 0 };
     let mut rest = found;
     for run in runs {
         let (here, after) = rest.split_at(run.len());
-        push_run(alloc, kept, run, here, tree, groups, &mut steps)?;
+        push_run(alloc, kept, run, here, tree, &mut planned)?;
         rest = after;
     }
-    Ok(steps)
+    Ok(planned)
 }
 
 /// The steps of the entries of a run, which have these places in the kept level, come after others.
@@ -166,17 +171,16 @@ fn push_run<A: Ledger, T: Touches>(
     new: &[NewEntry<A>],
     found: &[Option<usize>],
     tree: &T,
-    groups: &mut usize,
-    steps: &mut Vec<Step<A>>,
+    planned: &mut Planned<A>,
 ) -> Result<(), AllocError>
     requires fit { EntriesFit (T.is_touched tree.now) kept.now.entries (new_entries new.now) }
     requires found { found.now
         ≡ map (λ k. place_in (T.is_touched tree.now) kept.now.entries k) (new_names (new_entries new.now)) }
     ensures { OnOk result (
-        AddsSteps (T.is_touched tree.now) kept.now.entries (new_entries new.now) steps.old.items steps.new.items) }
+        AddsSteps (T.is_touched tree.now) kept.now.entries (new_entries new.now) planned.old.steps.items planned.new.steps.items) }
 {
     for (i, entry) in new.iter().enumerate() {
-        push_step(alloc, kept, entry, found[i], tree, groups, steps)?;
+        push_step(alloc, kept, entry, found[i], tree, planned)?;
     }
     Ok(())
 }
@@ -190,26 +194,21 @@ fn push_step<A: Ledger, T: Touches>(
     entry: &NewEntry<A>,
     place: Option<usize>,
     tree: &T,
-    groups: &mut usize,
-    steps: &mut Vec<Step<A>>,
+    planned: &mut Planned<A>,
 ) -> Result<(), AllocError>
     requires fit { EntriesFit (T.is_touched tree.now) kept.now.entries (new_entries (entry.now ∷ [])) }
     requires place { place ∷ []
         ≡ map (λ k. place_in (T.is_touched tree.now) kept.now.entries k) (new_names (new_entries (entry.now ∷ []))) }
     ensures { OnOk result (
-        AddsSteps (T.is_touched tree.now) kept.now.entries (new_entries (entry.now ∷ [])) steps.old.items steps.new.items) }
+        AddsSteps (T.is_touched tree.now) kept.now.entries (new_entries (entry.now ∷ []))
+        planned.old.steps.items planned.new.steps.items) }
 {
     match entry {
-        NewEntry::Leaf(_) => steps.push(Step::Leaf(place))?,
-        NewEntry::Group {
-            key,
-            opacity,
-            blend,
-            inner,
-        } => {
-            let step = plan_group_step(alloc, kept, *key, *opacity, *blend, inner, place, tree)?;
-            *groups = groups.saturating_add(1);
-            steps.push(step)?;
+        NewEntry::Leaf(_) => planned.steps.push(Step::Leaf(place))?,
+        NewEntry::Group { inner, .. } => {
+            let step = plan_group_step(alloc, kept, place, inner, tree)?;
+            planned.groups = planned.groups.saturating_add(1);
+            planned.steps.push(step)?;
         }
     }
     Ok(())
@@ -221,18 +220,13 @@ fn push_step<A: Ledger, T: Touches>(
 fn plan_group_step<A: Ledger, T: Touches>(
     alloc: Global,
     kept: &Kept<A>,
-    key: BoxKey,
-    opacity: u8,
-    blend: Blend,
-    inner: &NewList<A>,
     place: Option<usize>,
+    inner: &NewList<A>,
     tree: &T,
 ) -> Result<Step<A>, AllocError>
-    requires fit { EntriesFit (T.is_touched tree.now) kept.now.entries (list.group (wrapper key opacity blend) inner.now list.nil) }
-    requires place { place ∷ [] ≡ map (λ k. place_in (T.is_touched tree.now) kept.now.entries k)
-        (new_names (list.group (wrapper key opacity blend) inner.now list.nil)) }
-    ensures { IfOk result (λ s. NewSteps (T.is_touched tree.now) kept.now.entries
-        (list.group (wrapper key opacity blend) inner.now list.nil) (steps_seen (s ∷ []))) }
+    requires { GroupFits (T.is_touched tree.now) kept.now.entries place inner.now }
+    ensures { IfOk result (λ s.
+        IsGroupStep (T.is_touched tree.now) kept.now.entries place inner.now (steps_seen (s ∷ []))) }
 {
     let plan = Box::new(alloc, plan_new_group(alloc, kept, place, inner, tree)?)?;
     Ok(Step::Group {

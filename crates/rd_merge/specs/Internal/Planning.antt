@@ -49,6 +49,12 @@ module _ (touched : BoxKey → Bool) (kept : Entries (Ordered EntryKey Wrapper) 
   NewSteps (group w fresh rest) (group step inner steps) = PlansGroup (place_in (entry_names.group w)) fresh true step inner × NewSteps rest steps
   NewSteps _ _ = ⊥
 
+  -- the step of a group of a new level with this list, which has this place
+  abbrev pub IsGroupStep : Option ℕ → Entries Wrapper Made → Steps → Type 0
+  IsGroupStep place fresh nil = ⊥
+  IsGroupStep place fresh (leaf q steps) = ⊥
+  IsGroupStep place fresh (group step inner steps) = PlansGroup place fresh true step inner × (steps ≡ nil)
+
   -- each of these places has its step, into which no new entry goes
   abbrev pub InnerSteps : List ℕ → Steps → Type 0
   InnerSteps [] nil = Unit {0}

@@ -16,7 +16,7 @@ use Rattle.rd_merge.specs.Plans.{IsGroupPlace, old_list, made_count}
 use Rattle.rd_merge.specs.PlanView.{steps_seen}
 use Rattle.rd_merge.specs.Internal.Adding.{AddsSteps}
 use Rattle.rd_merge.specs.Internal.Planning.{EntriesFit, GroupsFit, NewSteps, InnerSteps, place_in}
-use Rattle.rd_merge.proofs.PlanLoops.{steps_append, whole_take, run_within, run_found, run_after, run_fits, run_steps, run_size_at, adds_none, adds_next, adds_one, leaf_step, inner_next_step, fit_at, place_here, found_long, groups_at, new_size_at, group_within, group_no_leaf, group_list, group_size, list_fits, list_plan, none_fits, entries_fit, groups_fit, looked_as, can_patch_as, is_patched_as}
+use Rattle.rd_merge.proofs.PlanLoops.{steps_append, whole_take, run_within, run_found, run_after, run_fits, run_steps, run_size_at, adds_none, adds_next, adds_one, group_fit, group_smaller, group_step, leaf_step, inner_next_step, fit_at, place_here, found_long, groups_at, new_size_at, group_within, group_no_leaf, group_list, group_size, list_fits, list_plan, none_fits, entries_fit, groups_fit, looked_as, can_patch_as, is_patched_as}
 use Rattle.rd_merge.proofs.PlannedLevel.{can_patch, planned, few_made}
 use Rattle.rd_merge.proofs.preparing.+planning.Goals as goal
 
@@ -55,7 +55,7 @@ pub plan_entries-loop-run-preserved : goal.plan_entries-loop-run-preserved
 plan_entries-loop-run-preserved g t c = record {
   steps =
       let a = c.in_ok-push_run.ensures in
-      run_steps (g.T.Touches.is_touched c.args.tree.now) c.args.kept.now.entries c.args.runs.now c.loop-run.run-index c.run-item.result c.loop-run-test.true c.run-item.is c.deref.result.now c.loop-run.steps.items a.0 _
+      run_steps (g.T.Touches.is_touched c.args.tree.now) c.args.kept.now.entries c.args.runs.now c.loop-run.run-index c.run-item.result c.loop-run-test.true c.run-item.is c.deref.result.now c.loop-run.planned.steps.items a.0 _
       c.deref.ensures.value c.loop-run.invariant.steps a.2 a.1;
   rest = c.split_at.ensures.back
       ∙ run_after (g.T.Touches.is_touched c.args.tree.now) c.args.kept.now.entries c.args.runs.now c.loop-run.run-index c.run-item.result c.loop-run-test.true c.run-item.is c.len.result (c.len.ensures ∙ c.run-item.result.ok.0) c.loop-run.rest.now c.loop-run.invariant.rest;
@@ -63,7 +63,7 @@ plan_entries-loop-run-preserved g t c = record {
 
 pub plan_entries-returns : goal.plan_entries-returns
 plan_entries-returns g t c =
-    subst (λ es. NewSteps (g.T.Touches.is_touched c.args.tree.now) c.args.kept.now.entries (in_runs es) (steps_seen c.loop-run.steps.items)) (whole_take c.args.runs.now c.loop-run.run-index c.loop-run-test.false) c.loop-run.invariant.steps
+    subst (λ es. NewSteps (g.T.Touches.is_touched c.args.tree.now) c.args.kept.now.entries (in_runs es) (steps_seen c.loop-run.planned.steps.items)) (whole_take c.args.runs.now c.loop-run.run-index c.loop-run-test.false) c.loop-run.invariant.steps
 
 -- ---- push_run
 
@@ -93,12 +93,12 @@ push_run-push_step-requires g t c κs within =
 
 pub push_run-loop-i-preserved : goal.push_run-loop-i-preserved
 push_run-loop-i-preserved g t c = record {
-  steps = adds_next (g.T.Touches.is_touched c.args.tree.now) c.args.kept.now.entries c.args.new.now c.loop-i.i c.index-new-i.result c.args.steps.now.items c.loop-i.steps.items _ c.loop-i-test.true c.index-new-i.is c.loop-i.invariant.steps c.in_ok-push_step.ensures;
+  steps = adds_next (g.T.Touches.is_touched c.args.tree.now) c.args.kept.now.entries c.args.new.now c.loop-i.i c.index-new-i.result c.args.planned.now.steps.items c.loop-i.planned.steps.items _ c.loop-i-test.true c.index-new-i.is c.loop-i.invariant.steps c.in_ok-push_step.ensures;
 }
 
 pub push_run-returns : goal.push_run-returns
 push_run-returns g t c =
-    subst (λ es. AddsSteps (g.T.Touches.is_touched c.args.tree.now) c.args.kept.now.entries (new_entries es) c.args.steps.now.items c.loop-i.steps.items) (whole_take c.args.new.now c.loop-i.i c.loop-i-test.false) c.loop-i.invariant.steps
+    subst (λ es. AddsSteps (g.T.Touches.is_touched c.args.tree.now) c.args.kept.now.entries (new_entries es) c.args.planned.now.steps.items c.loop-i.planned.steps.items) (whole_take c.args.new.now c.loop-i.i c.loop-i-test.false) c.loop-i.invariant.steps
 
 -- ---- push_step
 
@@ -108,13 +108,21 @@ push_step-returns-in_ok-push-in-Leaf g t c =
     let xs = c.args.kept.now.entries in
     adds_one touched xs (new_entries (c.args.entry.now ∷ [])) _ _ _ c.in_ok-push-in-Leaf.ensures.items (leaf_step touched xs c.args.entry.now c.in-Leaf.field-0 c.args.place c.in-Leaf.is c.requires.place)
 
+pub push_step-plan_group_step-requires : goal.push_step-plan_group_step-requires
+push_step-plan_group_step-requires g t c κs within =
+    let touched = g.T.Touches.is_touched c.args.tree.now in
+    let i = c.in-Group in
+    let size = group_smaller touched c.args.kept.now.entries c.args.entry.now _ _ _ _ i.is in
+    (omega (arith, size, c.decreases), (within.0, (within.1, group_fit touched c.args.kept.now.entries c.args.entry.now _ _ _ _ c.args.place i.is c.requires.place c.requires.fit)))
+
 pub push_step-returns-in_ok-push-in-Group : goal.push_step-returns-in_ok-push-in-Group
 push_step-returns-in_ok-push-in-Group g t c =
     let touched = g.T.Touches.is_touched c.args.tree.now in
     let xs = c.args.kept.now.entries in
+    let i = c.in-Group in
     let step = c.in_ok-step-in-Group.step in
     adds_one touched xs (new_entries (c.args.entry.now ∷ [])) _ _ step c.in_ok-push-in-Group.ensures.items
-    (subst (λ x. NewSteps touched xs (new_entries (x ∷ [])) (steps_seen (step ∷ []))) (sym c.in-Group.is) c.in_ok-step-in-Group.ensures)
+    (group_step touched xs c.args.entry.now _ _ _ _ c.args.place (steps_seen (step ∷ [])) i.is c.requires.place c.in_ok-step-in-Group.ensures)
 
 -- ---- plan_groups
 
@@ -297,10 +305,10 @@ plan_level-invariant_of-result g t c =
     let fits = subst (λ z. FitsPatch c.in_ok-patch.patch z) graph c.in_ok-patch.ensures.fits in
     let patched = is_patched_as l.gone.items _ (new_names c.args.new.now) _ l.found.items _ c.args.kept.now.graph _ c.deref-4.ensures.value (c.deref-5.ensures.value ∙ keys) c.deref-6.ensures.value graph c.in_ok-patch.patch c.in_ok-patch.ensures.patched in
     let new_is = ap in_runs c.deref-7.ensures.value ∙ c.new.view_is in
-    let firsts = subst (λ z. NewSteps touched xs z (steps_seen c.in_ok-steps.steps.items)) new_is c.in_ok-steps.ensures in
+    let firsts = subst (λ z. NewSteps touched xs z (steps_seen c.in_ok-planned.planned.steps.items)) new_is c.in_ok-planned.ensures in
     let lasts = subst (λ z. InnerSteps touched xs z (steps_seen c.in_ok-inner.inner.items)) c.deref-9.ensures.value c.in_ok-inner.ensures in
-    let few = few_made touched c.args.kept.now c.args.new.now c.requires l.gone.items l.found.items l.inner.items looked c.in_ok-patch.patch fits patched (steps_seen c.in_ok-steps.steps.items) (steps_seen c.in_ok-inner.inner.items) firsts lasts in
-    let all = ap made_count (ap steps_seen c.in_ok-append.ensures.items ∙ steps_append c.in_ok-steps.steps.items c.in_ok-inner.inner.items) in
+    let few = few_made touched c.args.kept.now c.args.new.now c.requires l.gone.items l.found.items l.inner.items looked c.in_ok-patch.patch fits patched (steps_seen c.in_ok-planned.planned.steps.items) (steps_seen c.in_ok-inner.inner.items) firsts lasts in
+    let all = ap made_count (ap steps_seen c.in_ok-append.ensures.items ∙ steps_append c.in_ok-planned.planned.steps.items c.in_ok-inner.inner.items) in
     let many = ap length keys in
     let ok = c.in_ok-names.names.ok in
     let len = c.len.ensures in
@@ -319,7 +327,7 @@ plan_level-returns g t c =
     let fits = subst (λ z. FitsPatch c.in_ok-patch.patch z) graph c.in_ok-patch.ensures.fits in
     let patched = is_patched_as l.gone.items _ (new_names c.args.new.now) _ l.found.items _ c.args.kept.now.graph _ c.deref-4.ensures.value (c.deref-5.ensures.value ∙ keys) c.deref-6.ensures.value graph c.in_ok-patch.patch c.in_ok-patch.ensures.patched in
     let new_is = ap in_runs c.deref-7.ensures.value ∙ c.new.view_is in
-    let firsts = subst (λ z. NewSteps touched xs z (steps_seen c.in_ok-steps.steps.items)) new_is c.in_ok-steps.ensures in
+    let firsts = subst (λ z. NewSteps touched xs z (steps_seen c.in_ok-planned.planned.steps.items)) new_is c.in_ok-planned.ensures in
     let lasts = subst (λ z. InnerSteps touched xs z (steps_seen c.in_ok-inner.inner.items)) c.deref-9.ensures.value c.in_ok-inner.ensures in
-    subst (λ z. IsPlan touched c.args.kept.now c.args.new.now (record { patch = c.in_ok-patch.patch; steps = z })) (sym (ap steps_seen c.in_ok-append.ensures.items ∙ steps_append c.in_ok-steps.steps.items c.in_ok-inner.inner.items))
-    (planned touched c.args.kept.now c.args.new.now c.requires l.gone.items l.found.items l.inner.items looked c.in_ok-patch.patch fits patched (steps_seen c.in_ok-steps.steps.items) (steps_seen c.in_ok-inner.inner.items) firsts lasts)
+    subst (λ z. IsPlan touched c.args.kept.now c.args.new.now (record { patch = c.in_ok-patch.patch; steps = z })) (sym (ap steps_seen c.in_ok-append.ensures.items ∙ steps_append c.in_ok-planned.planned.steps.items c.in_ok-inner.inner.items))
+    (planned touched c.args.kept.now c.args.new.now c.requires l.gone.items l.found.items l.inner.items looked c.in_ok-patch.patch fits patched (steps_seen c.in_ok-planned.planned.steps.items) (steps_seen c.in_ok-inner.inner.items) firsts lasts)
