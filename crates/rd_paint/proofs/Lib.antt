@@ -21,3 +21,4 @@ pub mod Cutting
 pub mod Casting
 pub mod CutSpans
 pub mod Standing
+pub mod Strips

@@ -4,3 +4,4 @@ pub mod Bands
 pub mod Picks
 pub mod Frames
 pub mod Blocks
+pub mod Strips

@@ -12,6 +12,7 @@ ghost use Rattle.rd_list.specs.Views.{levels};
 ghost use Rattle.rd_paint.specs.Internal.Bands.{IsBandPainted, IsPainted};
 ghost use Rattle.rd_paint.specs.Internal.Blocks.{IsBlockChanged, IsRunPainted};
 ghost use Rattle.rd_paint.specs.Internal.Picks.{InAreaWithin, SameWhere, picked};
+ghost use Rattle.rd_paint.specs.Internal.Strips.{IsBlockOn, IsStripOn, IsWithinLimits};
 ghost use Rattle.rd_paint.specs.Parts.{entry_count, entries_from};
 
 use crate::blocks::{lay_picks_in, whiten};
@@ -23,41 +24,40 @@ use crate::frame::{frame_of, meets_part};
 use crate::gathering::gather;
 use crate::narrowing::narrow;
 use crate::picks::Pick;
+use crate::strip::{Band, PixelBlock, Strip};
 use rd_area::Area;
 use rd_geom::{Px, Span};
 use rd_list::{Block, Entry, Kept};
 use std::sync::ledger::Ledger;
 
-/// Paints the entries that picks name, on white, in the columns of the span of the rows `y0` up to `y1`.
-/// It begins with the topmost opaque leaf that covers all of them.
+/// Paints the entries that picks name, on white, in the pixels of the block. It begins with the topmost opaque leaf that covers all of
+/// them.
 fn paint_block<A: Ledger>(
     canvas: &mut Canvas,
-    corner: Corner,
+    block: PixelBlock,
     entries: &[Entry<A>],
     picks: &[Pick],
-    span: Span,
-    y0: usize,
-    y1: usize,
     rows: &mut [Px],
 )
-    requires order_rows { y0 ≤ y1 }
-    requires above { corner.top ≤ y0 }
-    requires on { y1 ≤ corner.top + canvas.old.height }
-    requires wide { corner.left + canvas.old.width ≤ 4096 }
-    requires high { corner.top + canvas.old.height ≤ 4096 }
-    requires from { pos corner.left ≤ℤ span.x0 }
-    requires order { span.x0 ≤ℤ span.x1 }
-    requires within { span.x1 ≤ℤ pos (corner.left + canvas.old.width) }
+    requires on { IsBlockOn canvas.old block }
     requires rows { canvas.old.width * (levels (picked picks.now (shown entries.now)) - 1) ≤ length rows.old }
-    ensures { IsBlockChanged corner (λ x y p. pixel (picked picks.now (shown entries.now)) (pos x) (pos y))
-        span y0 y1 canvas.old canvas.new }
+    ensures { IsBlockChanged block.strip.corner (λ x y p. pixel (picked picks.now (shown entries.now)) (pos x) (pos y))
+        block.span block.strip.y0 block.strip.y1 canvas.old canvas.new }
 {
+    let span = block.span;
     let count = (span.x1 - span.x0) as usize;
-    match cover(entries, picks, y0 as i32, y1 as i32, span.x0, count) {
-        Some(i) => lay_picks_in(canvas, corner, entries, &picks[i..], span, y0, y1, rows),
+    match cover(
+        entries,
+        picks,
+        block.strip.y0 as i32,
+        block.strip.y1 as i32,
+        span.x0,
+        count,
+    ) {
+        Some(i) => lay_picks_in(canvas, block, entries, &picks[i..], rows),
         None => {
-            whiten(canvas, corner, span, y0, y1);
-            lay_picks_in(canvas, corner, entries, picks, span, y0, y1, rows);
+            whiten(canvas, block);
+            lay_picks_in(canvas, block, entries, picks, rows);
         }
     }
 }
@@ -75,51 +75,43 @@ fn cut(span: Span, columns: Span) -> Span
 /// Paints the same, of the columns of the span that are on the canvas.
 fn paint_span_in<A: Ledger>(
     canvas: &mut Canvas,
-    corner: Corner,
+    block: PixelBlock,
     entries: &[Entry<A>],
     picks: &[Pick],
-    span: Span,
-    y0: usize,
-    y1: usize,
     rows: &mut [Px],
 )
-    requires order_rows { y0 ≤ y1 }
-    requires above { corner.top ≤ y0 }
-    requires on { y1 ≤ corner.top + canvas.old.height }
-    requires wide { corner.left + canvas.old.width ≤ 4096 }
-    requires high { corner.top + canvas.old.height ≤ 4096 }
+    requires on { IsStripOn canvas.old block.strip }
     requires rows { canvas.old.width * (levels (picked picks.now (shown entries.now)) - 1) ≤ length rows.old }
-    ensures { IsBlockChanged corner (λ x y p. pixel (picked picks.now (shown entries.now)) (pos x) (pos y))
-        span y0 y1 canvas.old canvas.new }
+    ensures { IsBlockChanged block.strip.corner (λ x y p. pixel (picked picks.now (shown entries.now)) (pos x) (pos y))
+        block.span block.strip.y0 block.strip.y1 canvas.old canvas.new }
 {
     let width = canvas.size().w as usize;
-    let part = cut(span, corner.columns(width));
+    let part = cut(block.span, block.strip.corner.columns(width));
     if part.x0 < part.x1 {
-        paint_block(canvas, corner, entries, picks, part, y0, y1, rows);
+        let inside = PixelBlock {
+            strip: block.strip,
+            span: part,
+        };
+        paint_block(canvas, inside, entries, picks, rows);
     }
 }
 
-/// Paints the pixels of the rows `y0` up to `y1` that are in the spans.
+/// Paints the pixels of the rows of the strip that are in the spans.
 fn paint_run<A: Ledger>(
     canvas: &mut Canvas,
-    corner: Corner,
+    strip: Strip,
+    spans: &[Span],
     entries: &[Entry<A>],
     picks: &[Pick],
-    spans: &[Span],
-    y0: usize,
-    y1: usize,
     rows: &mut [Px],
 )
-    requires order_rows { y0 ≤ y1 }
-    requires above { corner.top ≤ y0 }
-    requires on { y1 ≤ corner.top + canvas.old.height }
-    requires wide { corner.left + canvas.old.width ≤ 4096 }
-    requires high { corner.top + canvas.old.height ≤ 4096 }
+    requires on { IsStripOn canvas.old strip }
     requires rows { canvas.old.width * (levels (picked picks.now (shown entries.now)) - 1) ≤ length rows.old }
-    ensures { IsRunPainted corner (picked picks.now (shown entries.now)) spans.now y0 y1 canvas.old canvas.new }
+    ensures { IsRunPainted strip.corner (picked picks.now (shown entries.now)) spans.now strip.y0 strip.y1 canvas.old canvas.new }
 {
     for span in spans {
-        paint_span_in(canvas, corner, entries, picks, *span, y0, y1, rows);
+        let block = PixelBlock { strip, span: *span };
+        paint_span_in(canvas, block, entries, picks, rows);
     }
 }
 
@@ -155,36 +147,34 @@ fn same_spans(a: &[Span], b: &[Span]) -> bool
     true
 }
 
-/// Paints the rows `y0` up to `y1`: those that have the same spans together.
+/// Paints the rows of the band: those that have the same spans together.
 fn paint_rows<A: Ledger>(
     canvas: &mut Canvas,
-    corner: Corner,
+    band: Band<'_>,
     entries: &[Entry<A>],
     picks: &[Pick],
-    area: &Area,
-    y0: usize,
-    y1: usize,
     rows: &mut [Px],
 )
-    requires order { y0 ≤ y1 }
-    requires above { corner.top ≤ y0 }
-    requires within { y1 ≤ corner.top + canvas.old.height }
-    requires wide { corner.left + canvas.old.width ≤ 4096 }
-    requires high { corner.top + canvas.old.height ≤ 4096 }
+    requires on { IsStripOn canvas.old band.strip }
     requires rows { canvas.old.width * (levels (picked picks.now (shown entries.now)) - 1) ≤ length rows.old }
-    ensures { IsBandPainted corner (picked picks.now (shown entries.now)) area.now y0 y1 canvas.old canvas.new }
+    ensures { IsBandPainted band.entry.strip.corner (picked picks.now (shown entries.now)) band.entry.area.now
+        band.entry.strip.y0 band.entry.strip.y1 canvas.old canvas.new }
 {
-    let mut row = y0;
-    while row < y1 {
-        let end = alike_until(area, row, y1.min(row + FEW));
+    let corner = band.strip.corner;
+    let mut row = band.strip.y0;
+    while row < band.strip.y1 {
+        let end = alike_until(band.area, row, band.strip.y1.min(row + FEW));
+        let strip = Strip {
+            corner,
+            y0: row,
+            y1: end,
+        };
         paint_run(
             canvas,
-            corner,
+            strip,
+            band.area.spans(row as i32),
             entries,
             picks,
-            area.spans(row as i32),
-            row,
-            end,
             rows,
         );
         row = end;
@@ -194,67 +184,75 @@ fn paint_rows<A: Ledger>(
 /// Of so many rows no half gets picks of its own: to look past an entry is cheaper than to write picks.
 const FEW: usize = 16;
 
-/// Paints the rows `y0` up to `y1`: each half of them with its own picks, as long as there is room to write these.
+/// Paints the rows of the band: each half of them with its own picks, as long as there is room to write these.
 #[cycle(halving)]
 fn paint_band<A: Ledger>(
     canvas: &mut Canvas,
-    corner: Corner,
+    band: Band<'_>,
     entries: &[Entry<A>],
     picks: &[Pick],
-    area: &Area,
-    y0: usize,
-    y1: usize,
     rows: &mut [Px],
     room: &mut [Pick],
 )
-    requires order { y0 ≤ y1 }
-    requires above { corner.top ≤ y0 }
-    requires within { y1 ≤ corner.top + canvas.old.height }
-    requires wide { corner.left + canvas.old.width ≤ 4096 }
-    requires high { corner.top + canvas.old.height ≤ 4096 }
+    requires on { IsStripOn canvas.old band.strip }
     requires rows { canvas.old.width * (levels (picked picks.now (shown entries.now)) - 1) ≤ length rows.old }
     requires few { length picks.now < 2 ^ 32 }
-    ensures { IsBandPainted corner (picked picks.now (shown entries.now)) area.now y0 y1 canvas.old canvas.new }
+    ensures { IsBandPainted band.entry.strip.corner (picked picks.now (shown entries.now)) band.entry.area.now
+        band.entry.strip.y0 band.entry.strip.y1 canvas.old canvas.new }
 {
     let width = canvas.size().w as usize;
+    let area = band.area;
+    let corner = band.strip.corner;
+    let y0 = band.strip.y0;
+    let y1 = band.strip.y1;
     if !meets_part(area, corner.left, corner.left + width, y0, y1) {
         return;
     }
     if y1 - y0 <= FEW || room.len() < picks.len() {
-        paint_rows(canvas, corner, entries, picks, area, y0, y1, rows);
+        paint_rows(canvas, band, entries, picks, rows);
         return;
     }
     let middle = y0 + (y1 - y0) / 2;
-    paint_half(canvas, corner, entries, picks, area, y0, middle, rows, room);
-    paint_half(canvas, corner, entries, picks, area, middle, y1, rows, room);
+    let strip = Strip {
+        corner,
+        y0,
+        y1: middle,
+    };
+    paint_half(canvas, Band { strip, area }, entries, picks, rows, room);
+    let strip = Strip {
+        corner,
+        y0: middle,
+        y1,
+    };
+    paint_half(canvas, Band { strip, area }, entries, picks, rows, room);
 }
 
-/// Paints the rows `y0` up to `y1` with those of the picks whose entries may show there.
+/// Paints the rows of the band with those of the picks whose entries may show there.
 #[cycle(halving)]
 fn paint_half<A: Ledger>(
     canvas: &mut Canvas,
-    corner: Corner,
+    band: Band<'_>,
     entries: &[Entry<A>],
     picks: &[Pick],
-    area: &Area,
-    y0: usize,
-    y1: usize,
     rows: &mut [Px],
     room: &mut [Pick],
 )
-    requires order { y0 ≤ y1 }
-    requires above { corner.top ≤ y0 }
-    requires within { y1 ≤ corner.top + canvas.old.height }
-    requires wide { corner.left + canvas.old.width ≤ 4096 }
-    requires high { corner.top + canvas.old.height ≤ 4096 }
+    requires on { IsStripOn canvas.old band.strip }
     requires rows { canvas.old.width * (levels (picked picks.now (shown entries.now)) - 1) ≤ length rows.old }
     requires few { length picks.now < 2 ^ 32 }
     requires room { length picks.now ≤ length room.old }
-    ensures { IsBandPainted corner (picked picks.now (shown entries.now)) area.now y0 y1 canvas.old canvas.new }
+    ensures { IsBandPainted band.entry.strip.corner (picked picks.now (shown entries.now)) band.entry.area.now
+        band.entry.strip.y0 band.entry.strip.y1 canvas.old canvas.new }
 {
-    let count = narrow(entries, picks, y0 as i32, y1 as i32, room);
+    let count = narrow(
+        entries,
+        picks,
+        band.strip.y0 as i32,
+        band.strip.y1 as i32,
+        room,
+    );
     let (own, rest) = room.split_at_mut(count);
-    paint_band(canvas, corner, entries, own, area, y0, y1, rows, rest);
+    paint_band(canvas, band, entries, own, rows, rest);
 }
 
 /// So many picks are tried first: most paints have use for no more.
@@ -300,8 +298,7 @@ fn paint_all<A: Ledger>(
     rows: &mut Vec<Px>,
     room: &mut Vec<Pick>,
 ) -> bool
-    requires wide { corner.left + canvas.old.width ≤ 4096 }
-    requires high { corner.top + canvas.old.height ≤ 4096 }
+    requires limits { IsWithinLimits canvas.old corner }
     requires rows { canvas.old.width * (levels (kept_entries entries.now) - 1) ≤ vec_capacity rows.old }
     requires few { length room.old.items < 2 ^ 32 }
     requires covers { Covers blocks.now entries.now }
@@ -320,17 +317,12 @@ fn paint_all<A: Ledger>(
     };
     let (own, rest) = room.split_at_mut(count);
     open_for(rows, own, size.w as usize);
-    paint_band(
-        canvas,
+    let strip = Strip {
         corner,
-        entries,
-        own,
-        area,
-        frame.top,
-        frame.bottom,
-        rows,
-        rest,
-    );
+        y0: frame.top,
+        y1: frame.bottom,
+    };
+    paint_band(canvas, Band { strip, area }, entries, own, rows, rest);
     true
 }
 
@@ -345,8 +337,7 @@ pub(crate) fn paint_kept<A: Ledger>(
     room: &mut Vec<Pick>,
 ) -> bool
     requires from { from ≤ entry_count list.now.entries }
-    requires wide { corner.left + canvas.old.width ≤ 4096 }
-    requires high { corner.top + canvas.old.height ≤ 4096 }
+    requires limits { IsWithinLimits canvas.old corner }
     requires rows { canvas.old.width * (levels list.now.entries - 1) ≤ vec_capacity rows.old }
     requires few { length room.old.items < 2 ^ 32 }
     ensures few { length room.new.items < 2 ^ 32 }

@@ -10,78 +10,58 @@ ghost use Rattle.rd_list.specs.EntryNames.{kept_leaves};
 ghost use Rattle.rd_list.specs.Views.{levels, deeper};
 ghost use Rattle.rd_paint.specs.Internal.Blocks.{IsBlockChanged, IsBlockLaid, group_over, over_around, over_leaf};
 ghost use Rattle.rd_paint.specs.Internal.Picks.{chosen, picked};
+ghost use Rattle.rd_paint.specs.Internal.Strips.{IsBlockOn, IsRowOn};
 ghost use Rattle.rd_paint.specs.declared.picks.Pick as named;
 
 use crate::canvas::Canvas;
 use crate::chosen::lay_own;
-use crate::corner::Corner;
 use crate::covering::is_beside;
 use crate::narrowing::has_rows;
 use crate::picks::{Pick, pick_at};
 use crate::runs::{clipped, columns, fill, lay_around, rows_of};
+use crate::strip::{PixelBlock, Strip};
 use rd_geom::{Blend, Px, Rect, Span, px_of, scale};
 use rd_item::Item;
-use rd_list::{Entry, Kept};
+use rd_list::{Entry, Group, Kept};
 use std::sync::ledger::Ledger;
 
-/// Makes the pixels of a row of the span white.
-fn whiten_row(canvas: &mut Canvas, corner: Corner, span: Span, row: usize)
-    requires above { corner.top ≤ row }
-    requires on { row < corner.top + canvas.old.height }
-    requires wide { corner.left + canvas.old.width ≤ 4096 }
-    requires high { corner.top + canvas.old.height ≤ 4096 }
-    requires from { pos corner.left ≤ℤ span.x0 }
-    requires order { span.x0 ≤ℤ span.x1 }
-    requires within { span.x1 ≤ℤ pos (corner.left + canvas.old.width) }
-    ensures { IsBlockChanged corner (λ x y p. white) span row (row + 1) canvas.old canvas.new }
+/// Makes the pixels of a row of the block white.
+fn whiten_row(canvas: &mut Canvas, block: PixelBlock, row: usize)
+    requires { IsRowOn canvas.old block row }
+    ensures { IsBlockChanged block.strip.corner (λ x y p. white) block.span row (row + 1) canvas.old canvas.new }
 {
-    let out = canvas.part_mut(corner, row, span);
+    let out = canvas.part_mut(block.strip.corner, row, block.span);
     fill(out, Px::WHITE);
 }
 
 /// Makes the pixels of the block white.
-pub(crate) fn whiten(canvas: &mut Canvas, corner: Corner, span: Span, y0: usize, y1: usize)
-    requires rows { y0 ≤ y1 }
-    requires above { corner.top ≤ y0 }
-    requires on { y1 ≤ corner.top + canvas.old.height }
-    requires wide { corner.left + canvas.old.width ≤ 4096 }
-    requires high { corner.top + canvas.old.height ≤ 4096 }
-    requires from { pos corner.left ≤ℤ span.x0 }
-    requires order { span.x0 ≤ℤ span.x1 }
-    requires within { span.x1 ≤ℤ pos (corner.left + canvas.old.width) }
-    ensures { IsBlockChanged corner (λ x y p. white) span y0 y1 canvas.old canvas.new }
+pub(crate) fn whiten(canvas: &mut Canvas, block: PixelBlock)
+    requires { IsBlockOn canvas.old block }
+    ensures { IsBlockChanged block.strip.corner (λ x y p. white) block.span block.strip.y0 block.strip.y1
+        canvas.old canvas.new }
 {
-    for row in y0..y1 {
-        whiten_row(canvas, corner, span, row);
+    for row in block.strip.y0..block.strip.y1 {
+        whiten_row(canvas, block, row);
     }
 }
 
 /// Lays the entries that picks name, from bottom to top, over the pixels of the block.
 pub(crate) fn lay_picks_in<A: Ledger>(
     canvas: &mut Canvas,
-    corner: Corner,
+    block: PixelBlock,
     entries: &[Entry<A>],
     picks: &[Pick],
-    span: Span,
-    y0: usize,
-    y1: usize,
     rows: &mut [Px],
 )
-    requires order_rows { y0 ≤ y1 }
-    requires above { corner.top ≤ y0 }
-    requires on { y1 ≤ corner.top + canvas.old.height }
-    requires wide { corner.left + canvas.old.width ≤ 4096 }
-    requires high { corner.top + canvas.old.height ≤ 4096 }
-    requires from { pos corner.left ≤ℤ span.x0 }
-    requires order { span.x0 ≤ℤ span.x1 }
-    requires within { span.x1 ≤ℤ pos (corner.left + canvas.old.width) }
+    requires on { IsBlockOn canvas.old block }
     requires rows { canvas.old.width * (levels (picked picks.now (shown entries.now)) - 1) ≤ length rows.old }
-    ensures { IsBlockLaid corner (picked picks.now (shown entries.now)) span y0 y1 canvas.old canvas.new }
+    ensures { IsBlockLaid block.strip.corner (picked picks.now (shown entries.now)) block.span block.strip.y0 block.strip.y1
+        canvas.old canvas.new }
 {
     let mut i = 0;
     while i < picks.len() {
         let (place, own) = pick_at(picks, i);
-        lay_at_in(canvas, corner, entries, place, own, span, y0, y1, rows);
+        lay_at_in(canvas, block, entries, place, own, rows);
         i = i + 1 + own.len();
     }
 }
@@ -89,67 +69,38 @@ pub(crate) fn lay_picks_in<A: Ledger>(
 /// Lays the entry at a place, if there is one.
 fn lay_at_in<A: Ledger>(
     canvas: &mut Canvas,
-    corner: Corner,
+    block: PixelBlock,
     entries: &[Entry<A>],
     place: u32,
     own: &[Pick],
-    span: Span,
-    y0: usize,
-    y1: usize,
     rows: &mut [Px],
 )
-    requires order_rows { y0 ≤ y1 }
-    requires above { corner.top ≤ y0 }
-    requires on { y1 ≤ corner.top + canvas.old.height }
-    requires wide { corner.left + canvas.old.width ≤ 4096 }
-    requires high { corner.top + canvas.old.height ≤ 4096 }
-    requires from { pos corner.left ≤ℤ span.x0 }
-    requires order { span.x0 ≤ℤ span.x1 }
-    requires within { span.x1 ≤ℤ pos (corner.left + canvas.old.width) }
+    requires on { IsBlockOn canvas.old block }
     requires rows { canvas.old.width * (levels (chosen own.now place (shown entries.now)) - 1) ≤ length rows.old }
-    ensures { IsBlockLaid corner (chosen own.now place (shown entries.now)) span y0 y1 canvas.old canvas.new }
+    ensures { IsBlockLaid block.strip.corner (chosen own.now place (shown entries.now)) block.span block.strip.y0 block.strip.y1
+        canvas.old canvas.new }
 {
     let index = place as usize;
     if index < entries.len() {
-        lay_pick_in(canvas, corner, &entries[index], own, span, y0, y1, rows);
+        lay_pick_in(canvas, block, &entries[index], own, rows);
     }
 }
 
 fn lay_pick_in<A: Ledger>(
     canvas: &mut Canvas,
-    corner: Corner,
+    block: PixelBlock,
     entry: &Entry<A>,
     own: &[Pick],
-    span: Span,
-    y0: usize,
-    y1: usize,
     rows: &mut [Px],
 )
-    requires order_rows { y0 ≤ y1 }
-    requires above { corner.top ≤ y0 }
-    requires on { y1 ≤ corner.top + canvas.old.height }
-    requires wide { corner.left + canvas.old.width ≤ 4096 }
-    requires high { corner.top + canvas.old.height ≤ 4096 }
-    requires from { pos corner.left ≤ℤ span.x0 }
-    requires order { span.x0 ≤ℤ span.x1 }
-    requires within { span.x1 ≤ℤ pos (corner.left + canvas.old.width) }
+    requires on { IsBlockOn canvas.old block }
     requires rows { canvas.old.width * (levels (chosen own.now 0 (shown (entry.now ∷ []))) - 1) ≤ length rows.old }
-    ensures { IsBlockLaid corner (chosen own.now 0 (shown (entry.now ∷ []))) span y0 y1 canvas.old canvas.new }
+    ensures { IsBlockLaid block.strip.corner (chosen own.now 0 (shown (entry.now ∷ []))) block.span block.strip.y0 block.strip.y1
+        canvas.old canvas.new }
 {
     match entry {
-        Entry::Leaf(item) => lay_leaf_in(canvas, corner, item, span, y0, y1),
-        Entry::Group(group) => lay_inner_in(
-            canvas,
-            corner,
-            group.blend,
-            group.opacity,
-            &group.inner,
-            own,
-            span,
-            y0,
-            y1,
-            rows,
-        ),
+        Entry::Leaf(item) => lay_leaf_in(canvas, block, item),
+        Entry::Group(group) => lay_inner_in(canvas, block, group, own, rows),
     }
 }
 
@@ -157,39 +108,26 @@ fn lay_pick_in<A: Ledger>(
 /// its own.
 fn lay_inner_in<A: Ledger>(
     canvas: &mut Canvas,
-    corner: Corner,
-    blend: Blend,
-    opacity: u8,
-    inner: &Kept<A>,
+    block: PixelBlock,
+    group: &Group<A>,
     own: &[Pick],
-    span: Span,
-    y0: usize,
-    y1: usize,
     rows: &mut [Px],
 )
-    requires order_rows { y0 ≤ y1 }
-    requires above { corner.top ≤ y0 }
-    requires on { y1 ≤ corner.top + canvas.old.height }
-    requires wide { corner.left + canvas.old.width ≤ 4096 }
-    requires high { corner.top + canvas.old.height ≤ 4096 }
-    requires from { pos corner.left ≤ℤ span.x0 }
-    requires order { span.x0 ≤ℤ span.x1 }
-    requires within { span.x1 ≤ℤ pos (corner.left + canvas.old.width) }
-    requires rows { canvas.old.width * (deeper (levels (picked own.now (kept_leaves inner.now.entries))) - 1)
+    requires on { IsBlockOn canvas.old block }
+    requires rows { canvas.old.width * (deeper (levels (picked own.now (kept_leaves group.now.inner.entries))) - 1)
         ≤ length rows.old }
-    ensures { IsBlockChanged corner (group_over blend opacity (picked own.now (kept_leaves inner.now.entries)))
-        span y0 y1 canvas.old canvas.new }
+    ensures { IsBlockChanged block.strip.corner
+        (group_over group.now.blend group.now.opacity (picked own.now (kept_leaves group.now.inner.entries)))
+        block.span block.strip.y0 block.strip.y1 canvas.old canvas.new }
 {
-    match laid_at_once(blend, inner, own) {
+    match laid_at_once(group.blend, &group.inner, own) {
         Some(item) => {
-            if !is_off(item, span, y0, y1) {
-                let px = scale(px_of(item.color()), opacity);
-                lay_item_in(canvas, corner, item, px, span, y0, y1);
+            if !is_off(item, block.span, block.strip.y0, block.strip.y1) {
+                let px = scale(px_of(item.color()), group.opacity);
+                lay_item_in(canvas, block, item, px);
             }
         }
-        None => lay_group_in(
-            canvas, corner, blend, opacity, inner, own, span, y0, y1, rows,
-        ),
+        None => lay_group_in(canvas, block, group, own, rows),
     }
 }
 
@@ -241,63 +179,44 @@ fn leaf_of<A: Ledger>(entry: &Entry<A>) -> Option<&Item<A>>
     }
 }
 
-/// Lays what picks name of a group over the pixels of a row of the span.
+/// Lays what picks name of a group over the pixels of a row of the block.
 fn lay_group_row<A: Ledger>(
     canvas: &mut Canvas,
-    corner: Corner,
-    blend: Blend,
-    opacity: u8,
-    inner: &Kept<A>,
-    own: &[Pick],
-    span: Span,
+    block: PixelBlock,
     row: usize,
+    group: &Group<A>,
+    own: &[Pick],
     rows: &mut [Px],
 )
-    requires above { corner.top ≤ row }
-    requires on { row < corner.top + canvas.old.height }
-    requires wide { corner.left + canvas.old.width ≤ 4096 }
-    requires high { corner.top + canvas.old.height ≤ 4096 }
-    requires from { pos corner.left ≤ℤ span.x0 }
-    requires order { span.x0 ≤ℤ span.x1 }
-    requires within { span.x1 ≤ℤ pos (corner.left + canvas.old.width) }
-    requires rows { canvas.old.width * (deeper (levels (picked own.now (kept_leaves inner.now.entries))) - 1)
+    requires on { IsRowOn canvas.old block row }
+    requires rows { canvas.old.width * (deeper (levels (picked own.now (kept_leaves group.now.inner.entries))) - 1)
         ≤ length rows.old }
-    ensures { IsBlockChanged corner (group_over blend opacity (picked own.now (kept_leaves inner.now.entries)))
-        span row (row + 1) canvas.old canvas.new }
+    ensures { IsBlockChanged block.strip.corner
+        (group_over group.now.blend group.now.opacity (picked own.now (kept_leaves group.now.inner.entries)))
+        block.span row (row + 1) canvas.old canvas.new }
 {
     let y = row as i32;
-    let out = canvas.part_mut(corner, row, span);
-    lay_own(blend, opacity, inner, own, y, span.x0, out, rows);
+    let out = canvas.part_mut(block.strip.corner, row, block.span);
+    lay_own(group, own, y, block.span.x0, out, rows);
 }
 
 /// Lays what picks name of a group over the pixels of the block, a row at a time.
 fn lay_group_in<A: Ledger>(
     canvas: &mut Canvas,
-    corner: Corner,
-    blend: Blend,
-    opacity: u8,
-    inner: &Kept<A>,
+    block: PixelBlock,
+    group: &Group<A>,
     own: &[Pick],
-    span: Span,
-    y0: usize,
-    y1: usize,
     rows: &mut [Px],
 )
-    requires order_rows { y0 ≤ y1 }
-    requires above { corner.top ≤ y0 }
-    requires on { y1 ≤ corner.top + canvas.old.height }
-    requires wide { corner.left + canvas.old.width ≤ 4096 }
-    requires high { corner.top + canvas.old.height ≤ 4096 }
-    requires from { pos corner.left ≤ℤ span.x0 }
-    requires order { span.x0 ≤ℤ span.x1 }
-    requires within { span.x1 ≤ℤ pos (corner.left + canvas.old.width) }
-    requires rows { canvas.old.width * (deeper (levels (picked own.now (kept_leaves inner.now.entries))) - 1)
+    requires on { IsBlockOn canvas.old block }
+    requires rows { canvas.old.width * (deeper (levels (picked own.now (kept_leaves group.now.inner.entries))) - 1)
         ≤ length rows.old }
-    ensures { IsBlockChanged corner (group_over blend opacity (picked own.now (kept_leaves inner.now.entries)))
-        span y0 y1 canvas.old canvas.new }
+    ensures { IsBlockChanged block.strip.corner
+        (group_over group.now.blend group.now.opacity (picked own.now (kept_leaves group.now.inner.entries)))
+        block.span block.strip.y0 block.strip.y1 canvas.old canvas.new }
 {
-    for row in y0..y1 {
-        lay_group_row(canvas, corner, blend, opacity, inner, own, span, row, rows);
+    for row in block.strip.y0..block.strip.y1 {
+        lay_group_row(canvas, block, row, group, own, rows);
     }
 }
 
@@ -332,104 +251,61 @@ fn is_off<A: Ledger>(item: &Item<A>, span: Span, y0: usize, y1: usize) -> bool
 }
 
 /// Lays an item over the pixels of the block.
-fn lay_leaf_in<A: Ledger>(
-    canvas: &mut Canvas,
-    corner: Corner,
-    item: &Item<A>,
-    span: Span,
-    y0: usize,
-    y1: usize,
-)
-    requires order_rows { y0 ≤ y1 }
-    requires above { corner.top ≤ y0 }
-    requires on { y1 ≤ corner.top + canvas.old.height }
-    requires wide { corner.left + canvas.old.width ≤ 4096 }
-    requires high { corner.top + canvas.old.height ≤ 4096 }
-    requires from { pos corner.left ≤ℤ span.x0 }
-    requires order { span.x0 ≤ℤ span.x1 }
-    requires within { span.x1 ≤ℤ pos (corner.left + canvas.old.width) }
-    ensures { IsBlockLaid corner (list.leaf item.now.leaf list.nil) span y0 y1 canvas.old canvas.new }
+fn lay_leaf_in<A: Ledger>(canvas: &mut Canvas, block: PixelBlock, item: &Item<A>)
+    requires { IsBlockOn canvas.old block }
+    ensures { IsBlockLaid block.strip.corner (list.leaf item.now.leaf list.nil) block.span block.strip.y0 block.strip.y1
+        canvas.old canvas.new }
 {
-    if !is_off(item, span, y0, y1) {
-        lay_item_in(canvas, corner, item, px_of(item.color()), span, y0, y1);
+    if !is_off(item, block.span, block.strip.y0, block.strip.y1) {
+        lay_item_in(canvas, block, item, px_of(item.color()));
     }
 }
 
 /// Lays one pixel over those of the block that the item covers.
 #[inline(never)]
-fn lay_item_in<A: Ledger>(
-    canvas: &mut Canvas,
-    corner: Corner,
-    item: &Item<A>,
-    px: Px,
-    span: Span,
-    y0: usize,
-    y1: usize,
-)
-    requires order_rows { y0 ≤ y1 }
-    requires above { corner.top ≤ y0 }
-    requires on { y1 ≤ corner.top + canvas.old.height }
-    requires wide { corner.left + canvas.old.width ≤ 4096 }
-    requires high { corner.top + canvas.old.height ≤ 4096 }
-    requires from { pos corner.left ≤ℤ span.x0 }
-    requires order { span.x0 ≤ℤ span.x1 }
-    requires within { span.x1 ≤ℤ pos (corner.left + canvas.old.width) }
-    ensures { IsBlockChanged corner (over_leaf px item.now.leaf) span y0 y1 canvas.old canvas.new }
+fn lay_item_in<A: Ledger>(canvas: &mut Canvas, block: PixelBlock, item: &Item<A>, px: Px)
+    requires { IsBlockOn canvas.old block }
+    ensures { IsBlockChanged block.strip.corner (over_leaf px item.now.leaf) block.span block.strip.y0 block.strip.y1
+        canvas.old canvas.new }
 {
+    let span = block.span;
+    let y0 = block.strip.y0;
     let seen = item.visible();
     let (left, right) = clipped(columns(seen), span.x0, (span.x1 - span.x0) as usize);
-    let (top, bottom) = clipped(rows_of(seen), y0 as i32, y1 - y0);
+    let (top, bottom) = clipped(rows_of(seen), y0 as i32, block.strip.y1 - y0);
     if left < right && top < bottom {
+        let strip = Strip {
+            corner: block.strip.corner,
+            y0: y0 + top,
+            y1: y0 + bottom,
+        };
         let part = part_of(span, left, right);
         lay_rows(
             canvas,
-            corner,
+            PixelBlock { strip, span: part },
             px,
             item.shape().inner,
-            part,
-            y0 + top,
-            y0 + bottom,
         );
     }
 }
 
-/// Lays one pixel over those of a row of the span that are not in a hole.
-fn lay_one_row(canvas: &mut Canvas, corner: Corner, px: Px, hole: Rect, span: Span, row: usize)
-    requires above { corner.top ≤ row }
-    requires on { row < corner.top + canvas.old.height }
-    requires wide { corner.left + canvas.old.width ≤ 4096 }
-    requires high { corner.top + canvas.old.height ≤ 4096 }
-    requires from { pos corner.left ≤ℤ span.x0 }
-    requires order { span.x0 ≤ℤ span.x1 }
-    requires within { span.x1 ≤ℤ pos (corner.left + canvas.old.width) }
-    ensures { IsBlockChanged corner (over_around px hole) span row (row + 1) canvas.old canvas.new }
+/// Lays one pixel over those of a row of the block that are not in a hole.
+fn lay_one_row(canvas: &mut Canvas, block: PixelBlock, row: usize, px: Px, hole: Rect)
+    requires { IsRowOn canvas.old block row }
+    ensures { IsBlockChanged block.strip.corner (over_around px hole) block.span row (row + 1) canvas.old canvas.new }
 {
     let y = row as i32;
-    let out = canvas.part_mut(corner, row, span);
-    lay_around(px, hole, y, span.x0, out);
+    let out = canvas.part_mut(block.strip.corner, row, block.span);
+    lay_around(px, hole, y, block.span.x0, out);
 }
 
 /// Lays one pixel over those of the block that are not in a hole.
-fn lay_rows(
-    canvas: &mut Canvas,
-    corner: Corner,
-    px: Px,
-    hole: Rect,
-    span: Span,
-    y0: usize,
-    y1: usize,
-)
-    requires rows { y0 ≤ y1 }
-    requires above { corner.top ≤ y0 }
-    requires on { y1 ≤ corner.top + canvas.old.height }
-    requires wide { corner.left + canvas.old.width ≤ 4096 }
-    requires high { corner.top + canvas.old.height ≤ 4096 }
-    requires from { pos corner.left ≤ℤ span.x0 }
-    requires order { span.x0 ≤ℤ span.x1 }
-    requires within { span.x1 ≤ℤ pos (corner.left + canvas.old.width) }
-    ensures { IsBlockChanged corner (over_around px hole) span y0 y1 canvas.old canvas.new }
+fn lay_rows(canvas: &mut Canvas, block: PixelBlock, px: Px, hole: Rect)
+    requires { IsBlockOn canvas.old block }
+    ensures { IsBlockChanged block.strip.corner (over_around px hole) block.span block.strip.y0 block.strip.y1
+        canvas.old canvas.new }
 {
-    for row in y0..y1 {
-        lay_one_row(canvas, corner, px, hole, span, row);
+    for row in block.strip.y0..block.strip.y1 {
+        lay_one_row(canvas, block, row, px, hole);
     }
 }

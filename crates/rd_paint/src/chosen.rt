@@ -13,8 +13,8 @@ use crate::picks::{Pick, pick_at};
 use crate::reaching::places;
 use crate::runs::{fill, lay_row};
 use crate::spans::{begin_item, lay_item};
-use rd_geom::{Blend, Px};
-use rd_list::{Entry, Kept};
+use rd_geom::Px;
+use rd_list::{Entry, Group};
 use std::sync::ledger::Ledger;
 
 /// Lays the entries that picks name, from bottom to top, over the pixels of row `y` from column `x0` on.
@@ -78,50 +78,31 @@ fn lay_pick<A: Ledger>(
 {
     match entry {
         Entry::Leaf(item) => lay_item(item, y, x0, out),
-        Entry::Group(group) => lay_own(
-            group.blend,
-            group.opacity,
-            &group.inner,
-            own,
-            y,
-            x0,
-            out,
-            rows,
-        ),
+        Entry::Group(group) => lay_own(group, own, y, x0, out, rows),
     }
 }
 
 /// Lays what picks name of a group over those of the pixels where it may show.
 #[cycle(choosing)]
 pub(crate) fn lay_own<A: Ledger>(
-    blend: Blend,
-    opacity: u8,
-    inner: &Kept<A>,
+    group: &Group<A>,
     own: &[Pick],
     y: i32,
     x0: i32,
     out: &mut [Px],
     rows: &mut [Px],
 )
-    requires rows { length out.old * (deeper (levels (picked own.now (kept_leaves inner.now.entries))) - 1)
+    requires rows { length out.old * (deeper (levels (picked own.now (kept_leaves group.now.inner.entries))) - 1)
         ≤ length rows.old }
     requires from { pos 0 ≤ℤ x0 }
     requires within { (x0 +ℤ pos (length out.old)) ≤ℤ pos 4096 }
-    ensures { out.new ≡ laid_along_group y x0 blend opacity (picked own.now (kept_leaves inner.now.entries)) out.old }
+    ensures { out.new ≡ laid_along_group y x0 group.now.blend group.now.opacity
+        (picked own.now (kept_leaves group.now.inner.entries)) out.old }
 {
-    let (from, to) = places(inner, own, y, x0, out.len());
+    let (from, to) = places(&group.inner, own, y, x0, out.len());
     if from < to {
         let start = x0 + from as i32;
-        lay_seen(
-            blend,
-            opacity,
-            inner,
-            own,
-            y,
-            start,
-            &mut out[from..to],
-            rows,
-        );
+        lay_seen(group, own, y, start, &mut out[from..to], rows);
     }
 }
 
@@ -181,28 +162,28 @@ fn begin_row<A: Ledger>(
 /// Where no row is left they name no leaf.
 #[cycle(choosing)]
 fn lay_seen<A: Ledger>(
-    blend: Blend,
-    opacity: u8,
-    inner: &Kept<A>,
+    group: &Group<A>,
     own: &[Pick],
     y: i32,
     x0: i32,
     out: &mut [Px],
     rows: &mut [Px],
 )
-    requires rows { length out.old * (deeper (levels (picked own.now (kept_leaves inner.now.entries))) - 1)
+    requires rows { length out.old * (deeper (levels (picked own.now (kept_leaves group.now.inner.entries))) - 1)
         ≤ length rows.old }
     requires from { pos 0 ≤ℤ x0 }
     requires within { (x0 +ℤ pos (length out.old)) ≤ℤ pos 4096 }
-    ensures { out.new ≡ laid_along_group y x0 blend opacity (picked own.now (kept_leaves inner.now.entries)) out.old }
+    ensures { out.new ≡ laid_along_group y x0 group.now.blend group.now.opacity
+        (picked own.now (kept_leaves group.now.inner.entries)) out.old }
 {
     let n = out.len();
     if rows.len() < n {
         return;
     }
     let (row, rest) = rows.split_at_mut(n);
+    let inner = &group.inner;
     let entries: &[Entry<A>] = &inner.entries;
     let laid = begin_row(entries, own, y, x0, row);
     lay_picks(entries, &own[laid..], y, x0, row, rest);
-    lay_row(out, row, blend, opacity);
+    lay_row(out, row, group.blend, group.opacity);
 }

@@ -10,7 +10,7 @@ ghost use Rattle.rd_list.specs.Wrappers.{Wrapper};
 ghost use Rattle.rd_paint.specs.Internal.Picks.{InAreaWithin, IsClosed, SameWhere, ShowsFor, picked};
 
 use crate::picks::{MOST, Pick, put};
-use crate::skipping::next_within;
+use crate::skipping::{Sight, next_within};
 use rd_area::Area;
 use rd_geom::Span;
 use rd_item::Item;
@@ -38,11 +38,16 @@ pub(crate) fn gather<A: Ledger>(
 {
     let mut count = 0;
     let mut seek = FIRST;
-    let mut i = next_within(entries, blocks, area, &mut seek, 0, columns, rows);
+    let sight = Sight {
+        area,
+        columns,
+        rows,
+    };
+    let mut i = next_within(entries, blocks, sight, &mut seek, 0);
     while i < entries.len() {
         let more = gather_one(&entries[i], i, area, columns, rows, &mut room[count..])?;
         count += more;
-        i = next_within(entries, blocks, area, &mut seek, i + 1, columns, rows);
+        i = next_within(entries, blocks, sight, &mut seek, i + 1);
     }
     Some(count)
 }

@@ -23,6 +23,7 @@ mod reaching;
 mod runs;
 mod skipping;
 mod spans;
+mod strip;
 
 pub use areas::{repaint, repaint_part};
 pub use buffers::{Buffers, paint_span};

@@ -15,25 +15,30 @@ use rd_geom::{Rect, Span};
 use rd_list::ListView;
 use std::sync::ledger::Ledger;
 
-/// Makes the pixels of a row of a rectangle that are in a span those of a list, of which the entries from place `from` on are
-/// painted.
+/// The entries of a list from place `from` on.
+#[derive_where(Clone, Copy)]
+struct Upper<'a, A: Ledger> {
+    list: ListView<'a, A>,
+    from: usize,
+}
+
+/// Makes the pixels of a row of a rectangle that are in a span those of a list, of which the upper entries are painted.
 fn repaint_span<A: Ledger>(
     canvas: &mut Canvas,
     place: Rect,
-    list: ListView<'_, A>,
-    from: usize,
+    upper: Upper<'_, A>,
     span: Span,
     row: usize,
     buffers: &mut Buffers,
 )
-    requires from { from ≤ entry_count list.list.now.entries }
-    requires shows { ShowsFrom (kept_leaves list.list.now.entries) from place }
+    requires from { upper.from ≤ entry_count upper.list.list.now.entries }
+    requires shows { ShowsFrom (kept_leaves upper.list.list.now.entries) upper.from place }
     requires canvas { IsCanvas buffers.old.size }
     requires on { IsOn buffers.old.size place }
     requires fits { Fits place canvas.old }
     requires row { row < canvas.old.height }
-    requires deep { levels list.list.now.entries - 1 ≤ buffers.old.rows }
-    ensures painted { IsChanged (list_at (kept_leaves list.entry.list.now.entries) place)
+    requires deep { levels upper.list.list.now.entries - 1 ≤ buffers.old.rows }
+    ensures painted { IsChanged (list_at (kept_leaves upper.entry.list.list.now.entries) place)
         (in_row place (span ∷ []) row) canvas.old canvas.new }
     ensures same { buffers.new ≡ buffers.old }
 {
@@ -43,32 +48,38 @@ fn repaint_span<A: Ledger>(
         return;
     }
     let out = canvas.span_mut(row as i32, x0 - place.x(), x1 - place.x());
-    paint_span(list, from, place.y() + row as i32, x0, out, buffers);
+    paint_span(
+        upper.list,
+        upper.from,
+        place.y() + row as i32,
+        x0,
+        out,
+        buffers,
+    );
 }
 
 /// The same of those that are in some spans.
 fn repaint_row<A: Ledger>(
     canvas: &mut Canvas,
     place: Rect,
-    list: ListView<'_, A>,
-    from: usize,
+    upper: Upper<'_, A>,
     spans: &[Span],
     row: usize,
     buffers: &mut Buffers,
 )
-    requires from { from ≤ entry_count list.list.now.entries }
-    requires shows { ShowsFrom (kept_leaves list.list.now.entries) from place }
+    requires from { upper.from ≤ entry_count upper.list.list.now.entries }
+    requires shows { ShowsFrom (kept_leaves upper.list.list.now.entries) upper.from place }
     requires canvas { IsCanvas buffers.old.size }
     requires on { IsOn buffers.old.size place }
     requires fits { Fits place canvas.old }
     requires row { row < canvas.old.height }
-    requires deep { levels list.list.now.entries - 1 ≤ buffers.old.rows }
-    ensures painted { IsChanged (list_at (kept_leaves list.entry.list.now.entries) place)
+    requires deep { levels upper.list.list.now.entries - 1 ≤ buffers.old.rows }
+    ensures painted { IsChanged (list_at (kept_leaves upper.entry.list.list.now.entries) place)
         (in_row place spans.now row) canvas.old canvas.new }
     ensures same { buffers.new ≡ buffers.old }
 {
     for span in spans {
-        repaint_span(canvas, place, list, from, *span, row, buffers);
+        repaint_span(canvas, place, upper, *span, row, buffers);
     }
 }
 
@@ -91,9 +102,10 @@ pub(crate) fn repaint_plainly<A: Ledger>(
         (in_part place area.now) canvas.old canvas.new }
     ensures same { buffers.new ≡ buffers.old }
 {
+    let upper = Upper { list, from };
     let rows = canvas.size().h as usize;
     for row in 0..rows {
         let spans = area.spans(place.y() + row as i32);
-        repaint_row(canvas, place, list, from, spans, row, buffers);
+        repaint_row(canvas, place, upper, spans, row, buffers);
     }
 }

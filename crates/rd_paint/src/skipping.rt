@@ -13,6 +13,14 @@ use rd_item::Item;
 use rd_list::{Block, Entry, Seek};
 use std::sync::ledger::Ledger;
 
+/// What of an area is in some columns of some rows.
+#[derive(Clone, Copy)]
+pub(crate) struct Sight<'a> {
+    pub(crate) area: &'a Area,
+    pub(crate) columns: Span,
+    pub(crate) rows: Span,
+}
+
 /// Has the rectangle no pixel in these columns of these rows?
 #[inline(always)]
 fn misses(r: Rect, columns: Span, rows: Span) -> bool
@@ -119,27 +127,25 @@ fn next_in_block<A: Ledger>(
     entries: &[Entry<A>],
     block: &Block,
     start: usize,
-    area: &Area,
+    sight: Sight<'_>,
     from: usize,
-    columns: Span,
-    rows: Span,
 ) -> usize
     requires from { from ≤ length entries.now }
     requires end { start + block.now.count ≤ length entries.now }
     requires told { block.now.is_open ≡ false → Tells block.now (take block.now.count (drop start entries.now)) }
     ensures from { from ≤ result }
     ensures within { result ≤ length entries.now }
-    ensures same { ServesWhere (InAreaWithin area.now columns rows)
+    ensures same { ServesWhere (InAreaWithin sight.entry.area.now sight.entry.columns sight.entry.rows)
         (shown (drop result entries.now)) (shown (drop from entries.now)) }
 {
     let end = start + block.count;
     if from >= end {
         return from;
     }
-    if from == start && is_off(block, area, columns, rows) {
+    if from == start && is_off(block, sight.area, sight.columns, sight.rows) {
         return end;
     }
-    next_before(entries, from, end, columns, rows)
+    next_before(entries, from, end, sight.columns, sight.rows)
 }
 
 /// The place of the next entry that may show in the area, as far as it is in these columns of these rows, or how many entries
@@ -148,11 +154,9 @@ fn next_in_block<A: Ledger>(
 pub(crate) fn next_within<A: Ledger>(
     entries: &[Entry<A>],
     blocks: &[Block],
-    area: &Area,
+    sight: Sight<'_>,
     seek: &mut Seek,
     from: usize,
-    columns: Span,
-    rows: Span,
 ) -> usize
     requires from { from ≤ length entries.now }
     requires covers { Covers blocks.now entries.now }
@@ -160,7 +164,7 @@ pub(crate) fn next_within<A: Ledger>(
     ensures within { result ≤ length entries.now }
     ensures from { from ≤ result }
     ensures at { IsAt blocks.now seek.new.at seek.new.start }
-    ensures same { ServesWhere (InAreaWithin area.now columns rows)
+    ensures same { ServesWhere (InAreaWithin sight.entry.area.now sight.entry.columns sight.entry.rows)
         (shown (drop result entries.now)) (shown (drop from entries.now)) }
 {
     let mut i = from;
@@ -168,7 +172,7 @@ pub(crate) fn next_within<A: Ledger>(
     while now.at < blocks.len() {
         let block = &blocks[now.at];
         let end = now.start + block.count;
-        i = next_in_block(entries, block, now.start, area, i, columns, rows);
+        i = next_in_block(entries, block, now.start, sight, i);
         if i < end {
             *seek = now;
             return i;
@@ -179,5 +183,5 @@ pub(crate) fn next_within<A: Ledger>(
         };
     }
     *seek = now;
-    next_before(entries, i, entries.len(), columns, rows)
+    next_before(entries, i, entries.len(), sight.columns, sight.rows)
 }

@@ -10,9 +10,9 @@ ghost use Rattle.rd_list.specs.Views.{levels, deeper};
 ghost use Rattle.rd_paint.specs.Internal.Runs.{laid_along, laid_along_group};
 
 use crate::runs::{begin_columns, columns, fill, has_row, lay_row, lay_row_of};
-use rd_geom::{Blend, Px, px_of};
+use rd_geom::{Px, px_of};
 use rd_item::Item;
-use rd_list::{Entry, Kept};
+use rd_list::{Entry, Group};
 use std::sync::ledger::Ledger;
 
 /// Lays entries, from bottom to top, over the pixels of row `y` from column `x0` on.
@@ -43,34 +43,18 @@ fn lay_one<A: Ledger>(entry: &Entry<A>, y: i32, x0: i32, out: &mut [Px], rows: &
 {
     match entry {
         Entry::Leaf(item) => lay_item(item, y, x0, out),
-        Entry::Group(group) => lay_group(
-            group.blend,
-            group.opacity,
-            &group.inner,
-            y,
-            x0,
-            out,
-            rows,
-        ),
+        Entry::Group(group) => lay_group(group, y, x0, out, rows),
     }
 }
 
 /// Paints a group into the first of the rows, clear at first, and lays that over the pixels.
 /// Where no row is left there is no leaf in the group.
 #[cycle(painting)]
-fn lay_group<A: Ledger>(
-    blend: Blend,
-    opacity: u8,
-    inner: &Kept<A>,
-    y: i32,
-    x0: i32,
-    out: &mut [Px],
-    rows: &mut [Px],
-)
-    requires rows { length out.old * (deeper (levels inner.now.entries) - 1) ≤ length rows.old }
+fn lay_group<A: Ledger>(group: &Group<A>, y: i32, x0: i32, out: &mut [Px], rows: &mut [Px])
+    requires rows { length out.old * (deeper (levels group.now.inner.entries) - 1) ≤ length rows.old }
     requires from { pos 0 ≤ℤ x0 }
     requires within { (x0 +ℤ pos (length out.old)) ≤ℤ pos 4096 }
-    ensures { out.new ≡ laid_along_group y x0 blend opacity (kept_leaves inner.now.entries) out.old }
+    ensures { out.new ≡ laid_along_group y x0 group.now.blend group.now.opacity (kept_leaves group.now.inner.entries) out.old }
 {
     let n = out.len();
     if rows.len() < n {
@@ -78,8 +62,9 @@ fn lay_group<A: Ledger>(
     }
     let (row, rest) = rows.split_at_mut(n);
     fill(row, Px::CLEAR);
+    let inner = &group.inner;
     lay_all(&inner.entries, y, x0, row, rest);
-    lay_row(out, row, blend, opacity);
+    lay_row(out, row, group.blend, group.opacity);
 }
 
 /// Lays an item over the pixels of row `y` from column `x0` on.

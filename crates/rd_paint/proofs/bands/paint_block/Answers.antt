@@ -8,24 +8,28 @@ use Rattle.rd_list.specs.Lists.{composed}
 use Rattle.rd_paint.specs.Internal.Picks.{picked}
 use Rattle.rd_paint.specs.declared.picks.Pick.{Pick}
 use Rattle.rd_paint.proofs.Changing.{Change, block_hidden, block_then, laid_as}
+use Rattle.rd_paint.proofs.Strips.{block_still}
 use Rattle.rd_paint.proofs.bands.paint_block.Goals as goal
+
+pub lay_picks_in-requires-2-clause-on : goal.lay_picks_in-requires-2-clause-on
+lay_picks_in-requires-2-clause-on g c = block_still c.args.canvas.now c.whiten.new.canvas c.args.block c.whiten.ensures.width c.whiten.ensures.height c.requires.on
 
 abbrev made : Change
 made x y p = white
 
 pub returns-in-Some : goal.returns-in-Some
 returns-in-Some g c =
-    let e0 : to_z w32 c.args.y0 ≡ pos c.args.y0 = omega (arith, ints) in
-    let e1 : to_z w32 c.args.y1 ≡ pos c.args.y1 = omega (arith, ints) in
-    let ex : c.args.span.x0 ≡ pos (unsigned_abs c.args.span.x0) = omega (arith, ints) in
-    let f0 : FitsSigned w32 c.args.span.x0 = search rules in
-    let f1 : FitsSigned w32 c.args.span.x1 = search rules in
+    let e0 : to_z w32 c.args.block.strip.y0 ≡ pos c.args.block.strip.y0 = omega (arith, ints) in
+    let e1 : to_z w32 c.args.block.strip.y1 ≡ pos c.args.block.strip.y1 = omega (arith, ints) in
+    let ex : c.args.block.span.x0 ≡ pos (unsigned_abs c.args.block.span.x0) = omega (arith, ints) in
+    let f0 : FitsSigned w32 c.args.block.span.x0 = search rules in
+    let f1 : FitsSigned w32 c.args.block.span.x1 = search rules in
     let hides = simp to_z-of_z at (rw (e0, e1) at c.in-Some.ensures.hides) in
     let e = take_rest c.args.picks.now c.in-Some.i in
-    block_hidden c.args.corner (picked (drop c.in-Some.i c.args.picks.now) (shown c.args.entries.now)) (picked c.args.picks.now (shown c.args.entries.now)) c.args.span c.args.y0 c.args.y1 (unsigned_abs c.args.span.x0) (unsigned_abs c.args.span.x1) c.args.canvas.now c.lay_picks_in.new.canvas ex (omega (arith, ints))
+    block_hidden c.args.block.strip.corner (picked (drop c.in-Some.i c.args.picks.now) (shown c.args.entries.now)) (picked c.args.picks.now (shown c.args.entries.now)) c.args.block.span c.args.block.strip.y0 c.args.block.strip.y1 (unsigned_abs c.args.block.span.x0) (unsigned_abs c.args.block.span.x1) c.args.canvas.now c.lay_picks_in.new.canvas ex (omega (arith, ints))
     (λ k y d q l a b. ap (λ z. composed (z +ℤ pos k) y d (picked (drop c.in-Some.i c.args.picks.now) (shown c.args.entries.now))) (sym ex) ∙ hides k y d q (omega (arith, ints, l)) a b ∙ ap (λ z. composed (z +ℤ pos k) y q (picked c.args.picks.now (shown c.args.entries.now))) ex)
-    (laid_as c.args.corner _ _ c.args.span c.args.y0 c.args.y1 c.args.canvas.now c.lay_picks_in.new.canvas (ap (λ (qs : List Pick). picked qs (shown c.args.entries.now)) e) c.lay_picks_in.ensures)
+    (laid_as c.args.block.strip.corner _ _ c.args.block.span c.args.block.strip.y0 c.args.block.strip.y1 c.args.canvas.now c.lay_picks_in.new.canvas (ap (λ (qs : List Pick). picked qs (shown c.args.entries.now)) e) c.lay_picks_in.ensures)
 
 pub returns-in-None : goal.returns-in-None
 returns-in-None g c =
-    block_then c.args.corner made (λ x y p. composed (pos x) (pos y) p (picked c.args.picks.now (shown c.args.entries.now))) c.args.span c.args.y0 c.args.y1 c.args.canvas.now c.whiten.new.canvas c.lay_picks_in-in-None.new.canvas c.whiten.ensures c.lay_picks_in-in-None.ensures
+    block_then c.args.block.strip.corner made (λ x y p. composed (pos x) (pos y) p (picked c.args.picks.now (shown c.args.entries.now))) c.args.block.span c.args.block.strip.y0 c.args.block.strip.y1 c.args.canvas.now c.whiten.new.canvas c.lay_picks_in-in-None.new.canvas c.whiten.ensures c.lay_picks_in-in-None.ensures

@@ -12,9 +12,9 @@ lay_pick_in-requires-clause-rows g c =
 
 pub returns-then-index-entries : goal.returns-then-index-entries
 returns-then-index-entries g c =
-    laid_as c.args.corner _ _ c.args.span c.args.y0 c.args.y1 c.args.canvas.now c.lay_pick_in.new.canvas
+    laid_as c.args.block.strip.corner _ _ c.args.block.span c.args.block.strip.y0 c.args.block.strip.y1 c.args.canvas.now c.lay_pick_in.new.canvas
     (sym (entry_at-shown (picked c.args.own.now) c.args.entries.now c.args.place c.index-entries-index.result c.if-index-entries.true c.index-entries-index.is)) c.lay_pick_in.ensures
 
 pub returns-else-index-entries : goal.returns-else-index-entries
 returns-else-index-entries g c =
-    laid_nil c.args.corner _ c.args.span c.args.y0 c.args.y1 c.args.canvas.now (entry_at-past (picked c.args.own.now) c.args.entries.now c.args.place c.if-index-entries.false)
+    laid_nil c.args.block.strip.corner _ c.args.block.span c.args.block.strip.y0 c.args.block.strip.y1 c.args.canvas.now (entry_at-past (picked c.args.own.now) c.args.entries.now c.args.place c.if-index-entries.false)

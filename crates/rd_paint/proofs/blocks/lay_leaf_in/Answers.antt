@@ -10,4 +10,4 @@ returns-then-not-is_off g c = rw (c.px_of.ensures.value, c.color.ensures) at c.l
 
 pub returns-else-not-is_off : goal.returns-else-not-is_off
 returns-else-not-is_off g c =
-    uncovered c.args.corner (premultiplied c.args.item.now.leaf.color) c.args.item.now.leaf c.args.span c.args.y0 c.args.y1 (unsigned_abs c.args.span.x0) (unsigned_abs c.args.span.x1) c.args.canvas.now (omega (arith, ints)) (omega (arith, ints)) (c.is_off.ensures c.if-not-is_off.false)
+    uncovered c.args.block.strip.corner (premultiplied c.args.item.now.leaf.color) c.args.item.now.leaf c.args.block.span c.args.block.strip.y0 c.args.block.strip.y1 (unsigned_abs c.args.block.span.x0) (unsigned_abs c.args.block.span.x1) c.args.canvas.now (omega (arith, ints)) (omega (arith, ints)) (c.is_off.ensures c.if-not-is_off.false)

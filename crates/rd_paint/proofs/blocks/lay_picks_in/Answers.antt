@@ -7,7 +7,11 @@ use Rattle.rd_paint.specs.declared.picks.Pick.{Pick}
 use Rattle.rd_paint.proofs.Changing.{laid_then, laid_nil}
 use Rattle.rd_paint.proofs.Depths.{join_has, levels_by, rows_by}
 use Rattle.rd_paint.proofs.Picking.{picked-none}
+use Rattle.rd_paint.proofs.Strips.{block_still}
 use Rattle.rd_paint.proofs.blocks.lay_picks_in.Goals as goal
+
+pub lay_at_in-requires-clause-on : goal.lay_at_in-requires-clause-on
+lay_at_in-requires-clause-on g c = block_still c.args.canvas.now c.loop-i.canvas c.args.block c.loop-i.invariant.width c.loop-i.invariant.height c.requires.on
 
 pub lay_at_in-requires-clause-rows : goal.lay_at_in-requires-clause-rows
 lay_at_in-requires-clause-rows g c =
@@ -28,11 +32,11 @@ loop-i-preserved g c = record {
       let a = h.1 in
       let b = levels_by _ _ (sym (c.pick_at-place.ensures.parts (shown c.args.entries.now))) in
       omega (arith, a, b, c.loop-i.invariant.levels);
-  laid = λ end h. c.loop-i.invariant.laid end (laid_then c.args.corner (chosen c.pick_at-place.result.1.now c.pick_at-place.result.0 (shown c.args.entries.now)) (picked (drop (c.loop-i.i + 1 + length c.pick_at-place.result.1.now) c.args.picks.now) (shown c.args.entries.now)) (picked (drop c.loop-i.i c.args.picks.now) (shown c.args.entries.now)) c.args.span c.args.y0 c.args.y1 c.loop-i.canvas c.lay_at_in.new.canvas end
+  laid = λ end h. c.loop-i.invariant.laid end (laid_then c.args.block.strip.corner (chosen c.pick_at-place.result.1.now c.pick_at-place.result.0 (shown c.args.entries.now)) (picked (drop (c.loop-i.i + 1 + length c.pick_at-place.result.1.now) c.args.picks.now) (shown c.args.entries.now)) (picked (drop c.loop-i.i c.args.picks.now) (shown c.args.entries.now)) c.args.block.span c.args.block.strip.y0 c.args.block.strip.y1 c.loop-i.canvas c.lay_at_in.new.canvas end
       (c.pick_at-place.ensures.parts (shown c.args.entries.now)) c.lay_at_in.ensures h);
 }
 
 pub returns : goal.returns
 returns g c =
     c.loop-i.invariant.laid c.loop-i.canvas
-    (laid_nil c.args.corner _ c.args.span c.args.y0 c.args.y1 c.loop-i.canvas (ap (λ (qs : List Pick). picked qs (shown c.args.entries.now)) (drop_all c.loop-i.i c.args.picks.now c.loop-i-test.false) ∙ picked-none (shown c.args.entries.now)))
+    (laid_nil c.args.block.strip.corner _ c.args.block.span c.args.block.strip.y0 c.args.block.strip.y1 c.loop-i.canvas (ap (λ (qs : List Pick). picked qs (shown c.args.entries.now)) (drop_all c.loop-i.i c.args.picks.now c.loop-i-test.false) ∙ picked-none (shown c.args.entries.now)))

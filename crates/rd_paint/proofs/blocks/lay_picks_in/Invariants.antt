@@ -12,8 +12,8 @@ invariant-loop-i g l = record {
   width : l.canvas.width ≡ l.initial.canvas.width;
   height : l.canvas.height ≡ l.initial.canvas.height;
   levels : levels (picked (drop l.i l.picks) (shown l.entries)) ≤ levels (picked l.picks (shown l.entries));
-  laid : (end : Picture) → IsBlockLaid l.corner (picked (drop l.i l.picks) (shown l.entries)) l.span l.y0 l.y1 l.canvas end
-      → IsBlockLaid l.corner (picked l.picks (shown l.entries)) l.span l.y0 l.y1 l.initial.canvas end;
+  laid : (end : Picture) → IsBlockLaid l.block.strip.corner (picked (drop l.i l.picks) (shown l.entries)) l.block.span l.block.strip.y0 l.block.strip.y1 l.canvas end
+      → IsBlockLaid l.block.strip.corner (picked l.picks (shown l.entries)) l.block.span l.block.strip.y0 l.block.strip.y1 l.initial.canvas end;
 }
 
 abbrev pub decreases-loop-i : goal.decreases-loop-i

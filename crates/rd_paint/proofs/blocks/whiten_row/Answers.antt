@@ -1,4 +1,4 @@
-use Rattle.std.proofs.Common.{◌∙◌, refl, arith}
+use Rattle.std.proofs.Common.{◌∙◌, ◌≤◌, refl, arith}
 use Rattle.std.specs.Prelude.{unsigned_abs}
 use Rattle.std.proofs.lemmas.Int.{ints}
 use Rattle.rd_geom.specs.Colors.{white}
@@ -10,6 +10,7 @@ made x y p = white
 
 pub returns : goal.returns
 returns c =
-    row_by c.args.corner made c.args.span c.args.row (unsigned_abs c.args.span.x0) (unsigned_abs c.args.span.x1) (λ k p. white) c.part_mut-out.result.now c.fill.new.out c.args.canvas.now _
-    (omega (arith, ints)) (omega (arith, ints)) (omega (arith, ints)) (omega (arith, ints)) c.requires.above c.part_mut-out.ensures.value c.part_mut-out.ensures.len
+    let above : c.args.block.strip.corner.top ≤ c.args.row = omega (arith, c.requires.block.strip.above, c.requires.from) in
+    row_by c.args.block.strip.corner made c.args.block.span c.args.row (unsigned_abs c.args.block.span.x0) (unsigned_abs c.args.block.span.x1) (λ k p. white) c.part_mut-out.result.now c.fill.new.out c.args.canvas.now _
+    (omega (arith, ints)) (omega (arith, ints)) (omega (arith, ints)) (omega (arith, ints)) above c.part_mut-out.ensures.value c.part_mut-out.ensures.len
     (c.fill.ensures ∙ replicate_each white 0 c.part_mut-out.result.now) (λ k p l. refl) (c.part_mut-out.ensures.exact c.fill.new.out (c.fill.auto.out ∙ c.part_mut-out.ensures.len))

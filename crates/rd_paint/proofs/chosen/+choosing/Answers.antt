@@ -51,7 +51,7 @@ lay_at-returns-else-index-entries g t c =
 pub lay_own-lay_seen-requires : goal.lay_own-lay_seen-requires
 lay_own-lay_seen-requires g t c κs within =
     let short : min (c.places-from.result.1 - c.places-from.result.0) (length c.args.out.now - c.places-from.result.0) ≤ length c.args.out.now = omega arith in
-    (omega (arith, c.decreases), (within, (rows_within _ (length c.args.out.now) (deeper (levels (picked c.args.own.now (kept_leaves c.args.inner.now.entries))) - 1) (length c.args.rows.now) (simp (length-take, length-drop) short) c.requires.rows, (omega (arith, ints), simp (length-take, length-drop) (omega (arith, ints))))))
+    (omega (arith, c.decreases), (within, (rows_within _ (length c.args.out.now) (deeper (levels (picked c.args.own.now (kept_leaves c.args.group.now.inner.entries))) - 1) (length c.args.rows.now) (simp (length-take, length-drop) short) c.requires.rows, (omega (arith, ints), simp (length-take, length-drop) (omega (arith, ints))))))
 
 pub lay_own-returns-then-from-to : goal.lay_own-returns-then-from-to
 lay_own-returns-then-from-to g t c =
@@ -59,7 +59,7 @@ lay_own-returns-then-from-to g t c =
     let fy : FitsSigned w32 c.args.y = search rules in
     let unseen = simp to_z-of_z at c.places-from.ensures.unseen in
     let laid = simp to_z-of_z at c.lay_seen.ensures in
-    seen_laid c.args.y c.args.x0 _ c.args.blend c.args.opacity (picked c.args.own.now (kept_leaves c.args.inner.now.entries)) c.args.out.now c.lay_seen.new.out c.places-from.result.0 c.places-from.result.1 c.places-from.ensures.order c.places-from.ensures.within
+    seen_laid c.args.y c.args.x0 _ c.args.group.now.blend c.args.group.now.opacity (picked c.args.own.now (kept_leaves c.args.group.now.inner.entries)) c.args.out.now c.lay_seen.new.out c.places-from.result.0 c.places-from.result.1 c.places-from.ensures.order c.places-from.ensures.within
     (omega (arith, ints)) unseen laid
 
 pub lay_own-returns-else-from-to : goal.lay_own-returns-else-from-to
@@ -67,17 +67,17 @@ lay_own-returns-else-from-to g t c =
     let fx : FitsSigned w32 c.args.x0 = search rules in
     let fy : FitsSigned w32 c.args.y = search rules in
     let unseen = simp to_z-of_z at c.places-from.ensures.unseen in
-    unseen_laid c.args.y c.args.x0 c.args.blend c.args.opacity (picked c.args.own.now (kept_leaves c.args.inner.now.entries)) c.args.out.now c.places-from.result.0 c.places-from.result.1 c.if-from-to.false unseen
+    unseen_laid c.args.y c.args.x0 c.args.group.now.blend c.args.group.now.opacity (picked c.args.own.now (kept_leaves c.args.group.now.inner.entries)) c.args.out.now c.places-from.result.0 c.places-from.result.1 c.if-from-to.false unseen
 
 pub lay_seen-returns-then-rows-n : goal.lay_seen-returns-then-rows-n
 lay_seen-returns-then-rows-n g t c =
-    let none = no_rows (length c.args.out.now) (length c.args.rows.now) (levels (picked c.args.own.now (kept_leaves c.args.inner.now.entries))) (omega arith) c.requires.rows in
-    sym (laid_none c.args.y c.args.x0 c.args.blend c.args.opacity (picked c.args.own.now (kept_leaves c.args.inner.now.entries)) c.args.out.now
-    (λ x y. nothing_shown x y clear (picked c.args.own.now (kept_leaves c.args.inner.now.entries)) none))
+    let none = no_rows (length c.args.out.now) (length c.args.rows.now) (levels (picked c.args.own.now (kept_leaves c.args.group.now.inner.entries))) (omega arith) c.requires.rows in
+    sym (laid_none c.args.y c.args.x0 c.args.group.now.blend c.args.group.now.opacity (picked c.args.own.now (kept_leaves c.args.group.now.inner.entries)) c.args.out.now
+    (λ x y. nothing_shown x y clear (picked c.args.own.now (kept_leaves c.args.group.now.inner.entries)) none))
 
 pub lay_seen-lay_picks-requires : goal.lay_seen-lay_picks-requires
 lay_seen-lay_picks-requires g t c κs within =
-    let e : kept_entries c.deref-entries.result.now ≡ c.args.inner.now.entries = ap kept_entries c.deref-entries.ensures.value ∙ ap entries_of c.inner.view_is in
+    let e : kept_entries c.deref-entries.result.now ≡ c.args.group.now.inner.entries = ap kept_entries c.deref-entries.ensures.value ∙ ap entries_of c.inner.view_is in
     let n = ap (λ (es : Entries (Ordered EntryKey Wrapper) Made). list_size es) e in
     let l = ap (λ (es : Entries (Ordered EntryKey Wrapper) Made). levels (picked c.args.own.now (kept_leaves es))) e in
     let tail = all_behind c.begin_row-laid.result c.args.own.now c.begin_row-laid.ensures.within in
@@ -89,7 +89,7 @@ lay_seen-lay_picks-requires g t c κs within =
         within,
         (
           rows_by (length c.begin_row-laid.new.row) _ (picked (take (length c.args.own.now - c.begin_row-laid.result) (drop c.begin_row-laid.result c.args.own.now)) (shown c.deref-entries.result.now)) (picked c.args.own.now (shown c.deref-entries.result.now)) more
-              (rows_left (length c.args.out.now) (length c.args.rows.now) (levels (picked c.args.own.now (kept_leaves c.args.inner.now.entries))) _ _ _ (omega arith) c.requires.rows (c.begin_row-laid.auto.row ∙ c.split_at_mut-row.ensures.front_len) (omega (arith, c.split_at_mut-row.ensures.back_len)) l),
+              (rows_left (length c.args.out.now) (length c.args.rows.now) (levels (picked c.args.own.now (kept_leaves c.args.group.now.inner.entries))) _ _ _ (omega arith) c.requires.rows (c.begin_row-laid.auto.row ∙ c.split_at_mut-row.ensures.front_len) (omega (arith, c.split_at_mut-row.ensures.back_len)) l),
           (omega (arith, ints), omega (arith, ints, c.begin_row-laid.auto.row, c.split_at_mut-row.ensures.front_len)),
         ),
       ),
@@ -99,11 +99,11 @@ pub lay_seen-returns : goal.lay_seen-returns
 lay_seen-returns g t c =
     let fx : FitsSigned w32 c.args.x0 = search rules in
     let fy : FitsSigned w32 c.args.y = search rules in
-    let e : kept_entries c.deref-entries.result.now ≡ c.args.inner.now.entries = ap kept_entries c.deref-entries.ensures.value ∙ ap entries_of c.inner.view_is in
+    let e : kept_entries c.deref-entries.result.now ≡ c.args.group.now.inner.entries = ap kept_entries c.deref-entries.ensures.value ∙ ap entries_of c.inner.view_is in
     let begun = simp to_z-of_z at c.begin_row-laid.ensures.laid in
     let tail = all_behind c.begin_row-laid.result c.args.own.now c.begin_row-laid.ensures.within in
     let row = simp to_z-of_z at c.lay_picks.ensures in
-    group_from c.args.y c.args.x0 c.args.blend c.args.opacity _ (picked c.args.own.now (kept_leaves c.args.inner.now.entries)) (picked c.args.own.now (shown c.deref-entries.result.now)) c.args.out.now _ _ _
+    group_from c.args.y c.args.x0 c.args.group.now.blend c.args.group.now.opacity _ (picked c.args.own.now (kept_leaves c.args.group.now.inner.entries)) (picked c.args.own.now (shown c.deref-entries.result.now)) c.args.out.now _ _ _
     (ap (λ (es : Entries (Ordered EntryKey Wrapper) Made). picked c.args.own.now (kept_leaves es)) e) (c.split_at_mut-row.ensures.front_len) refl (row ∙ ap (λ (ps : List Pick). laid_along c.args.y c.args.x0 (picked ps (shown c.deref-entries.result.now)) c.begin_row-laid.new.row) tail ∙ begun) c.lay_row.ensures
 
 pub lay_pick-returns-in-Leaf : goal.lay_pick-returns-in-Leaf

@@ -27,7 +27,7 @@ abbrev pub decreases-lay_pick : goal.decreases-lay_pick
 decreases-lay_pick g l = 5 * list_size (kept_entries (l.entry.now ∷ [])) + 1
 
 abbrev pub decreases-lay_own : goal.decreases-lay_own
-decreases-lay_own g l = 5 * list_size l.inner.now.entries + 5
+decreases-lay_own g l = 5 * list_size l.group.now.inner.entries + 5
 
 abbrev pub decreases-lay_seen : goal.decreases-lay_seen
-decreases-lay_seen g l = 5 * list_size l.inner.now.entries + 4
+decreases-lay_seen g l = 5 * list_size l.group.now.inner.entries + 4

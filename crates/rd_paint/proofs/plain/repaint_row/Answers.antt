@@ -17,7 +17,7 @@ loop-span-preserved g c =
     let i = c.loop-span.span-index in
     let s : Span = get_or c.args.spans.now c.loop-span.span-index none in
     record {
-      painted = changed_then (list_at (kept_leaves c.args.list.list.now.entries) c.args.place) (in_row c.args.place (take i ss) c.args.row) (in_row c.args.place (s ∷ []) c.args.row) (in_row c.args.place (take (i + 1) ss) c.args.row)
+      painted = changed_then (list_at (kept_leaves c.args.upper.list.list.now.entries) c.args.place) (in_row c.args.place (take i ss) c.args.row) (in_row c.args.place (s ∷ []) c.args.row) (in_row c.args.place (take (i + 1) ss) c.args.row)
           c.args.canvas.now c.loop-span.canvas c.repaint_span.new.canvas
           (λ x y a b. row_more ss i s c.args.place c.args.row x y c.loop-span-test.true (get_or_default ss i none _ c.loop-span-test.true))
           c.loop-span.invariant.painted c.repaint_span.ensures.painted;

@@ -6,6 +6,6 @@ use Rattle.rd_paint.proofs.plain.repaint_row.Given as goal
 
 abbrev pub invariant-loop-span : goal.invariant-loop-span
 invariant-loop-span g l = record {
-  painted : IsChanged (list_at (kept_leaves l.list.list.now.entries) l.place) (in_row l.place (take l.span-index l.spans) l.row) l.initial.canvas l.canvas;
+  painted : IsChanged (list_at (kept_leaves l.upper.list.list.now.entries) l.place) (in_row l.place (take l.span-index l.spans) l.row) l.initial.canvas l.canvas;
   same : l.buffers ≡ l.initial.buffers;
 }

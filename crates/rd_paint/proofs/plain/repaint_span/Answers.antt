@@ -17,7 +17,7 @@ returns-then-x1-x0-clause-painted g c =
     let mx = c.max-x0.ensures.value in
     let mn = c.min-x1.ensures.value in
     let w = c.requires.fits.width in
-    unchanged (list_at (kept_leaves c.args.list.list.now.entries) c.args.place) (in_row c.args.place (c.args.span ∷ []) c.args.row) c.args.canvas.now
+    unchanged (list_at (kept_leaves c.args.upper.list.list.now.entries) c.args.place) (in_row c.args.place (c.args.span ∷ []) c.args.row) c.args.canvas.now
     (λ x y a b. cut_none c.args.span c.args.place c.args.row x y (omega (arith, ints, clamps, mx, mn)) (omega (arith, ints, w, a)))
 
 pub span_mut-out-requires-clause-from : goal.span_mut-out-requires-clause-from
@@ -75,7 +75,7 @@ returns-clause-painted g c =
     let exb : to_z w32 (of_z w32 (to_z w32 (of_z w32 c.min-x1.result) -ℤ to_z w32 (of_z w32 c.x-3.result))) ≡ (c.min-x1.result -ℤ c.x-3.result) = diff_is c.min-x1.result c.x-3.result g1 f3 (omega (arith, ints, a0, lt)) (omega (arith, ints, a0, a1, lt)) in
     let ey : to_z w32 (of_z w32 (to_z w32 (of_z w32 c.y.result) +ℤ to_z w32 c.args.row)) ≡ (c.y.result +ℤ pos c.args.row) = sum_is c.y.result c.args.row fy (omega (arith, ints)) few (omega (arith, ints, h)) in
     let len = c.paint_span.auto.out ∙ c.span_mut-out.ensures.len in
-    span_painted (kept_leaves c.args.list.list.now.entries) c.args.from c.args.span c.args.place c.args.row
+    span_painted (kept_leaves c.args.upper.list.list.now.entries) c.args.upper.from c.args.span c.args.place c.args.row
     (to_z w32 c.args.row)
     (to_z w32 (of_z w32 (to_z w32 (of_z w32 c.max-x0.result) -ℤ to_z w32 (of_z w32 c.x-2.result))))
     (to_z w32 (of_z w32 (to_z w32 (of_z w32 c.min-x1.result) -ℤ to_z w32 (of_z w32 c.x-3.result))))

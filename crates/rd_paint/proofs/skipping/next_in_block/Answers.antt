@@ -12,6 +12,6 @@ returns-then-is_off-clause-same g c =
     let hull = c.args.block.now.told.hull in
     let same : c.args.from ≡ c.args.start = omega (arith, c.if-from-start.true) in
     let held = (c.requires.told (c.is_off.ensures.open c.if-is_off.true)).0 in
-    subst (λ (s : ℕ). ServesWhere (InAreaWithin c.args.area.now c.args.columns c.args.rows) (shown (drop (s + n) es)) (shown (drop c.args.from es))) same
-    (block_past (InAreaWithin c.args.area.now c.args.columns c.args.rows) hull (c.is_off.ensures.off c.if-is_off.true) es c.args.from n
+    subst (λ (s : ℕ). ServesWhere (InAreaWithin c.args.sight.area.now c.args.sight.columns c.args.sight.rows) (shown (drop (s + n) es)) (shown (drop c.args.from es))) same
+    (block_past (InAreaWithin c.args.sight.area.now c.args.sight.columns c.args.sight.rows) hull (c.is_off.ensures.off c.if-is_off.true) es c.args.from n
     (subst (λ (s : ℕ). AreHeld hull (take n (drop s es))) (sym same) held))

@@ -26,5 +26,5 @@ loop-now-preserved g c =
       at = (at_next c.args.blocks.now c.loop-now.now.at start (start + n) n c.index-blocks-now.result c.loop-now-test.true c.index-blocks-now.is refl c.loop-now.invariant.at (omega arith) (omega arith)).0;
       from = omega (arith, from, later);
       within = c.next_in_block-i.ensures.within;
-      same = past_more (InAreaWithin c.args.area.now c.args.columns c.args.rows) c.args.entries.now c.args.from c.loop-now.i c.next_in_block-i.result c.loop-now.invariant.same c.next_in_block-i.ensures.same;
+      same = past_more (InAreaWithin c.args.sight.area.now c.args.sight.columns c.args.sight.rows) c.args.entries.now c.args.from c.loop-now.i c.next_in_block-i.result c.loop-now.invariant.same c.next_in_block-i.ensures.same;
     }

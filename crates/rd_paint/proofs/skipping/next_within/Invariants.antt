@@ -9,7 +9,7 @@ invariant-loop-now g l = record {
   at : IsAt l.blocks l.now.at l.now.start;
   from : l.from ≤ l.i;
   within : l.i ≤ length l.entries;
-  same : ServesWhere (InAreaWithin l.area l.columns l.rows) (shown (drop l.i l.entries)) (shown (drop l.from l.entries));
+  same : ServesWhere (InAreaWithin l.sight.area.now l.sight.columns l.sight.rows) (shown (drop l.i l.entries)) (shown (drop l.from l.entries));
 }
 
 abbrev pub decreases-loop-now : goal.decreases-loop-now

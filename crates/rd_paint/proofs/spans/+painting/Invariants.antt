@@ -15,4 +15,4 @@ abbrev pub decreases-lay_one : goal.decreases-lay_one
 decreases-lay_one g l = 4 * list_size (kept_entries (l.entry.now ∷ []))
 
 abbrev pub decreases-lay_group : goal.decreases-lay_group
-decreases-lay_group g l = 4 * list_size l.inner.now.entries + 2
+decreases-lay_group g l = 4 * list_size l.group.now.inner.entries + 2
