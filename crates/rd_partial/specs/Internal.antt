@@ -8,6 +8,7 @@ pub mod Given
 pub mod Looked
 pub mod Held
 pub mod Work
+pub mod Visited
 pub mod Growing
 pub mod Touched
 pub mod Seeking

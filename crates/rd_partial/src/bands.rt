@@ -1,4 +1,8 @@
 //! The lists that boxes are dropped into.
+ghost use Rattle.std.specs.Prelude.{◌≡◌, []};
+ghost use Rattle.rd_list.specs.Entries.{nil};
+ghost use Rattle.rd_list.specs.Nested.{laid_out};
+
 use rd_list::Pieces;
 use std::alloc::Global;
 use std::sync::ledger::Ledger;
@@ -23,10 +27,47 @@ pub struct Local<A: Ledger> {
     pub spare: Pieces<A>,
 }
 
+impl<A: Ledger> Local<A> {
+    /// Of a box that has given its own line and outlines: those below it have given nothing yet.
+    #[inline(always)]
+    pub fn begun(alloc: Global, line: Pieces<A>, outlines: Pieces<A>) -> Local<A>
+        ensures backgrounds { laid_out result.backgrounds ≡ nil }
+        ensures floats { laid_out result.floats ≡ nil }
+        ensures line { result.line ≡ line }
+        ensures contents { laid_out result.contents ≡ nil }
+        ensures outlines { result.outlines ≡ outlines }
+    {
+        Local {
+            backgrounds: Pieces::empty(alloc),
+            floats: Pieces::empty(alloc),
+            line,
+            contents: Pieces::empty(alloc),
+            outlines,
+            spare: Pieces::empty(alloc),
+        }
+    }
+}
+
 /// What boxes give to their stacking context.
 #[derive(Drop)]
 pub struct Layers<A: Ledger> {
     pub negatives: Vec<Stacked<A>>,
     pub zeros: Pieces<A>,
     pub positives: Vec<Stacked<A>>,
+}
+
+impl<A: Ledger> Layers<A> {
+    /// No layers.
+    #[inline(always)]
+    pub fn none(alloc: Global) -> Layers<A>
+        ensures negatives { result.negatives.items ≡ [] }
+        ensures zeros { laid_out result.zeros ≡ nil }
+        ensures positives { result.positives.items ≡ [] }
+    {
+        Layers {
+            negatives: Vec::new(alloc),
+            zeros: Pieces::empty(alloc),
+            positives: Vec::new(alloc),
+        }
+    }
 }

@@ -16,6 +16,7 @@ mod order;
 mod seeking;
 mod standing;
 mod touched;
+mod visit;
 mod walk;
 mod wanted;
 

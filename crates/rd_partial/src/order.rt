@@ -7,12 +7,10 @@ ghost use Rattle.rd_list.specs.Nested.{laid_out};
 ghost use Rattle.rd_partial.specs.Internal.Bands.{entries_if, by_level};
 ghost use Rattle.rd_partial.specs.Internal.Pass as pass;
 ghost use Rattle.rd_partial.specs.Internal.Held.{held_stack};
-ghost use Rattle.rd_partial.specs.Internal.Given.{gives, gives_back_border, back_border_cost};
-ghost use Rattle.rd_partial.specs.Internal.Work.{own_cost};
+ghost use Rattle.rd_partial.specs.Internal.Visited.{part_at, back_border_at, back_border_cost_at, own_cost_at};
 
 use crate::bands::{Layers, Local, Stacked};
-use crate::give::{give_back, give_border, give_content, give_outline};
-use crate::standing::Standing;
+use crate::visit::{Pass, Visit};
 use crate::wanted::Wanted;
 use rd_geom::{NoMemory, Steps};
 use rd_list::{NewList, Pieces};
@@ -20,26 +18,6 @@ use rd_stack::BoxData;
 use rd_style::{Style, blocky, is_blended, real};
 use std::alloc::Global;
 use std::sync::ledger::Ledger;
-
-/// The background, and the border on top of it (CSS 2.2 Appendix E.2).
-#[inline(always)]
-#[tactic(auto, using(crate::proofs::Pass::Joining::joins))]
-pub fn back_border<A: Ledger, W: Wanted>(
-    out: &mut Pieces<A>,
-    wanted: &W,
-    number: u64,
-    s: &Standing,
-    b: &BoxData,
-    made: &mut Steps<A>,
-) -> Result<(), NoMemory>
-    ensures list { OnOk result (laid_out out.new ≡ laid_out out.old
-        ▷ gives_back_border (W.wants wanted.now) number s.now b.now) }
-    ensures made { OnOk result (made.new ≡ made.old + back_border_cost (W.wants wanted.now) number s.now b.now) }
-    ensures most { made.new ≤ made.old + back_border_cost (W.wants wanted.now) number s.now b.now }
-{
-    give_back(out, wanted, number, s, b, made)?;
-    give_border(out, wanted, number, s, b, made)
-}
 
 /// What a box paints of itself before and in its line.
 #[derive(Drop)]
@@ -49,43 +27,60 @@ pub struct Begun<A: Ledger> {
     pub outlines: Pieces<A>,
 }
 
-/// The background and the border of a box, under its layers where it is laid out as a block and else in its line; then its content and its outline.
-#[tactic(auto, using(crate::proofs::Pass::Joining::joins))]
-pub fn begin<A: Ledger, W: Wanted>(
-    alloc: Global,
-    wanted: &W,
-    number: u64,
-    s: &Standing,
-    b: &BoxData,
-    made: &mut Steps<A>,
-) -> Result<Begun<A>, NoMemory>
-    ensures out { IfOk result (λ r. laid_out r.out ≡ entries_if (styles.blocky b.now.style s.now.root)
-        (gives_back_border (W.wants wanted.now) number s.now b.now)) }
-    ensures line { IfOk result (λ r. laid_out r.line ≡ entries_if (not (styles.blocky b.now.style s.now.root))
-        (gives_back_border (W.wants wanted.now) number s.now b.now)
-        ▷ gives (W.wants wanted.now) number s.now b.now parts.Content) }
-    ensures outlines { IfOk result (λ r. laid_out r.outlines ≡ gives
-        (W.wants wanted.now) number s.now b.now parts.Outline) }
-    ensures made { OnOk result (made.new ≡ made.old + own_cost (W.wants wanted.now) number s.now b.now) }
-    ensures most { made.new ≤ made.old + own_cost (W.wants wanted.now) number s.now b.now }
-{
-    let mut out = Pieces::empty(alloc);
-    let mut line = Pieces::empty(alloc);
-    let mut outlines = Pieces::empty(alloc);
-    let mut own = Pieces::empty(alloc);
-    back_border(&mut own, wanted, number, s, b, made)?;
-    if blocky(b.style(), s.is_root()) {
-        out = own;
-    } else {
-        line = own;
+impl<'a, B: Ledger, W: Wanted> Pass<'a, B, W> {
+    /// The background, and the border on top of it (CSS 2.2 Appendix E.2).
+    #[inline(always)]
+    #[tactic(auto, using(crate::proofs::Pass::Joining::joins))]
+    pub fn back_border<A: Ledger>(
+        &self,
+        out: &mut Pieces<A>,
+        at: &Visit<'_>,
+        made: &mut Steps<A>,
+    ) -> Result<(), NoMemory>
+        ensures list { OnOk result (laid_out out.new ≡ laid_out out.old
+            ▷ back_border_at (W.wants self.now.wanted.now) self.now.number at.now) }
+        ensures made { OnOk result (made.new ≡ made.old + back_border_cost_at (W.wants self.now.wanted.now) self.now.number at.now) }
+        ensures most { made.new ≤ made.old + back_border_cost_at (W.wants self.now.wanted.now) self.now.number at.now }
+    {
+        self.give_back(out, at, made)?;
+        self.give_border(out, at, made)
     }
-    give_content(&mut line, wanted, number, s, b, made)?;
-    give_outline(&mut outlines, wanted, number, s, b, made)?;
-    Ok(Begun {
-        out,
-        line,
-        outlines,
-    })
+
+    /// The background and the border of a box, under its layers where it is laid out as a block and else in its line; then its content and its outline.
+    #[tactic(auto, using(crate::proofs::Pass::Joining::joins))]
+    pub fn begin<A: Ledger>(
+        &self,
+        at: &Visit<'_>,
+        made: &mut Steps<A>,
+    ) -> Result<Begun<A>, NoMemory>
+        ensures out { IfOk result (λ r. laid_out r.out ≡ entries_if (styles.blocky at.now.here.now.style at.now.standing.now.root)
+            (back_border_at (W.wants self.now.wanted.now) self.now.number at.now)) }
+        ensures line { IfOk result (λ r. laid_out r.line ≡ entries_if (not (styles.blocky at.now.here.now.style at.now.standing.now.root))
+            (back_border_at (W.wants self.now.wanted.now) self.now.number at.now)
+            ▷ part_at (W.wants self.now.wanted.now) self.now.number at.now parts.Content) }
+        ensures outlines { IfOk result (λ r. laid_out r.outlines ≡ part_at
+            (W.wants self.now.wanted.now) self.now.number at.now parts.Outline) }
+        ensures made { OnOk result (made.new ≡ made.old + own_cost_at (W.wants self.now.wanted.now) self.now.number at.now) }
+        ensures most { made.new ≤ made.old + own_cost_at (W.wants self.now.wanted.now) self.now.number at.now }
+    {
+        let mut out = Pieces::empty(self.alloc);
+        let mut line = Pieces::empty(self.alloc);
+        let mut outlines = Pieces::empty(self.alloc);
+        let mut own = Pieces::empty(self.alloc);
+        self.back_border(&mut own, at, made)?;
+        if blocky(at.here.style(), at.standing.is_root()) {
+            out = own;
+        } else {
+            line = own;
+        }
+        self.give_content(&mut line, at, made)?;
+        self.give_outline(&mut outlines, at, made)?;
+        Ok(Begun {
+            out,
+            line,
+            outlines,
+        })
+    }
 }
 
 /// The lists of layers, one on top of another.

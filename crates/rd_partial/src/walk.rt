@@ -12,22 +12,20 @@ ghost use Rattle.rd_stack.specs.Internal.Looks.{IsFirst};
 ghost use Rattle.rd_partial.specs.Numbered.{numbered};
 ghost use Rattle.rd_partial.specs.Internal.Bands.{◌⊕◌};
 ghost use Rattle.rd_partial.specs.Internal.Pass as pass;
-ghost use Rattle.rd_partial.specs.Internal.Standing as standing;
 ghost use Rattle.rd_partial.specs.Internal.Held.{held};
-ghost use Rattle.rd_partial.specs.Internal.Given.{gives, gives_back_border};
 ghost use Rattle.rd_partial.specs.Internal.Counting.{leaves_in, root_visits};
-ghost use Rattle.rd_partial.specs.Internal.Work.{blends_from, layer_bands, layers_of, held_layers, own_cost, passes_from, passes_below, paints_from, boxed_from, cost_from, siblings_cost, visits_from};
+ghost use Rattle.rd_partial.specs.Internal.Work.{blends_from, layer_bands, layers_of, held_layers, passes_from, siblings_cost, visits_from};
+ghost use Rattle.rd_partial.specs.Internal.Visited.{part_at, back_border_at, own_cost_at, passes_below, cost_below, paints_at, cost_at, visits_below, tally, GivesBox};
 ghost use Rattle.rd_tree.specs.Drawn.{drawn};
 
 use crate::bands::{Layers, Local, Stacked};
-use crate::give::{give_content, give_outline};
 use crate::look::{look_at, root_of};
-use crate::order::{Begun, as_group, back_border, begin, finish};
+use crate::order::{Begun, as_group, finish};
 use crate::seeking::next_wanted;
 use crate::standing::Standing;
+use crate::visit::{Pass, Siblings, Visit};
 use crate::wanted::Wanted;
 use rd_geom::{NoMemory, Steps};
-use rd_keys::BoxKey;
 use rd_list::{NewList, Pieces};
 use rd_stack::BoxData;
 use rd_style::{Class, class_of, level, real};
@@ -43,239 +41,6 @@ fn level_in(b: &BoxData) -> i32
         Some(z) => z,
         None => 0,
     }
-}
-
-/// All that a stacking context paints.
-#[cycle(build)]
-fn context<A: Ledger, B: Ledger, W: Wanted>(
-    alloc: Global,
-    tree: &Tree<B>,
-    wanted: &W,
-    number: u64,
-    s: &Standing,
-    b: &BoxData,
-    first: Option<BoxKey>,
-    made: &mut Steps<A>,
-    looks: &mut Steps<B>,
-) -> Result<Pieces<A>, NoMemory>
-    requires real { styles.real b.now.style s.now.root ≡ true }
-    requires live { IsFirst first (drawn tree.now) }
-    ensures list { IfOk result (λ p. laid_out p ≡ paints_from (W.wants wanted.now) number s.now b.now first (drawn tree.now)) }
-    ensures made { OnOk result (made.new ≡ made.old + cost_from
-        (W.wants wanted.now) number s.now b.now first (drawn tree.now)) }
-    ensures most { made.new ≤ made.old + cost_from (W.wants wanted.now) number s.now b.now first (drawn tree.now) }
-    ensures looks { looks.new ≤ looks.old + visits_from (W.wants wanted.now) first (drawn tree.now) }
-{
-    let Begun {
-        out,
-        line,
-        outlines,
-    } = begin(alloc, wanted, number, s, b, made)?;
-    let mut local = Local {
-        backgrounds: Pieces::empty(alloc),
-        floats: Pieces::empty(alloc),
-        line,
-        contents: Pieces::empty(alloc),
-        outlines,
-        spare: Pieces::empty(alloc),
-    };
-    let mut layers = Layers {
-        negatives: Vec::new(alloc),
-        zeros: Pieces::empty(alloc),
-        positives: Vec::new(alloc),
-    };
-    those_below(
-        alloc,
-        tree,
-        wanted,
-        number,
-        s,
-        b,
-        first,
-        &mut local,
-        &mut layers,
-        made,
-        looks,
-    )?;
-    let order = finish(out, local, layers)?;
-    Ok(order)
-}
-
-/// All that a box paints as if it made a stacking context; the layers below it go to its own stacking context.
-#[cycle(build)]
-fn aside<A: Ledger, B: Ledger, W: Wanted>(
-    alloc: Global,
-    tree: &Tree<B>,
-    wanted: &W,
-    number: u64,
-    s: &Standing,
-    b: &BoxData,
-    first: Option<BoxKey>,
-    layers: &mut Layers<A>,
-    made: &mut Steps<A>,
-    looks: &mut Steps<B>,
-) -> Result<Pieces<A>, NoMemory>
-    requires unreal { styles.real b.now.style s.now.root ≡ false }
-    requires live { IsFirst first (drawn tree.now) }
-    ensures list { IfOk result (λ p. laid_out p ≡ paints_from (W.wants wanted.now) number s.now b.now first (drawn tree.now)) }
-    ensures layers { OnOk result (held_layers layers.new ≡ held_layers layers.old
-        ⊕ layers_of (passes_below (W.wants wanted.now) number s.now b.now first (drawn tree.now))) }
-    ensures made { OnOk result (made.new ≡ made.old + cost_from
-        (W.wants wanted.now) number s.now b.now first (drawn tree.now)) }
-    ensures most { made.new ≤ made.old + cost_from (W.wants wanted.now) number s.now b.now first (drawn tree.now) }
-    ensures looks { looks.new ≤ looks.old + visits_from (W.wants wanted.now) first (drawn tree.now) }
-{
-    let Begun {
-        out,
-        line,
-        outlines,
-    } = begin(alloc, wanted, number, s, b, made)?;
-    let mut local = Local {
-        backgrounds: Pieces::empty(alloc),
-        floats: Pieces::empty(alloc),
-        line,
-        contents: Pieces::empty(alloc),
-        outlines,
-        spare: Pieces::empty(alloc),
-    };
-    those_below(
-        alloc, tree, wanted, number, s, b, first, &mut local, layers, made, looks,
-    )?;
-    let none = Layers {
-        negatives: Vec::new(alloc),
-        zeros: Pieces::empty(alloc),
-        positives: Vec::new(alloc),
-    };
-    let order = finish(out, local, none)?;
-    Ok(order)
-}
-
-/// Drops a float.
-#[cycle(build)]
-#[inline(never)]
-fn float<A: Ledger, B: Ledger, W: Wanted>(
-    alloc: Global,
-    tree: &Tree<B>,
-    wanted: &W,
-    number: u64,
-    s: &Standing,
-    b: &BoxData,
-    first: Option<BoxKey>,
-    local: &mut Local<A>,
-    layers: &mut Layers<A>,
-    made: &mut Steps<A>,
-    looks: &mut Steps<B>,
-) -> Result<(), NoMemory>
-    requires class { styles.class b.now.style false ≡ classes.Float }
-    requires root { s.now.root ≡ false }
-    requires live { IsFirst first (drawn tree.now) }
-    ensures list { OnOk result (held local.new layers.new ≡ held local.old layers.old
-        ⊕ boxed_from (W.wants wanted.now) number s.now b.now first (drawn tree.now)) }
-    ensures made { OnOk result (made.new ≡ made.old + cost_from
-        (W.wants wanted.now) number s.now b.now first (drawn tree.now)) }
-    ensures most { made.new ≤ made.old + cost_from (W.wants wanted.now) number s.now b.now first (drawn tree.now) }
-    ensures looks { looks.new ≤ looks.old + visits_from (W.wants wanted.now) first (drawn tree.now) }
-{
-    let order = aside(
-        alloc, tree, wanted, number, s, b, first, layers, made, looks,
-    )?;
-    local.floats.join(order)?;
-    Ok(())
-}
-
-/// Drops an atomic inline.
-#[cycle(build)]
-#[inline(never)]
-fn atom<A: Ledger, B: Ledger, W: Wanted>(
-    alloc: Global,
-    tree: &Tree<B>,
-    wanted: &W,
-    number: u64,
-    s: &Standing,
-    b: &BoxData,
-    first: Option<BoxKey>,
-    local: &mut Local<A>,
-    layers: &mut Layers<A>,
-    made: &mut Steps<A>,
-    looks: &mut Steps<B>,
-) -> Result<(), NoMemory>
-    requires class { styles.class b.now.style false ≡ classes.Atom }
-    requires root { s.now.root ≡ false }
-    requires live { IsFirst first (drawn tree.now) }
-    ensures list { OnOk result (held local.new layers.new ≡ held local.old layers.old
-        ⊕ boxed_from (W.wants wanted.now) number s.now b.now first (drawn tree.now)) }
-    ensures made { OnOk result (made.new ≡ made.old + cost_from
-        (W.wants wanted.now) number s.now b.now first (drawn tree.now)) }
-    ensures most { made.new ≤ made.old + cost_from (W.wants wanted.now) number s.now b.now first (drawn tree.now) }
-    ensures looks { looks.new ≤ looks.old + visits_from (W.wants wanted.now) first (drawn tree.now) }
-{
-    let order = aside(
-        alloc, tree, wanted, number, s, b, first, layers, made, looks,
-    )?;
-    local.line.join(order)?;
-    Ok(())
-}
-
-/// Drops an inline box, and those below it into the same line.
-#[cycle(build)]
-#[inline(never)]
-fn inline<A: Ledger, B: Ledger, W: Wanted>(
-    alloc: Global,
-    tree: &Tree<B>,
-    wanted: &W,
-    number: u64,
-    s: &Standing,
-    b: &BoxData,
-    first: Option<BoxKey>,
-    local: &mut Local<A>,
-    layers: &mut Layers<A>,
-    made: &mut Steps<A>,
-    looks: &mut Steps<B>,
-) -> Result<(), NoMemory>
-    requires class { styles.class b.now.style false ≡ classes.Inline }
-    requires root { s.now.root ≡ false }
-    requires live { IsFirst first (drawn tree.now) }
-    ensures list { OnOk result (held local.new layers.new ≡ held local.old layers.old
-        ⊕ boxed_from (W.wants wanted.now) number s.now b.now first (drawn tree.now)) }
-    ensures made { OnOk result (made.new ≡ made.old + cost_from
-        (W.wants wanted.now) number s.now b.now first (drawn tree.now)) }
-    ensures most { made.new ≤ made.old + cost_from (W.wants wanted.now) number s.now b.now first (drawn tree.now) }
-    ensures looks { looks.new ≤ looks.old + visits_from (W.wants wanted.now) first (drawn tree.now) }
-{
-    back_border(&mut local.line, wanted, number, s, b, made)?;
-    give_content(&mut local.line, wanted, number, s, b, made)?;
-    give_outline(&mut local.outlines, wanted, number, s, b, made)?;
-    those_below(
-        alloc, tree, wanted, number, s, b, first, local, layers, made, looks,
-    )?;
-    Ok(())
-}
-
-/// Drops a block itself.
-#[inline(always)]
-fn block_itself<A: Ledger, W: Wanted>(
-    wanted: &W,
-    number: u64,
-    s: &Standing,
-    b: &BoxData,
-    local: &mut Local<A>,
-    made: &mut Steps<A>,
-) -> Result<(), NoMemory>
-    ensures floats { OnOk result (local.new.floats ≡ local.old.floats) }
-    ensures backgrounds { OnOk result (laid_out local.new.backgrounds ≡ laid_out local.old.backgrounds
-        ▷ gives_back_border (W.wants wanted.now) number s.now b.now) }
-    ensures line { OnOk result (local.new.line ≡ local.old.line) }
-    ensures contents { OnOk result (laid_out local.new.contents ≡ laid_out local.old.contents
-        ▷ gives (W.wants wanted.now) number s.now b.now parts.Content) }
-    ensures outlines { OnOk result (laid_out local.new.outlines ≡ laid_out local.old.outlines
-        ▷ gives (W.wants wanted.now) number s.now b.now parts.Outline) }
-    ensures made { OnOk result (made.new ≡ made.old + own_cost (W.wants wanted.now) number s.now b.now) }
-    ensures most { made.new ≤ made.old + own_cost (W.wants wanted.now) number s.now b.now }
-{
-    back_border(&mut local.backgrounds, wanted, number, s, b, made)?;
-    give_content(&mut local.contents, wanted, number, s, b, made)?;
-    give_outline(&mut local.outlines, wanted, number, s, b, made)?;
-    Ok(())
 }
 
 /// An empty list, which takes the room that is left in another.
@@ -318,44 +83,6 @@ fn close_line<A: Ledger>(local: &mut Local<A>, outer: Pieces<A>) -> Result<(), N
     let mut contents = replace(&mut local.contents, line);
     local.contents.append(&mut contents)?;
     local.spare = contents;
-    Ok(())
-}
-
-/// Drops a block, and those below it: its line comes before those of the blocks below it.
-#[cycle(build)]
-fn block<A: Ledger, B: Ledger, W: Wanted>(
-    alloc: Global,
-    tree: &Tree<B>,
-    wanted: &W,
-    number: u64,
-    s: &Standing,
-    b: &BoxData,
-    first: Option<BoxKey>,
-    local: &mut Local<A>,
-    layers: &mut Layers<A>,
-    made: &mut Steps<A>,
-    looks: &mut Steps<B>,
-) -> Result<(), NoMemory>
-    requires class { styles.class b.now.style false ≡ classes.Block }
-    requires root { s.now.root ≡ false }
-    requires live { IsFirst first (drawn tree.now) }
-    ensures list { OnOk result (held local.new layers.new ≡ held local.old layers.old
-        ⊕ boxed_from (W.wants wanted.now) number s.now b.now first (drawn tree.now)) }
-    ensures made { OnOk result (made.new ≡ made.old + cost_from
-        (W.wants wanted.now) number s.now b.now first (drawn tree.now)) }
-    ensures most { made.new ≤ made.old + cost_from (W.wants wanted.now) number s.now b.now first (drawn tree.now) }
-    ensures looks { looks.new ≤ looks.old + visits_from (W.wants wanted.now) first (drawn tree.now) }
-{
-    block_itself(wanted, number, s, b, local, made)?;
-    match first {
-        Some(_) => {}
-        None => return Ok(()),
-    }
-    let outer = open_line(alloc, local);
-    those_below(
-        alloc, tree, wanted, number, s, b, first, local, layers, made, looks,
-    )?;
-    close_line(local, outer)?;
     Ok(())
 }
 
@@ -402,263 +129,348 @@ fn stack<A: Ledger>(layers: &mut Layers<A>, b: &BoxData, order: Pieces<A>) -> Re
     Ok(())
 }
 
-/// Drops a layer that makes a stacking context.
-#[cycle(build)]
-fn real_layer<A: Ledger, B: Ledger, W: Wanted>(
-    alloc: Global,
-    tree: &Tree<B>,
-    wanted: &W,
-    number: u64,
-    s: &Standing,
-    b: &BoxData,
-    blend_below: bool,
-    first: Option<BoxKey>,
-    local: &mut Local<A>,
-    layers: &mut Layers<A>,
-    made: &mut Steps<A>,
-    looks: &mut Steps<B>,
-) -> Result<(), NoMemory>
-    requires class { styles.class b.now.style false ≡ classes.Layer }
-    requires real { styles.real b.now.style false ≡ true }
-    requires root { s.now.root ≡ false }
-    requires low { blend_below ≡ blends_from first (drawn tree.now) }
-    requires live { IsFirst first (drawn tree.now) }
-    ensures list { OnOk result (held local.new layers.new ≡ held local.old layers.old
-        ⊕ boxed_from (W.wants wanted.now) number s.now b.now first (drawn tree.now)) }
-    ensures made { OnOk result (made.new ≡ made.old + cost_from
-        (W.wants wanted.now) number s.now b.now first (drawn tree.now)) }
-    ensures most { made.new ≤ made.old + cost_from (W.wants wanted.now) number s.now b.now first (drawn tree.now) }
-    ensures looks { looks.new ≤ looks.old + visits_from (W.wants wanted.now) first (drawn tree.now) }
-{
-    let order = context(alloc, tree, wanted, number, s, b, first, made, looks)?;
-    let order = as_group(alloc, false, blend_below, b, order)?;
-    stack(layers, b, order)?;
-    Ok(())
-}
-
-/// Drops a layer that makes none: the layers at auto or 0 below it come after it.
-#[cycle(build)]
-fn auto_layer<A: Ledger, B: Ledger, W: Wanted>(
-    alloc: Global,
-    tree: &Tree<B>,
-    wanted: &W,
-    number: u64,
-    s: &Standing,
-    b: &BoxData,
-    first: Option<BoxKey>,
-    local: &mut Local<A>,
-    layers: &mut Layers<A>,
-    made: &mut Steps<A>,
-    looks: &mut Steps<B>,
-) -> Result<(), NoMemory>
-    requires class { styles.class b.now.style false ≡ classes.Layer }
-    requires unreal { styles.real b.now.style false ≡ false }
-    requires root { s.now.root ≡ false }
-    requires live { IsFirst first (drawn tree.now) }
-    ensures list { OnOk result (held local.new layers.new ≡ held local.old layers.old
-        ⊕ boxed_from (W.wants wanted.now) number s.now b.now first (drawn tree.now)) }
-    ensures made { OnOk result (made.new ≡ made.old + cost_from
-        (W.wants wanted.now) number s.now b.now first (drawn tree.now)) }
-    ensures most { made.new ≤ made.old + cost_from (W.wants wanted.now) number s.now b.now first (drawn tree.now) }
-    ensures looks { looks.new ≤ looks.old + visits_from (W.wants wanted.now) first (drawn tree.now) }
-{
-    let outer = replace(&mut layers.zeros, Pieces::empty(alloc));
-    let order = aside(
-        alloc, tree, wanted, number, s, b, first, layers, made, looks,
-    )?;
-    let inner = replace(&mut layers.zeros, outer);
-    layers.zeros.join(order)?;
-    layers.zeros.join(inner)?;
-    Ok(())
-}
-
-/// Drops a box, and those below it.
-#[cycle(build)]
-fn one<A: Ledger, B: Ledger, W: Wanted>(
-    alloc: Global,
-    tree: &Tree<B>,
-    wanted: &W,
-    number: u64,
-    s: &Standing,
-    b: &BoxData,
-    blend_below: bool,
-    first: Option<BoxKey>,
-    local: &mut Local<A>,
-    layers: &mut Layers<A>,
-    made: &mut Steps<A>,
-    looks: &mut Steps<B>,
-) -> Result<(), NoMemory>
-    requires root { s.now.root ≡ false }
-    requires low { blend_below ≡ blends_from first (drawn tree.now) }
-    requires live { IsFirst first (drawn tree.now) }
-    ensures list { OnOk result (held local.new layers.new ≡ held local.old layers.old
-        ⊕ boxed_from (W.wants wanted.now) number s.now b.now first (drawn tree.now)) }
-    ensures made { OnOk result (made.new ≡ made.old + cost_from
-        (W.wants wanted.now) number s.now b.now first (drawn tree.now)) }
-    ensures most { made.new ≤ made.old + cost_from (W.wants wanted.now) number s.now b.now first (drawn tree.now) }
-    ensures looks { looks.new ≤ looks.old + visits_from (W.wants wanted.now) first (drawn tree.now) }
-{
-    match class_of(b.style(), false) {
-        Class::Layer => layer(
-            alloc,
-            tree,
-            wanted,
-            number,
-            s,
-            b,
-            blend_below,
-            first,
-            local,
-            layers,
-            made,
-            looks,
-        ),
-        Class::Float => float(
-            alloc, tree, wanted, number, s, b, first, local, layers, made, looks,
-        ),
-        Class::Atom => atom(
-            alloc, tree, wanted, number, s, b, first, local, layers, made, looks,
-        ),
-        Class::Block => block(
-            alloc, tree, wanted, number, s, b, first, local, layers, made, looks,
-        ),
-        Class::Inline => inline(
-            alloc, tree, wanted, number, s, b, first, local, layers, made, looks,
-        ),
+impl<'a, B: Ledger, W: Wanted> Pass<'a, B, W> {
+    /// All that a stacking context paints.
+    #[cycle(build)]
+    fn context<A: Ledger>(
+        &self,
+        at: &Visit<'_>,
+        made: &mut Steps<A>,
+        looks: &mut Steps<B>,
+    ) -> Result<Pieces<A>, NoMemory>
+        requires real { styles.real at.now.here.now.style at.now.standing.now.root ≡ true }
+        requires live { IsFirst at.now.first_child (drawn self.now.tree.now) }
+        ensures list { IfOk result (λ p. laid_out p ≡ paints_at (W.wants self.now.wanted.now) self.now.number at.now (drawn self.now.tree.now)) }
+        ensures made { OnOk result (made.new ≡ made.old + cost_at (W.wants self.now.wanted.now) self.now.number at.now (drawn self.now.tree.now)) }
+        ensures most { made.new ≤ made.old + cost_at (W.wants self.now.wanted.now) self.now.number at.now (drawn self.now.tree.now) }
+        ensures looks { looks.new ≤ looks.old + visits_below (W.wants self.now.wanted.now) at.now (drawn self.now.tree.now) }
+    {
+        let Begun {
+            out,
+            line,
+            outlines,
+        } = self.begin(at, made)?;
+        let mut local = Local::begun(self.alloc, line, outlines);
+        let mut layers = Layers::none(self.alloc);
+        self.those_below(at, &mut local, &mut layers, made, looks)?;
+        let order = finish(out, local, layers)?;
+        Ok(order)
     }
-}
 
-/// Drops a layer.
-#[cycle(build)]
-#[inline(never)]
-fn layer<A: Ledger, B: Ledger, W: Wanted>(
-    alloc: Global,
-    tree: &Tree<B>,
-    wanted: &W,
-    number: u64,
-    s: &Standing,
-    b: &BoxData,
-    blend_below: bool,
-    first: Option<BoxKey>,
-    local: &mut Local<A>,
-    layers: &mut Layers<A>,
-    made: &mut Steps<A>,
-    looks: &mut Steps<B>,
-) -> Result<(), NoMemory>
-    requires class { styles.class b.now.style false ≡ classes.Layer }
-    requires root { s.now.root ≡ false }
-    requires low { blend_below ≡ blends_from first (drawn tree.now) }
-    requires live { IsFirst first (drawn tree.now) }
-    ensures list { OnOk result (held local.new layers.new ≡ held local.old layers.old
-        ⊕ boxed_from (W.wants wanted.now) number s.now b.now first (drawn tree.now)) }
-    ensures made { OnOk result (made.new ≡ made.old + cost_from
-        (W.wants wanted.now) number s.now b.now first (drawn tree.now)) }
-    ensures most { made.new ≤ made.old + cost_from (W.wants wanted.now) number s.now b.now first (drawn tree.now) }
-    ensures looks { looks.new ≤ looks.old + visits_from (W.wants wanted.now) first (drawn tree.now) }
-{
-    if real(b.style(), false) {
-        real_layer(
-            alloc,
-            tree,
-            wanted,
-            number,
-            s,
-            b,
-            blend_below,
-            first,
-            local,
-            layers,
-            made,
-            looks,
-        )
-    } else {
-        auto_layer(
-            alloc, tree, wanted, number, s, b, first, local, layers, made, looks,
-        )
+    /// All that a box paints as if it made a stacking context; the layers below it go to its own stacking context.
+    #[cycle(build)]
+    fn aside<A: Ledger>(
+        &self,
+        at: &Visit<'_>,
+        layers: &mut Layers<A>,
+        made: &mut Steps<A>,
+        looks: &mut Steps<B>,
+    ) -> Result<Pieces<A>, NoMemory>
+        requires unreal { styles.real at.now.here.now.style at.now.standing.now.root ≡ false }
+        requires live { IsFirst at.now.first_child (drawn self.now.tree.now) }
+        ensures list { IfOk result (λ p. laid_out p ≡ paints_at (W.wants self.now.wanted.now) self.now.number at.now (drawn self.now.tree.now)) }
+        ensures layers { OnOk result (held_layers layers.new ≡ held_layers layers.old
+            ⊕ layers_of (passes_below (W.wants self.now.wanted.now) self.now.number at.now (drawn self.now.tree.now))) }
+        ensures made { OnOk result (made.new ≡ made.old + cost_at (W.wants self.now.wanted.now) self.now.number at.now (drawn self.now.tree.now)) }
+        ensures most { made.new ≤ made.old + cost_at (W.wants self.now.wanted.now) self.now.number at.now (drawn self.now.tree.now) }
+        ensures looks { looks.new ≤ looks.old + visits_below (W.wants self.now.wanted.now) at.now (drawn self.now.tree.now) }
+    {
+        let Begun {
+            out,
+            line,
+            outlines,
+        } = self.begin(at, made)?;
+        let mut local = Local::begun(self.alloc, line, outlines);
+        self.those_below(at, &mut local, layers, made, looks)?;
+        let order = finish(out, local, Layers::none(self.alloc))?;
+        Ok(order)
     }
-}
 
-/// Drops those below a box, where there are any.
-#[cycle(build)]
-#[inline(always)]
-fn those_below<A: Ledger, B: Ledger, W: Wanted>(
-    alloc: Global,
-    tree: &Tree<B>,
-    wanted: &W,
-    number: u64,
-    s: &Standing,
-    b: &BoxData,
-    first: Option<BoxKey>,
-    local: &mut Local<A>,
-    layers: &mut Layers<A>,
-    made: &mut Steps<A>,
-    looks: &mut Steps<B>,
-) -> Result<(), NoMemory>
-    requires live { IsFirst first (drawn tree.now) }
-    ensures list { OnOk result (held local.new layers.new ≡ held local.old layers.old
-        ⊕ passes_below (W.wants wanted.now) number s.now b.now first (drawn tree.now)) }
-    ensures made { OnOk result (made.new ≡ made.old + siblings_cost
-        (W.wants wanted.now) number (standing.below s.now b.now) first (drawn tree.now)) }
-    ensures most { made.new ≤ made.old + siblings_cost
-        (W.wants wanted.now) number (standing.below s.now b.now) first (drawn tree.now) }
-    ensures looks { looks.new ≤ looks.old + visits_from (W.wants wanted.now) first (drawn tree.now) }
-{
-    match first {
-        Some(_) => {
-            let inner = s.below(b);
-            children(
-                alloc, tree, wanted, number, &inner, first, local, layers, made, looks,
-            )
-        }
-        None => Ok(()),
+    /// Drops a float.
+    #[cycle(build)]
+    #[inline(never)]
+    fn float<A: Ledger>(
+        &self,
+        at: &Visit<'_>,
+        local: &mut Local<A>,
+        layers: &mut Layers<A>,
+        made: &mut Steps<A>,
+        looks: &mut Steps<B>,
+    ) -> Result<(), NoMemory>
+        requires class { styles.class at.now.here.now.style false ≡ classes.Float }
+        requires root { at.now.standing.now.root ≡ false }
+        requires live { IsFirst at.now.first_child (drawn self.now.tree.now) }
+        ensures { GivesBox (W.wants self.now.wanted.now) self.now.number at.now (drawn self.now.tree.now) result
+            (tally local.old layers.old made.old looks.old) (tally local.new layers.new made.new looks.new) }
+    {
+        let order = self.aside(at, layers, made, looks)?;
+        local.floats.join(order)?;
+        Ok(())
     }
-}
 
-/// Drops some siblings and those below them; those of which nothing is wanted are looked at, and no box below them is.
-#[cycle(build)]
-fn children<A: Ledger, B: Ledger, W: Wanted>(
-    alloc: Global,
-    tree: &Tree<B>,
-    wanted: &W,
-    number: u64,
-    s: &Standing,
-    first: Option<BoxKey>,
-    local: &mut Local<A>,
-    layers: &mut Layers<A>,
-    made: &mut Steps<A>,
-    looks: &mut Steps<B>,
-) -> Result<(), NoMemory>
-    requires root { s.now.root ≡ false }
-    requires live { IsFirst first (drawn tree.now) }
-    ensures list { OnOk result (held local.new layers.new ≡ held local.old layers.old
-        ⊕ passes_from (W.wants wanted.now) number s.now first (drawn tree.now)) }
-    ensures made { OnOk result (made.new ≡ made.old + siblings_cost (W.wants wanted.now) number s.now first (drawn tree.now)) }
-    ensures most { made.new ≤ made.old + siblings_cost (W.wants wanted.now) number s.now first (drawn tree.now) }
-    ensures looks { looks.new ≤ looks.old + visits_from (W.wants wanted.now) first (drawn tree.now) }
-{
-    let frame = wanted.frame();
-    let mut at = first;
-    loop {
-        let looked = match next_wanted(tree, wanted, &frame, at, looks) {
-            Some(looked) => looked,
+    /// Drops an atomic inline.
+    #[cycle(build)]
+    #[inline(never)]
+    fn atom<A: Ledger>(
+        &self,
+        at: &Visit<'_>,
+        local: &mut Local<A>,
+        layers: &mut Layers<A>,
+        made: &mut Steps<A>,
+        looks: &mut Steps<B>,
+    ) -> Result<(), NoMemory>
+        requires class { styles.class at.now.here.now.style false ≡ classes.Atom }
+        requires root { at.now.standing.now.root ≡ false }
+        requires live { IsFirst at.now.first_child (drawn self.now.tree.now) }
+        ensures { GivesBox (W.wants self.now.wanted.now) self.now.number at.now (drawn self.now.tree.now) result
+            (tally local.old layers.old made.old looks.old) (tally local.new layers.new made.new looks.new) }
+    {
+        let order = self.aside(at, layers, made, looks)?;
+        local.line.join(order)?;
+        Ok(())
+    }
+
+    /// Drops an inline box, and those below it into the same line.
+    #[cycle(build)]
+    #[inline(never)]
+    fn inline<A: Ledger>(
+        &self,
+        at: &Visit<'_>,
+        local: &mut Local<A>,
+        layers: &mut Layers<A>,
+        made: &mut Steps<A>,
+        looks: &mut Steps<B>,
+    ) -> Result<(), NoMemory>
+        requires class { styles.class at.now.here.now.style false ≡ classes.Inline }
+        requires root { at.now.standing.now.root ≡ false }
+        requires live { IsFirst at.now.first_child (drawn self.now.tree.now) }
+        ensures { GivesBox (W.wants self.now.wanted.now) self.now.number at.now (drawn self.now.tree.now) result
+            (tally local.old layers.old made.old looks.old) (tally local.new layers.new made.new looks.new) }
+    {
+        self.back_border(&mut local.line, at, made)?;
+        self.give_content(&mut local.line, at, made)?;
+        self.give_outline(&mut local.outlines, at, made)?;
+        self.those_below(at, local, layers, made, looks)?;
+        Ok(())
+    }
+
+    /// Drops a block itself.
+    #[inline(always)]
+    fn block_itself<A: Ledger>(
+        &self,
+        at: &Visit<'_>,
+        local: &mut Local<A>,
+        made: &mut Steps<A>,
+    ) -> Result<(), NoMemory>
+        ensures floats { OnOk result (local.new.floats ≡ local.old.floats) }
+        ensures backgrounds { OnOk result (laid_out local.new.backgrounds ≡ laid_out local.old.backgrounds
+            ▷ back_border_at (W.wants self.now.wanted.now) self.now.number at.now) }
+        ensures line { OnOk result (local.new.line ≡ local.old.line) }
+        ensures contents { OnOk result (laid_out local.new.contents ≡ laid_out local.old.contents
+            ▷ part_at (W.wants self.now.wanted.now) self.now.number at.now parts.Content) }
+        ensures outlines { OnOk result (laid_out local.new.outlines ≡ laid_out local.old.outlines
+            ▷ part_at (W.wants self.now.wanted.now) self.now.number at.now parts.Outline) }
+        ensures made { OnOk result (made.new ≡ made.old + own_cost_at (W.wants self.now.wanted.now) self.now.number at.now) }
+        ensures most { made.new ≤ made.old + own_cost_at (W.wants self.now.wanted.now) self.now.number at.now }
+    {
+        self.back_border(&mut local.backgrounds, at, made)?;
+        self.give_content(&mut local.contents, at, made)?;
+        self.give_outline(&mut local.outlines, at, made)?;
+        Ok(())
+    }
+
+    /// Drops a block, and those below it: its line comes before those of the blocks below it.
+    #[cycle(build)]
+    fn block<A: Ledger>(
+        &self,
+        at: &Visit<'_>,
+        local: &mut Local<A>,
+        layers: &mut Layers<A>,
+        made: &mut Steps<A>,
+        looks: &mut Steps<B>,
+    ) -> Result<(), NoMemory>
+        requires class { styles.class at.now.here.now.style false ≡ classes.Block }
+        requires root { at.now.standing.now.root ≡ false }
+        requires live { IsFirst at.now.first_child (drawn self.now.tree.now) }
+        ensures { GivesBox (W.wants self.now.wanted.now) self.now.number at.now (drawn self.now.tree.now) result
+            (tally local.old layers.old made.old looks.old) (tally local.new layers.new made.new looks.new) }
+    {
+        self.block_itself(at, local, made)?;
+        match at.first_child {
+            Some(_) => {}
             None => return Ok(()),
-        };
-        let here = looked.here();
-        one(
-            alloc,
-            tree,
-            wanted,
-            number,
-            s,
-            &here,
-            looked.blend_below,
-            looked.first_child,
-            local,
-            layers,
-            made,
-            looks,
-        )?;
-        at = looked.next_sibling;
+        }
+        let outer = open_line(self.alloc, local);
+        self.those_below(at, local, layers, made, looks)?;
+        close_line(local, outer)?;
+        Ok(())
+    }
+
+    /// Drops a layer that makes a stacking context.
+    #[cycle(build)]
+    fn real_layer<A: Ledger>(
+        &self,
+        at: &Visit<'_>,
+        local: &mut Local<A>,
+        layers: &mut Layers<A>,
+        made: &mut Steps<A>,
+        looks: &mut Steps<B>,
+    ) -> Result<(), NoMemory>
+        requires class { styles.class at.now.here.now.style false ≡ classes.Layer }
+        requires real { styles.real at.now.here.now.style false ≡ true }
+        requires root { at.now.standing.now.root ≡ false }
+        requires low { at.now.blend_below ≡ blends_from at.now.first_child (drawn self.now.tree.now) }
+        requires live { IsFirst at.now.first_child (drawn self.now.tree.now) }
+        ensures { GivesBox (W.wants self.now.wanted.now) self.now.number at.now (drawn self.now.tree.now) result
+            (tally local.old layers.old made.old looks.old) (tally local.new layers.new made.new looks.new) }
+    {
+        let order = self.context(at, made, looks)?;
+        let order = as_group(self.alloc, false, at.blend_below, at.here, order)?;
+        stack(layers, at.here, order)?;
+        Ok(())
+    }
+
+    /// Drops a layer that makes none: the layers at auto or 0 below it come after it.
+    #[cycle(build)]
+    fn auto_layer<A: Ledger>(
+        &self,
+        at: &Visit<'_>,
+        local: &mut Local<A>,
+        layers: &mut Layers<A>,
+        made: &mut Steps<A>,
+        looks: &mut Steps<B>,
+    ) -> Result<(), NoMemory>
+        requires class { styles.class at.now.here.now.style false ≡ classes.Layer }
+        requires unreal { styles.real at.now.here.now.style false ≡ false }
+        requires root { at.now.standing.now.root ≡ false }
+        requires live { IsFirst at.now.first_child (drawn self.now.tree.now) }
+        ensures { GivesBox (W.wants self.now.wanted.now) self.now.number at.now (drawn self.now.tree.now) result
+            (tally local.old layers.old made.old looks.old) (tally local.new layers.new made.new looks.new) }
+    {
+        let outer = replace(&mut layers.zeros, Pieces::empty(self.alloc));
+        let order = self.aside(at, layers, made, looks)?;
+        let inner = replace(&mut layers.zeros, outer);
+        layers.zeros.join(order)?;
+        layers.zeros.join(inner)?;
+        Ok(())
+    }
+
+    /// Drops a box, and those below it.
+    #[cycle(build)]
+    fn one<A: Ledger>(
+        &self,
+        at: &Visit<'_>,
+        local: &mut Local<A>,
+        layers: &mut Layers<A>,
+        made: &mut Steps<A>,
+        looks: &mut Steps<B>,
+    ) -> Result<(), NoMemory>
+        requires root { at.now.standing.now.root ≡ false }
+        requires low { at.now.blend_below ≡ blends_from at.now.first_child (drawn self.now.tree.now) }
+        requires live { IsFirst at.now.first_child (drawn self.now.tree.now) }
+        ensures { GivesBox (W.wants self.now.wanted.now) self.now.number at.now (drawn self.now.tree.now) result
+            (tally local.old layers.old made.old looks.old) (tally local.new layers.new made.new looks.new) }
+    {
+        match class_of(at.here.style(), false) {
+            Class::Layer => self.layer(at, local, layers, made, looks),
+            Class::Float => self.float(at, local, layers, made, looks),
+            Class::Atom => self.atom(at, local, layers, made, looks),
+            Class::Block => self.block(at, local, layers, made, looks),
+            Class::Inline => self.inline(at, local, layers, made, looks),
+        }
+    }
+
+    /// Drops a layer.
+    #[cycle(build)]
+    #[inline(never)]
+    fn layer<A: Ledger>(
+        &self,
+        at: &Visit<'_>,
+        local: &mut Local<A>,
+        layers: &mut Layers<A>,
+        made: &mut Steps<A>,
+        looks: &mut Steps<B>,
+    ) -> Result<(), NoMemory>
+        requires class { styles.class at.now.here.now.style false ≡ classes.Layer }
+        requires root { at.now.standing.now.root ≡ false }
+        requires low { at.now.blend_below ≡ blends_from at.now.first_child (drawn self.now.tree.now) }
+        requires live { IsFirst at.now.first_child (drawn self.now.tree.now) }
+        ensures { GivesBox (W.wants self.now.wanted.now) self.now.number at.now (drawn self.now.tree.now) result
+            (tally local.old layers.old made.old looks.old) (tally local.new layers.new made.new looks.new) }
+    {
+        if real(at.here.style(), false) {
+            self.real_layer(at, local, layers, made, looks)
+        } else {
+            self.auto_layer(at, local, layers, made, looks)
+        }
+    }
+
+    /// Drops those below a box, where there are any.
+    #[cycle(build)]
+    #[inline(always)]
+    fn those_below<A: Ledger>(
+        &self,
+        at: &Visit<'_>,
+        local: &mut Local<A>,
+        layers: &mut Layers<A>,
+        made: &mut Steps<A>,
+        looks: &mut Steps<B>,
+    ) -> Result<(), NoMemory>
+        requires live { IsFirst at.now.first_child (drawn self.now.tree.now) }
+        ensures list { OnOk result (held local.new layers.new ≡ held local.old layers.old
+            ⊕ passes_below (W.wants self.now.wanted.now) self.now.number at.now (drawn self.now.tree.now)) }
+        ensures made { OnOk result (made.new ≡ made.old + cost_below (W.wants self.now.wanted.now) self.now.number at.now (drawn self.now.tree.now)) }
+        ensures most { made.new ≤ made.old + cost_below (W.wants self.now.wanted.now) self.now.number at.now (drawn self.now.tree.now) }
+        ensures looks { looks.new ≤ looks.old + visits_below (W.wants self.now.wanted.now) at.now (drawn self.now.tree.now) }
+    {
+        match at.first_child {
+            Some(_) => {
+                let inner = at.standing.below(at.here);
+                let below = Siblings {
+                    standing: &inner,
+                    first: at.first_child,
+                };
+                self.children(&below, local, layers, made, looks)
+            }
+            None => Ok(()),
+        }
+    }
+
+    /// Drops some siblings and those below them; those of which nothing is wanted are looked at, and no box below them is.
+    #[cycle(build)]
+    fn children<A: Ledger>(
+        &self,
+        of: &Siblings<'_>,
+        local: &mut Local<A>,
+        layers: &mut Layers<A>,
+        made: &mut Steps<A>,
+        looks: &mut Steps<B>,
+    ) -> Result<(), NoMemory>
+        requires root { of.now.standing.now.root ≡ false }
+        requires live { IsFirst of.now.first (drawn self.now.tree.now) }
+        ensures list { OnOk result (held local.new layers.new ≡ held local.old layers.old
+            ⊕ passes_from (W.wants self.now.wanted.now) self.now.number of.now.standing.now of.now.first (drawn self.now.tree.now)) }
+        ensures made { OnOk result (made.new ≡ made.old + siblings_cost (W.wants self.now.wanted.now) self.now.number of.now.standing.now of.now.first (drawn self.now.tree.now)) }
+        ensures most { made.new ≤ made.old + siblings_cost (W.wants self.now.wanted.now) self.now.number of.now.standing.now of.now.first (drawn self.now.tree.now) }
+        ensures looks { looks.new ≤ looks.old + visits_from (W.wants self.now.wanted.now) of.now.first (drawn self.now.tree.now) }
+    {
+        let frame = self.wanted.frame();
+        let mut next = of.first;
+        loop {
+            let looked = match next_wanted(self.tree, self.wanted, &frame, next, looks) {
+                Some(looked) => looked,
+                None => return Ok(()),
+            };
+            let here = looked.here();
+            let child = Visit {
+                standing: of.standing,
+                here: &here,
+                first_child: looked.first_child,
+                blend_below: looked.blend_below,
+            };
+            self.one(&child, local, layers, made, looks)?;
+            next = looked.next_sibling;
+        }
     }
 }
 
@@ -685,17 +497,19 @@ pub(crate) fn build_wanted<A: Ledger, B: Ledger, W: Wanted>(
         None => return Ok(NewList::empty(alloc)),
     };
     let here = looked.here();
-    let order = context(
+    let pass = Pass {
         alloc,
         tree,
         wanted,
         number,
-        &s,
-        &here,
-        looked.first_child,
-        made,
-        looks,
-    )?;
+    };
+    let root = Visit {
+        standing: &s,
+        here: &here,
+        first_child: looked.first_child,
+        blend_below: looked.blend_below,
+    };
+    let order = pass.context(&root, made, looks)?;
     let order = as_group(alloc, true, looked.blend_below, &here, order)?;
     let mut list = NewList::empty(alloc);
     order.lay_out(&mut list)?;

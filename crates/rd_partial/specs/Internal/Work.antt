@@ -75,25 +75,9 @@ module _ (wants : Rectangle → Bool) (n : ℕ) where
   abbrev pub passes_from : Standing → Option BoxKey → Document → Bands Made
   passes_from s first t = passes s (from_some same_key first t.boxes)
 
-  -- what the boxes below b give, from the first child on
-  abbrev pub passes_below : Standing → BoxData → Option BoxKey → Document → Bands Made
-  passes_below s b first t = passes_from (below s b) first t
-
-  -- all that b paints
-  abbrev pub paints_from : Standing → BoxData → Option BoxKey → Document → Entries Wrapper Made
-  paints_from s b first t = paints s b (passes_below s b first t)
-
-  -- what b gives with those below it
-  abbrev pub boxed_from : Standing → BoxData → Option BoxKey → Document → Bands Made
-  boxed_from s b first t = boxed s b (by_pass.is_one false (blends_from first t) b) (passes_below s b first t)
-
   -- how many items some siblings give, from one on
   abbrev pub siblings_cost : Standing → Option BoxKey → Document → ℕ
   siblings_cost s first t = cost s (from_some same_key first t.boxes)
-
-  -- how many items b gives with those below it
-  abbrev pub cost_from : Standing → BoxData → Option BoxKey → Document → ℕ
-  cost_from s b first t = own_cost s b + siblings_cost (below s b) first t
 
 -- the looks at some siblings, from one on
 abbrev pub visits_from : (Rectangle → Bool) → Option BoxKey → Document → ℕ

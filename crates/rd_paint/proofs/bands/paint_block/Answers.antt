@@ -11,8 +11,8 @@ use Rattle.rd_paint.proofs.Changing.{Change, block_hidden, block_then, laid_as}
 use Rattle.rd_paint.proofs.Strips.{block_still}
 use Rattle.rd_paint.proofs.bands.paint_block.Goals as goal
 
-pub lay_picks_in-requires-2-clause-on : goal.lay_picks_in-requires-2-clause-on
-lay_picks_in-requires-2-clause-on g c = block_still c.args.canvas.now c.whiten.new.canvas c.args.block c.whiten.ensures.width c.whiten.ensures.height c.requires.on
+pub lay_picks_in-requires-in-None-clause-on : goal.lay_picks_in-requires-in-None-clause-on
+lay_picks_in-requires-in-None-clause-on g c = block_still c.args.canvas.now c.whiten.new.canvas c.args.block c.whiten.ensures.width c.whiten.ensures.height c.requires.on
 
 abbrev made : Change
 made x y p = white

@@ -1,5 +1,5 @@
 use Rattle.std.proofs.Common.{refl}
-use Rattle.rd_partial.proofs.order.begin.Goals as goal
+use Rattle.rd_partial.proofs.visit.Pass.begin.Goals as goal
 
 pub same-own : goal.same-own
 same-own g c = refl
