@@ -1,7 +1,7 @@
 -- What reaches what in a graph after the plain calls: a chain, nodes that are dropped, a chain that is added.
 pub mod Chains
 pub mod Calls
-pub mod Checked
+pub mod Forward
 pub mod Lines
 pub mod OnePass
 pub mod Stitches

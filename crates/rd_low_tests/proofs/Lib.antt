@@ -1,2 +1,3 @@
 pub mod DrawnLevels
+pub mod Graphs
 pub mod SampleLists

@@ -7,7 +7,11 @@ mod area;
 #[cfg(test)]
 mod clip;
 #[cfg(test)]
+mod drawing;
+#[cfg(test)]
 mod geom;
+#[cfg(test)]
+mod graph;
 #[cfg(test)]
 mod hit;
 #[cfg(test)]
@@ -16,6 +20,8 @@ mod item;
 mod keys;
 #[cfg(test)]
 mod list;
+#[cfg(test)]
+mod matrix;
 #[cfg(test)]
 mod merge;
 #[cfg(test)]

@@ -7,9 +7,7 @@ ghost use Rattle.rd_list.specs.NewView.{new_entries};
 ghost use Rattle.rd_low_tests.specs.SampleLists.{IsFirst, late_list, one_item, part_list, whole_list};
 
 mod checked;
-mod drawing;
 mod drawn;
-mod matrix;
 
 use super::list::in_two;
 use super::rects::rect_of;

@@ -9,8 +9,8 @@ ghost use Rattle.rd_list.specs.EntryNames.{new_leaves};
 ghost use Rattle.rd_list.specs.NewView.{new_entries};
 ghost use Rattle.rd_low_tests.specs.DrawnLevels.{AreApart, IsCovering, IsHeld, IsSpotCovered, Spot, is_not_of, is_of, line};
 
-use super::drawing::Draws;
 use super::{INK, leaf};
+use crate::drawing::Draws;
 use rd_geom::{Rect, Steps, meets};
 use rd_keys::{BoxKey, KeyRange, Part};
 use rd_list::{Kept, NewEntry, NewList};

@@ -4,8 +4,8 @@ ghost use Rattle.rd_low_tests.specs.DrawnLevels.{IsHeld};
 
 use super::INK;
 use super::checked::{TouchedBoxes, edited, is_among, tested};
-use super::drawing::Draws;
-use super::matrix::{BOXES, Matrix};
+use crate::drawing::Draws;
+use crate::matrix::{COUNT, Matrix};
 use rd_geom::{Rect, Steps, meets};
 use rd_item::Item;
 use rd_keys::{BoxKey, Part};
@@ -26,14 +26,14 @@ struct Model {
 
 /// The number of a box.
 fn number_of(every: &[(BoxKey, Rect)], owner: BoxKey) -> u8 {
-    for number in 0..BOXES {
+    for number in 0..COUNT {
         if let Some(spot) = every.get(usize::from(number)) {
             if spot.0.is(owner) {
                 return number;
             }
         }
     }
-    BOXES
+    COUNT
 }
 
 /// The number comes last.
@@ -120,7 +120,7 @@ fn leaf_number<A: Ledger>(every: &[(BoxKey, Rect)], item: &Item<A>, made: &[u64]
     if item.part() == Part::Back && is_made(item.made_at(), made, number) {
         number
     } else {
-        BOXES
+        COUNT
     }
 }
 
@@ -136,7 +136,7 @@ fn numbers<A: Ledger>(
     for entry in entries {
         let number = match entry {
             Entry::Leaf(item) => leaf_number(every, item, made),
-            Entry::Group(_) => BOXES,
+            Entry::Group(_) => COUNT,
         };
         push_number(rt, &mut all, number);
     }
@@ -156,12 +156,12 @@ fn times(list: &[u8], number: u8) -> usize {
 
 /// Has the list the boxes of a matrix, each once?
 fn has_all(list: &[u8], matrix: &Matrix) -> bool {
-    for number in 0..BOXES {
+    for number in 0..COUNT {
         if times(list, number) != usize::from(matrix.has(number)) {
             return false;
         }
     }
-    times(list, BOXES) == 0
+    times(list, COUNT) == 0
 }
 
 /// Does something come before a place in the list, though what stands there reaches it?
@@ -186,8 +186,8 @@ fn is_forward(list: &[u8], matrix: &Matrix) -> bool {
 
 /// Are there two of which neither reaches the other?
 fn is_free(matrix: &Matrix) -> bool {
-    for a in 0..BOXES {
-        for b in 0..BOXES {
+    for a in 0..COUNT {
+        for b in 0..COUNT {
             let are_there = a != b && matrix.has(a) && matrix.has(b);
             if are_there && !matrix.reaches(a, b) && !matrix.reaches(b, a) {
                 return true;

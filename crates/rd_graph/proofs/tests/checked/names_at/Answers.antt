@@ -1,8 +1,0 @@
-use Rattle.rd_graph.proofs.Reaching.Checked.{gathered_push}
-use Rattle.rd_graph.proofs.tests.checked.names_at.Goals as goal
-
-pub loop-place-preserved : goal.loop-place-preserved
-loop-place-preserved c = record {
-  names = gathered_push c.args.places.now c.args.order.now _ _ c.loop-place.place-index _ c.loop-place-test.true (c.requires c.loop-place.place-index c.loop-place-test.true) c.loop-place.invariant.names
-      c.in_ok-push.ensures.items;
-}

@@ -1,9 +1,0 @@
-use Rattle.std.proofs.Common.{ℕ, ◌<◌, length, get_or}
-use Rattle.rd_graph.specs.Patches.{AreRising}
-use Rattle.rd_graph.proofs.tests.checked.places_of.Given as goal
-
-abbrev pub invariant-loop-place : goal.invariant-loop-place
-invariant-loop-place l = record {
-  rising : AreRising l.places.items;
-  below : (k : ℕ) → k < length l.places.items → get_or l.places.items k 0 < l.place;
-}

@@ -1,6 +1,0 @@
-use Rattle.std.proofs.Common.{◌≡◌, take}
-use Rattle.rd_graph.proofs.Reaching.Checked.{sought}
-use Rattle.rd_graph.proofs.tests.checked.sought.Given as goal
-
-abbrev pub invariant-loop-key : goal.invariant-loop-key
-invariant-loop-key l = record { found : l.found.items ≡ sought l.order l.chain (take l.key-index l.chain) }
