@@ -74,26 +74,26 @@ hull_on a b size c o p =
     ]
 
 -- the rows and columns of a rectangle on the canvas
-pub record IsBlock (s : Rectangle) (from to : ℕ) (span : Span) : Type 0 where
+pub record IsBand (s : Rectangle) (from to : ℕ) (span : Span) : Type 0 where
   pub first : pos from ≡ s.y
   pub last : pos to ≡ bottom s
   pub columns : span ≡ record { x0 = s.x; x1 = right s }
 
-in_block : (s : Rectangle) (from to : ℕ) (span : Span) (x : ℤ) (n : ℕ) → IsBlock s from to span → from ≤ n → n < to → holds_pixel s x (pos n) ≡ in_span span x
-in_block s from to span x n k f t =
+in_band : (s : Rectangle) (from to : ℕ) (span : Span) (x : ℤ) (n : ℕ) → IsBand s from to span → from ≤ n → n < to → holds_pixel s x (pos n) ≡ in_span span x
+in_band s from to span x n k f t =
     let row : is_among s.y s.h (pos n) ≡ true = grind (arith, ints, k.first, k.last) in
     rw (k.columns, row) (and_true (is_among s.x s.w x))
 
-outside_block : (s : Rectangle) (from to : ℕ) (span : Span) (x : ℤ) (n : ℕ) → IsBlock s from to span → (n < from) ⊎ (to ≤ n) → holds_pixel s x (pos n) ≡ false
-outside_block s from to span x n k (inl a) =
+outside_band : (s : Rectangle) (from to : ℕ) (span : Span) (x : ℤ) (n : ℕ) → IsBand s from to span → (n < from) ⊎ (to ≤ n) → holds_pixel s x (pos n) ≡ false
+outside_band s from to span x n k (inl a) =
     let row : is_among s.y s.h (pos n) ≡ false = grind (arith, ints, k.first, k.last) in
     rw row (and_false (is_among s.x s.w x))
-outside_block s from to span x n k (inr a) =
+outside_band s from to span x n k (inr a) =
     let row : is_among s.y s.h (pos n) ≡ false = grind (arith, ints, k.first, k.last) in
     rw row (and_false (is_among s.x s.w x))
 
-above_block : (s : Rectangle) (from to : ℕ) (span : Span) (x : ℤ) (n : ℕ) → IsBlock s from to span → holds_pixel s x (negsuc n) ≡ false
-above_block s from to span x n k =
+above_band : (s : Rectangle) (from to : ℕ) (span : Span) (x : ℤ) (n : ℕ) → IsBand s from to span → holds_pixel s x (negsuc n) ≡ false
+above_band s from to span x n k =
     let row : is_among s.y s.h (negsuc n) ≡ false = grind (arith, ints, k.first, k.last) in
     rw row (and_false (is_among s.x s.w x))
 
@@ -102,7 +102,7 @@ split from to n = ⊎_elim (λ a. inr (inl a)) (λ b. ⊎_elim (λ c. inl (b, c)
 
 -- the rows of an area after the columns of a rectangle on its canvas joined each of its rows
 pub record IsGrown (s : Rectangle) (from to : ℕ) (span : Span) (old new : List (List Span)) : Type 0 where
-  pub block : IsBlock s from to span
+  pub band : IsBand s from to span
   pub count : length new ≡ length old
   pub joined : (y : ℕ) → from ≤ y → y < to → Joins (get_or old y []) (get_or new y []) span
   pub others : (y : ℕ) → (y < from) ⊎ (to ≤ y) → get_or new y [] ≡ get_or old y []
@@ -111,20 +111,20 @@ row_grown : (s : Rectangle) (from to : ℕ) (span : Span) (old new : List (List 
     → IsRising (pos 0) w (get_or old n []) → in_spans (get_or new n []) x ≡ (holds_pixel s x (pos n) || in_spans (get_or old n []) x)
 row_grown s from to span old new w n x g r =
     ⊎_elim
-    (λ i. (g.joined n i.0 i.1).pixels (pos 0) w r x ∙ ap (λ b. b || in_spans (get_or old n []) x) (sym (in_block s from to span x n g.block i.0 i.1)))
-    (λ o. rw (outside_block s from to span x n g.block o) (ap (λ ss. in_spans ss x) (g.others n o)))
+    (λ i. (g.joined n i.0 i.1).pixels (pos 0) w r x ∙ ap (λ b. b || in_spans (get_or old n []) x) (sym (in_band s from to span x n g.band i.0 i.1)))
+    (λ o. rw (outside_band s from to span x n g.band o) (ap (λ ss. in_spans ss x) (g.others n o)))
     (split from to n)
 
 pub grown_pixels : (s : Rectangle) (from to : ℕ) (span : Span) (old new : List (List Span)) (w : ℤ) → IsGrown s from to span old new
     → ((y : ℕ) → IsRising (pos 0) w (get_or old y [])) → (x y : ℤ) → in_spans (spans_at new y) x ≡ (holds_pixel s x y || in_spans (spans_at old y) x)
 grown_pixels s from to span old new w g r x (pos n) = row_grown s from to span old new w n x g (r n)
-grown_pixels s from to span old new w g r x (negsuc n) = rw (above_block s from to span x n g.block) refl
+grown_pixels s from to span old new w g r x (negsuc n) = rw (above_band s from to span x n g.band) refl
 
 row_rising : (s : Rectangle) (from to : ℕ) (span : Span) (old new : List (List Span)) (size : Size) (n : ℕ) → IsGrown s from to span old new → IsOn s size
     → IsRising (pos 0) size.w (get_or old n []) → IsRising (pos 0) size.w (get_or new n [])
 row_rising s from to span old new size n g o r =
-    let left : pos 0 ≤ℤ span.x0 = rw g.block.columns o.left in
-    let right : span.x1 ≤ℤ size.w = rw g.block.columns o.right in
+    let left : pos 0 ≤ℤ span.x0 = rw g.band.columns o.left in
+    let right : span.x1 ≤ℤ size.w = rw g.band.columns o.right in
     ⊎_elim
     (λ i. (g.joined n i.0 i.1).rising (pos 0) size.w left right r)
     (λ out. rw (g.others n out) r)
@@ -150,11 +150,11 @@ grown_sound s used used' from to span old new size g o i e first second = record
 
 -- a row that has a column of the span has a pixel of the area in the rectangle
 pub found_shares : (size : Size) (used r : Rectangle) (rows : List (List Span)) (from to : ℕ) (span : Span) (n : ℕ)
-    → IsBlock (meet used r) from to span → from ≤ n → n < to → IsTrue (row_meets (get_or rows n []) span)
+    → IsBand (meet used r) from to span → from ≤ n → n < to → IsTrue (row_meets (get_or rows n []) span)
     → AreaShares (record { size = size; rows = rows }) r
 found_shares size used r rows from to span n k f t h =
     let m : SharesColumn (get_or rows n []) span = meets_shares (get_or rows n []) span h in
-    let c : IsTrue (holds_pixel (meet used r) m.x (pos n)) = subst (λ b. IsTrue b) (sym (in_block (meet used r) from to span m.x n k f t)) m.second in
+    let c : IsTrue (holds_pixel (meet used r) m.x (pos n)) = subst (λ b. IsTrue b) (sym (in_band (meet used r) from to span m.x n k f t)) m.second in
     let both : IsTrue (holds_pixel used m.x (pos n) && holds_pixel r m.x (pos n)) = subst (λ b. IsTrue b) (common_pixels used r m.x (pos n)) c in
     record { x = m.x; y = pos n; first = m.first; second = right_of (holds_pixel used m.x (pos n)) (holds_pixel r m.x (pos n)) both }
 
@@ -165,23 +165,23 @@ shares_in size used r rows i x (pos n) h k =
     subst (λ b. IsTrue b) (sym (common_pixels used r x (pos n))) (both_true (holds_pixel used x (pos n)) (holds_pixel r x (pos n)) (i.within x n h) k)
 shares_in size used r rows i x (negsuc n) h k = absurd (grind arith)
 
--- and where no row of the block has one, the area has no pixel in the rectangle
+-- and where no row of the band has one, the area has no pixel in the rectangle
 not_shared : (size : Size) (used r : Rectangle) (rows : List (List Span)) (from to : ℕ) (span : Span) → IsNormalized size used rows
-    → IsBlock (meet used r) from to span
+    → IsBand (meet used r) from to span
     → ((n : ℕ) → from ≤ n → n < to → IsFalse (row_meets (get_or rows n []) span)) → (x y : ℤ) → IsTrue (in_spans (spans_at rows y) x)
     → IsTrue (holds_pixel r x y) → ⊥
 not_shared size used r rows from to span i k none x (negsuc n) h p = absurd (grind arith)
 not_shared size used r rows from to span i k none x (pos n) h p =
     let c : IsTrue (holds_pixel (meet used r) x (pos n)) = shares_in size used r rows i x (pos n) h p in
     ⊎_elim
-    (λ w. let s : IsTrue (in_span span x) = subst (λ b. IsTrue b) (in_block (meet used r) from to span x n k w.0 w.1) c in
+    (λ w. let s : IsTrue (in_span span x) = subst (λ b. IsTrue b) (in_band (meet used r) from to span x n k w.0 w.1) c in
     let m : row_meets (get_or rows n []) span ≡ true = shares_meets (get_or rows n []) span x h s in
     clash (row_meets (get_or rows n []) span) m (none n w.0 w.1))
-    (λ o. clash (holds_pixel (meet used r) x (pos n)) c (outside_block (meet used r) from to span x n k o))
+    (λ o. clash (holds_pixel (meet used r) x (pos n)) c (outside_band (meet used r) from to span x n k o))
     (split from to n)
 
 pub none_shares : (size : Size) (used r : Rectangle) (rows : List (List Span)) (from to : ℕ) (span : Span) → IsNormalized size used rows
-    → IsBlock (meet used r) from to span
+    → IsBand (meet used r) from to span
     → ((n : ℕ) → from ≤ n → n < to → IsFalse (row_meets (get_or rows n []) span)) → AreaShares (record { size = size; rows = rows }) r → ⊥
 none_shares size used r rows from to span i k none s = not_shared size used r rows from to span i k none s.x s.y s.first s.second
 
@@ -269,12 +269,12 @@ true_unless false f = absurd (f (grind arith))
 
 -- the rows of bands before and after a span joined those between two rows
 pub grown_rows : (s : Rectangle) (height from to first last : ℕ) (span : Span) (old new : List ℕ) (before parted after : List (List Span))
-    → IsBlock s from to span → to ≤ height → ((z : ℕ) → row_at new parted z ≡ row_at old before z) → AreBetween new from to first last
+    → IsBand s from to span → to ≤ height → ((z : ℕ) → row_at new parted z ≡ row_at old before z) → AreBetween new from to first last
     → ((k : ℕ) → first ≤ k → k < last → Joins (get_or parted k []) (get_or after k []) span)
     → ((k : ℕ) → (k < first) ⊎ (last ≤ k) → get_or after k [] ≡ get_or parted k [])
     → IsGrown s from to span (rows_of height old before) (rows_of height new after)
-grown_rows s height from to first last span old new before parted after block top same between joined others = record {
-  block = block;
+grown_rows s height from to first last span old new before parted after band top same between joined others = record {
+  band = band;
   count = table_length height (row_at new after) ∙ sym (table_length height (row_at old before));
   joined = λ y f l.
       let i = between.inside y f l in
@@ -290,12 +290,12 @@ grown_rows s height from to first last span old new before parted after block to
       (order y height);
 }
 
--- a block has a row, and none of them below the canvas
-pub block_order : (s : Rectangle) (from to : ℕ) (span : Span) → IsBlock s from to span → has_none s ≡ false → from < to
-block_order s from to span k e = grind (arith, ints, k.first, k.last)
+-- a band has a row, and none of them below the canvas
+pub band_order : (s : Rectangle) (from to : ℕ) (span : Span) → IsBand s from to span → has_none s ≡ false → from < to
+band_order s from to span k e = grind (arith, ints, k.first, k.last)
 
-pub block_top : (s : Rectangle) (from to : ℕ) (span : Span) (size : Size) → IsBlock s from to span → IsCanvas size → IsOn s size → to ≤ unsigned_abs size.h
-block_top s from to span size k c o = omega (arith, ints, k.last, o.bottom, c.some_high)
+pub band_top : (s : Rectangle) (from to : ℕ) (span : Span) (size : Size) → IsBand s from to span → IsCanvas size → IsOn s size → to ≤ unsigned_abs size.h
+band_top s from to span size k c o = omega (arith, ints, k.last, o.bottom, c.some_high)
 
 -- a span of a row that has it is in the row
 has_columns : (ss : List Span) (t : Span) (x : ℤ) → row_has ss t ≡ true → in_span t x ≡ true → in_spans ss x ≡ true
@@ -324,19 +324,19 @@ held_pixels size s full rows o f w x y =
     (λ h. let a : At full x y = holds_at full x y (w x y h) in filled_at full rows x y f (omega (arith, ints, a.top, o.top)) (w x y h))
 
 -- nothing joins where each band has the span
-pub had_pixels : (s : Rectangle) (height from to first last : ℕ) (span : Span) (ends : List ℕ) (bands : List (List Span)) → IsBlock s from to span → to ≤ height
+pub had_pixels : (s : Rectangle) (height from to first last : ℕ) (span : Span) (ends : List ℕ) (bands : List (List Span)) → IsBand s from to span → to ≤ height
     → ((y : ℕ) → from ≤ y → y < to → (first ≤ band_of ends y) × (band_of ends y < last))
     → ((k : ℕ) → first ≤ k → k < last → IsTrue (row_has (get_or bands k []) span)) → (x y : ℤ)
     → in_spans (spans_at (rows_of height ends bands) y) x ≡ (holds_pixel s x y || in_spans (spans_at (rows_of height ends bands) y) x)
-had_pixels s height from to first last span ends bands k top between has x (negsuc n) = rw (above_block s from to span x n k) refl
+had_pixels s height from to first last span ends bands k top between has x (negsuc n) = rw (above_band s from to span x n k) refl
 had_pixels s height from to first last span ends bands k top between has x (pos n) =
     ⊎_elim
     (λ i.
     let b = between n i.0 i.1 in
     let r : get_or (rows_of height ends bands) n [] ≡ get_or bands (band_of ends n) [] = table_at height (row_at ends bands) n (omega (arith, i.1, top)) in
     let h : row_has (get_or (rows_of height ends bands) n []) span ≡ true = rw r (has (band_of ends n) b.0 b.1) in
-    rw (in_block s from to span x n k i.0 i.1) (absorbs (in_span span x) (in_spans (get_or (rows_of height ends bands) n []) x) (has_columns _ span x h)))
-    (λ o. rw (outside_block s from to span x n k o) refl)
+    rw (in_band s from to span x n k i.0 i.1) (absorbs (in_span span x) (in_spans (get_or (rows_of height ends bands) n []) x) (has_columns _ span x h)))
+    (λ o. rw (outside_band s from to span x n k o) refl)
     (split from to n)
 
 -- an area without a pixel

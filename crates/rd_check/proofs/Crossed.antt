@@ -4,7 +4,7 @@ use Rattle.std.specs.Prelude.{slice_get}
 use Rattle.std.proofs.lemmas.List.{length-map}
 use Rattle.std.proofs.lemmas.Option.{slice_get_read, same_Some}
 use Rattle.rd_check.specs.declared.seen.Seen.{Seen}
-use Rattle.rd_check.specs.declared.near.Block.{Block}
+use Rattle.rd_check.specs.declared.near.Cluster.{Cluster}
 use Rattle.rd_check.specs.Verdicts.{IsFirst, Never}
 use Rattle.rd_check.specs.Internal.Finding.{Sight, is_crossed, IsCrossedIn}
 use Rattle.rd_check.specs.Internal.Sights.{sight_of, sights_of}
@@ -44,8 +44,8 @@ crossed_not seen i j x y n below within xi yi f = none_more (λ i. IsCrossedIn (
 pub crossed_never : (seen : List Seen) (i j : ℕ) → NoneBelow (λ i. IsCrossedIn (sights_of seen) i j) i → j ≤ i → Never (λ i. IsCrossedIn (sights_of seen) i j)
 crossed_never seen i j n past = none_all (λ i. IsCrossedIn (sights_of seen) i j) i j n past (λ k c. c.below)
 
--- none is crossed where the blocks have none that is
-pub never_near : (bs : List Block) (seen : List Seen) (j : ℕ) (y : Seen) → AreEntered bs (sights_of seen) j → j < length seen → y ≡ get_or seen j y
+-- none is crossed where the clusters have none that is
+pub never_near : (bs : List Cluster) (seen : List Seen) (j : ℕ) (y : Seen) → AreEntered bs (sights_of seen) j → j < length seen → y ≡ get_or seen j y
     → ((t : Sight) → IsEntered bs t → is_crossed t (sight_of y) ≡ false) → Never (λ i. IsCrossedIn (sights_of seen) i j)
 never_near bs seen j y a h e none = none_crossed bs (sights_of seen) j (sight_of y) a (sight_here seen j y h e) none
 

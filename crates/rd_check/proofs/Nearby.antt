@@ -1,4 +1,4 @@
--- Leaves in blocks.
+-- Leaves in clusters.
 use Rattle.std.proofs.Common.{◌≡◌, ℕ, zero, suc, ◌+◌, ◌<◌, ◌≤◌, Bool, true, false, List, [], ◌∷◌, ◌++◌, length, take, get_or, set, Option, Some, None, refl, sym, ap, subst, ◌∙◌, arith, ◌⊎◌, inl, inr, Contains}
 use Rattle.std.specs.Prelude.{not, ◌&&◌, ◌||◌, nat_le, nat_lt, slice_get}
 use Rattle.std.specs.List.{AllByRecursion, list_any}
@@ -10,9 +10,9 @@ use Rattle.rd_geom.proofs.Pixels.{meets_shares, shares_meets}
 use Rattle.rd_graph.proofs.Lists.Listing.{Has, cases, has_from, contains_from, has_left, has_right}
 use Rattle.rd_item.specs.declared.leaf.Leaf.{Leaf}
 use Rattle.rd_check.specs.declared.near.Spot.{Spot}
-use Rattle.rd_check.specs.declared.near.Block.{Block}
+use Rattle.rd_check.specs.declared.near.Cluster.{Cluster}
 use Rattle.rd_check.specs.Internal.Finding.{Sight, row_leaf, is_later, do_meet, is_crossed, IsCrossedIn, IsFirstPair}
-use Rattle.rd_check.specs.Internal.Near.{IsIn, IsBlock, IsNoted, crosses, is_far}
+use Rattle.rd_check.specs.Internal.Near.{IsIn, IsCluster, IsNoted, crosses, is_far}
 use Rattle.rd_check.specs.Internal.Crossing.{spot_by, spot_in, IsEntered, AreEntered}
 use Rattle.rd_check.specs.Verdicts.{IsFirst, Never}
 use Rattle.rd_check.proofs.Searching.{front_more}
@@ -80,7 +80,7 @@ module _ {A : Type 0} where
         by_test false e (inl k) n = ap f (sym k) ∙ e
         by_test false e (inr k) n = n (ap (λ (b : Bool). b || list_any f ys) (sym e) ∙ h) k
 
--- ---- blocks
+-- ---- clusters
 
 in_wider : (h k : Rectangle) (n m : ℕ) (ss : List Spot) → IsWithin h k → n ≤ m → AllByRecursion (IsIn h n) ss → AllByRecursion (IsIn k m) ss
 in_wider h k n m [] w l a = tt
@@ -88,22 +88,22 @@ in_wider h k n m (s ∷ ss) w l a =
     let most = a.0.most in
     (record { within = λ x y p. w x y (a.0.within x y p); most = omega (arith, most, l) }, in_wider h k n m ss w l a.1)
 
--- a block with one leaf more
-pub block_more : (b c : Block) (s : Spot) → IsBlock b → IsWithin b.hull c.hull → IsWithin s.seen c.hull → b.greatest ≤ c.greatest → s.place ≤ c.greatest
-    → c.spots.items ≡ b.spots.items ++ s ∷ [] → IsBlock c
-block_more b c s a w v l m e =
+-- a cluster with one leaf more
+pub cluster_more : (b c : Cluster) (s : Spot) → IsCluster b → IsWithin b.hull c.hull → IsWithin s.seen c.hull → b.greatest ≤ c.greatest → s.place ≤ c.greatest
+    → c.spots.items ≡ b.spots.items ++ s ∷ [] → IsCluster c
+cluster_more b c s a w v l m e =
     subst (λ (z : List Spot). AllByRecursion (IsIn c.hull c.greatest) z) (sym e)
     (all_put (IsIn c.hull c.greatest) b.spots.items s (in_wider b.hull c.hull b.greatest c.greatest b.spots.items w l a) (record { within = v; most = m }))
 
-pub block_none : (b : Block) → b.spots.items ≡ [] → IsBlock b
-block_none b e = subst (λ (z : List Spot). AllByRecursion (IsIn b.hull b.greatest) z) (sym e) tt
+pub cluster_none : (b : Cluster) → b.spots.items ≡ [] → IsCluster b
+cluster_none b e = subst (λ (z : List Spot). AllByRecursion (IsIn b.hull b.greatest) z) (sym e) tt
 
--- the block of one leaf
-pub block_one : (e b : Block) (s : Spot) → e.spots.items ≡ [] → b.spots.items ≡ e.spots.items ++ s ∷ [] → b.spots.items ≡ s ∷ []
-block_one e b s n p = p ∙ ap (λ (z : List Spot). z ++ s ∷ []) n
+-- the cluster of one leaf
+pub cluster_one : (e b : Cluster) (s : Spot) → e.spots.items ≡ [] → b.spots.items ≡ e.spots.items ++ s ∷ [] → b.spots.items ≡ s ∷ []
+cluster_one e b s n p = p ∙ ap (λ (z : List Spot). z ++ s ∷ []) n
 
-pub blocks_put : (bs next : List Block) (b : Block) → AllByRecursion IsBlock bs → IsBlock b → next ≡ bs ++ b ∷ [] → AllByRecursion IsBlock next
-blocks_put bs next b a s e = subst (λ (z : List Block). AllByRecursion IsBlock z) (sym e) (all_put IsBlock bs b a s)
+pub clusters_put : (bs next : List Cluster) (b : Cluster) → AllByRecursion IsCluster bs → IsCluster b → next ≡ bs ++ b ∷ [] → AllByRecursion IsCluster next
+clusters_put bs next b a s e = subst (λ (z : List Cluster). AllByRecursion IsCluster z) (sym e) (all_put IsCluster bs b a s)
 
 module _ (seen : Rectangle) (place : ℕ) where
   lower_all : (h : Rectangle) (n : ℕ) (ss : List Spot) → AllByRecursion (IsIn h n) ss → n ≤ place → AllByRecursion (λ s. crosses seen place s ≡ false) ss
@@ -113,7 +113,7 @@ module _ (seen : Rectangle) (place : ℕ) where
       let f : nat_lt place s.place ≡ false = le-ltb place s.place (omega (arith, most, l)) in
       (ap (λ (b : Bool). b && meets s.seen seen) f, lower_all h n ss a.1 l)
 
-  pub none_greater : (b : Block) → IsBlock b → b.greatest ≤ place → false ≡ list_any (crosses seen place) b.spots.items
+  pub none_greater : (b : Cluster) → IsCluster b → b.greatest ≤ place → false ≡ list_any (crosses seen place) b.spots.items
   none_greater b a l = sym (all_none (crosses seen place) b.spots.items (lower_all b.hull b.greatest b.spots.items a l))
 
   off_one : (h : Rectangle) (s : Spot) → IsWithin s.seen h → meets h seen ≡ false → meets s.seen seen ≡ false
@@ -135,37 +135,37 @@ module _ (seen : Rectangle) (place : ℕ) where
   off_all h n [] a f = tt
   off_all h n (s ∷ ss) a f = (and_false (nat_lt place s.place) (meets s.seen seen) (off_one h s a.0.within f), off_all h n ss a.1 f)
 
-  pub none_near : (b : Block) → IsBlock b → meets b.hull seen ≡ false → false ≡ list_any (crosses seen place) b.spots.items
+  pub none_near : (b : Cluster) → IsCluster b → meets b.hull seen ≡ false → false ≡ list_any (crosses seen place) b.spots.items
   none_near b a f = sym (all_none (crosses seen place) b.spots.items (off_all b.hull b.greatest b.spots.items a f))
 
-  pub far_none : (b : Block) → IsBlock b → is_far seen place b ≡ true → false ≡ list_any (crosses seen place) b.spots.items
+  pub far_none : (b : Cluster) → IsCluster b → is_far seen place b ≡ true → false ≡ list_any (crosses seen place) b.spots.items
   far_none b a t = elim (or_cases (nat_le b.greatest place) (not (meets b.hull seen)) t) [
     | inl l ↦ none_greater b a (leb-true b.greatest place l)
     | inr n ↦ none_near b a (not-true (meets b.hull seen) n)
   ]
 
-  -- none of the leaves in the blocks so far
-  abbrev pub CrossesNone : List Block → Type 0
+  -- none of the leaves in the clusters so far
+  abbrev pub CrossesNone : List Cluster → Type 0
   CrossesNone bs = (s : Spot) → IsNoted s bs → crosses seen place s ≡ false
 
-  noted_either : (bs : List Block) (b : Block) (s : Spot) → IsNoted s (bs ++ b ∷ []) → IsNoted s bs ⊎ Contains b.spots.items s
+  noted_either : (bs : List Cluster) (b : Cluster) (s : Spot) → IsNoted s (bs ++ b ∷ []) → IsNoted s bs ⊎ Contains b.spots.items s
   noted_either [] b s (inl c) = inr c
   noted_either [] b s (inr n) = absurd n
   noted_either (x ∷ bs) b s (inl c) = inl (inl c)
   noted_either (x ∷ bs) b s (inr n) = elim (noted_either bs b s n) [ inl m ↦ inl (inr m) | inr m ↦ inr m ]
 
-  pub crosses_none_on : (bs : List Block) (i : ℕ) (b : Block) → i < length bs → b ≡ get_or bs i b → CrossesNone (take i bs) → list_any (crosses seen place) b.spots.items ≡ false → CrossesNone (take (i + 1) bs)
+  pub crosses_none_on : (bs : List Cluster) (i : ℕ) (b : Cluster) → i < length bs → b ≡ get_or bs i b → CrossesNone (take i bs) → list_any (crosses seen place) b.spots.items ≡ false → CrossesNone (take (i + 1) bs)
   crosses_none_on bs i b h e was f = λ s n.
-      let k : IsNoted s (take i bs ++ b ∷ []) = subst (λ (z : List Block). IsNoted s z) (front_more bs i b h e) n in
+      let k : IsNoted s (take i bs ++ b ∷ []) = subst (λ (z : List Cluster). IsNoted s z) (front_more bs i b h e) n in
       elim (noted_either (take i bs) b s k) [
         | inl m ↦ was s m
         | inr c ↦ none_has (crosses seen place) b.spots.items s f (has_from b.spots.items s c)
       ]
 
-  pub crosses_none_all : (bs : List Block) (i : ℕ) → CrossesNone (take i bs) → length bs ≤ i → CrossesNone bs
-  crosses_none_all bs i was past = λ s n. was s (subst (λ (z : List Block). IsNoted s z) (sym (take_all i bs past)) n)
+  pub crosses_none_all : (bs : List Cluster) (i : ℕ) → CrossesNone (take i bs) → length bs ≤ i → CrossesNone bs
+  crosses_none_all bs i was past = λ s n. was s (subst (λ (z : List Cluster). IsNoted s z) (sym (take_all i bs past)) n)
 
--- ---- a leaf more in the blocks
+-- ---- a leaf more in the clusters
 
 pub spot_kept : (b c : List Spot) (s t : Spot) → c ≡ b ++ s ∷ [] → Contains b t → Contains c t
 spot_kept b c s t e h = subst (λ (z : List Spot). Contains z t) (sym e) (contains_from (b ++ s ∷ []) t (has_left b (s ∷ []) t (has_from b t h)))
@@ -173,13 +173,13 @@ spot_kept b c s t e h = subst (λ (z : List Spot). Contains z t) (sym e) (contai
 pub spot_new : (b c : List Spot) (s : Spot) → c ≡ b ++ s ∷ [] → Contains c s
 spot_new b c s e = subst (λ (z : List Spot). Contains z s) (sym e) (contains_from (b ++ s ∷ []) s (has_right b (s ∷ []) s (inl refl)))
 
-pub noted_set : (bs : List Block) (i : ℕ) (x y : Block) (s : Spot) → i < length bs → x ≡ get_or bs i x → y.spots.items ≡ x.spots.items ++ s ∷ []
+pub noted_set : (bs : List Cluster) (i : ℕ) (x y : Cluster) (s : Spot) → i < length bs → x ≡ get_or bs i x → y.spots.items ≡ x.spots.items ++ s ∷ []
     → IsNoted s (set bs i y) × ((t : Spot) → IsNoted t bs → IsNoted t (set bs i y))
 noted_set [] i x y s h e p = absurd (omega (arith, h))
 noted_set (b ∷ bs) zero x y s h e p = (
   inl (spot_new x.spots.items y.spots.items s p),
   λ t n. elim n [
-    | inl c ↦ inl (spot_kept x.spots.items y.spots.items s t p (subst (λ (z : Block). Contains z.spots.items t) (sym e) c))
+    | inl c ↦ inl (spot_kept x.spots.items y.spots.items s t p (subst (λ (z : Cluster). Contains z.spots.items t) (sym e) c))
     | inr m ↦ inr m
   ],
 )
@@ -187,7 +187,7 @@ noted_set (b ∷ bs) (suc i) x y s h e p =
     let r = noted_set bs i x y s (omega (arith, h)) e p in
     (inr r.0, λ t n. elim n [ inl c ↦ inl c | inr m ↦ inr (r.1 t m) ])
 
-pub noted_put : (bs : List Block) (y : Block) (s : Spot) → Contains y.spots.items s → IsNoted s (bs ++ y ∷ []) × ((t : Spot) → IsNoted t bs → IsNoted t (bs ++ y ∷ []))
+pub noted_put : (bs : List Cluster) (y : Cluster) (s : Spot) → Contains y.spots.items s → IsNoted s (bs ++ y ∷ []) × ((t : Spot) → IsNoted t bs → IsNoted t (bs ++ y ∷ []))
 noted_put [] y s c = (inl c, λ t n. absurd n)
 noted_put (b ∷ bs) y s c =
     let r = noted_put bs y s c in
@@ -218,8 +218,8 @@ upper_none s t e = by_parts (row_leaf t.0) t.1 refl refl e
         ∙ ap (λ (b : Bool). b && do_meet (row_leaf s.0) (row_leaf t.0)) (later_none s.1)
     by_parts (Some l) (Some n) p q f = absurd (none-some _ (sym f))
 
--- one that is no spot in the blocks crosses none
-pub not_crossed : (bs : List Block) (s t : Sight) (spot : Spot) → spot_in t ≡ Some spot → CrossesNone spot.seen spot.place bs → IsEntered bs s → is_crossed s t ≡ false
+-- one that is no spot in the clusters crosses none
+pub not_crossed : (bs : List Cluster) (s t : Sight) (spot : Spot) → spot_in t ≡ Some spot → CrossesNone spot.seen spot.place bs → IsEntered bs s → is_crossed s t ≡ false
 not_crossed bs s t spot e none n = by_parts (row_leaf s.0) s.1 (row_leaf t.0) t.1 refl refl refl refl e
   where
     by_parts : (k : Option Leaf) (m : Option ℕ) (l : Option Leaf) (o : Option ℕ) → row_leaf s.0 ≡ k → s.1 ≡ m → row_leaf t.0 ≡ l → t.1 ≡ o → spot_by l o ≡ Some spot → is_crossed s t ≡ false
@@ -243,14 +243,14 @@ not_crossed bs s t spot e none n = by_parts (row_leaf s.0) s.1 (row_leaf t.0) t.
 
 -- ---- the first two
 
--- what is in the blocks stays there
-pub entered_more : (bs next : List Block) → ((t : Spot) → IsNoted t bs → IsNoted t next) → (s : Sight) → IsEntered bs s → IsEntered next s
+-- what is in the clusters stays there
+pub entered_more : (bs next : List Cluster) → ((t : Spot) → IsNoted t bs → IsNoted t next) → (s : Sight) → IsEntered bs s → IsEntered next s
 entered_more bs next kept s n spot e = kept spot (n spot e)
 
-pub entered_on : (bs next : List Block) (sights : List Sight) (j : ℕ) (s : Sight) → AreEntered bs sights j → slice_get sights j ≡ Some s → AllByRecursion IsBlock next
+pub entered_on : (bs next : List Cluster) (sights : List Sight) (j : ℕ) (s : Sight) → AreEntered bs sights j → slice_get sights j ≡ Some s → AllByRecursion IsCluster next
     → IsEntered next s → ((t : Sight) → IsEntered bs t → IsEntered next t) → AreEntered next sights (j + 1)
 entered_on bs next sights j s a here sound new kept = record {
-  blocks = sound;
+  clusters = sound;
   entered = λ i t below at. by_place i t (cases (nat_lt i j)) below at;
 }
   where
@@ -288,15 +288,15 @@ pair_all sights j n none past size a b c =
     none a b (omega (arith, w, past, size)) c
 
 -- where none of those before is crossed with one
-pub none_crossed : (bs : List Block) (sights : List Sight) (j : ℕ) (s : Sight) → AreEntered bs sights j → slice_get sights j ≡ Some s
+pub none_crossed : (bs : List Cluster) (sights : List Sight) (j : ℕ) (s : Sight) → AreEntered bs sights j → slice_get sights j ≡ Some s
     → ((t : Sight) → IsEntered bs t → is_crossed t s ≡ false) → Never (λ i. IsCrossedIn sights i j)
 none_crossed bs sights j s a at none i c =
     let is : c.upper ≡ s = same_Some c.upper s (sym c.upper_at ∙ at) in
     let no : true ≡ false = sym c.crossed ∙ ap (is_crossed c.lower) is ∙ none c.lower (a.entered i c.lower c.below c.lower_at) in
     absurd cc
 
--- a new block on top of the others
-pub noted_on : (bs next : List Block) (b : Block) (s : Spot) → b.spots.items ≡ s ∷ [] → next ≡ bs ++ b ∷ [] → IsNoted s next × ((t : Spot) → IsNoted t bs → IsNoted t next)
+-- a new cluster on top of the others
+pub noted_on : (bs next : List Cluster) (b : Cluster) (s : Spot) → b.spots.items ≡ s ∷ [] → next ≡ bs ++ b ∷ [] → IsNoted s next × ((t : Spot) → IsNoted t bs → IsNoted t next)
 noted_on bs next b s one e =
     let r = noted_put bs b s (subst (λ (z : List Spot). Contains z s) (sym one) (contains_from (s ∷ []) s (inl refl))) in
-    (subst (λ (z : List Block). IsNoted s z) (sym e) r.0, λ t n. subst (λ (z : List Block). IsNoted t z) (sym e) (r.1 t n))
+    (subst (λ (z : List Cluster). IsNoted s z) (sym e) r.0, λ t n. subst (λ (z : List Cluster). IsNoted t z) (sym e) (r.1 t n))

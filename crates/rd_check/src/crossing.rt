@@ -4,7 +4,7 @@ ghost use Rattle.std.specs.List.{AllByRecursion};
 ghost use Rattle.rd_check.specs.Internal.Finding as finding;
 ghost use Rattle.rd_check.specs.Internal.Finding.{Sight, IsFound, IsFoundPair, IsCrossedIn};
 ghost use Rattle.rd_check.specs.Internal.Sights.{sights_of, sight_of};
-ghost use Rattle.rd_check.specs.Internal.Near.{IsBlock};
+ghost use Rattle.rd_check.specs.Internal.Near.{IsCluster};
 ghost use Rattle.rd_check.specs.Internal.Crossing.{spot_in, AreEntered, IsEntered};
 
 use crate::around::Found;
@@ -29,10 +29,10 @@ fn spot_of(seen: &Seen) -> Option<Spot>
     }
 }
 
-/// Is it crossed with one of those in the blocks?
+/// Is it crossed with one of those in the clusters?
 fn is_crossed_near(near: &Near, seen: &Seen) -> bool
-    requires { AllByRecursion IsBlock near.now.blocks.items }
-    ensures { result ≡ false → (s : Sight) → IsEntered near.now.blocks.items s
+    requires { AllByRecursion IsCluster near.now.clusters.items }
+    ensures { result ≡ false → (s : Sight) → IsEntered near.now.clusters.items s
         → finding.is_crossed s (sight_of seen.now) ≡ false }
 {
     match spot_of(seen) {
@@ -41,12 +41,12 @@ fn is_crossed_near(near: &Near, seen: &Seen) -> bool
     }
 }
 
-/// Puts the leaf of an entry into its block.
+/// Puts the leaf of an entry into its cluster.
 fn enter(alloc: Global, near: &mut Near, seen: &Seen) -> Result<(), NoMemory>
-    requires { AllByRecursion IsBlock near.old.blocks.items }
-    ensures kept { OnOk result (AllByRecursion IsBlock near.new.blocks.items) }
-    ensures entered { OnOk result (IsEntered near.new.blocks.items (sight_of seen.now)) }
-    ensures before { OnOk result ((s : Sight) → IsEntered near.old.blocks.items s → IsEntered near.new.blocks.items s) }
+    requires { AllByRecursion IsCluster near.old.clusters.items }
+    ensures kept { OnOk result (AllByRecursion IsCluster near.new.clusters.items) }
+    ensures entered { OnOk result (IsEntered near.new.clusters.items (sight_of seen.now)) }
+    ensures before { OnOk result ((s : Sight) → IsEntered near.old.clusters.items s → IsEntered near.new.clusters.items s) }
 {
     match spot_of(seen) {
         Some(spot) => near.add(alloc, spot),
@@ -67,10 +67,10 @@ fn first_below(seen: &[Seen], j: usize) -> Option<usize>
     None
 }
 
-/// The same, where those before place `j` are in the blocks: they are gone through only where one of them is crossed.
+/// The same, where those before place `j` are in the clusters: they are gone through only where one of them is crossed.
 fn first_near(near: &Near, seen: &[Seen], j: usize) -> Option<usize>
     requires there { j < length seen.now }
-    requires entered { AreEntered near.now.blocks.items (sights_of seen.now) j }
+    requires entered { AreEntered near.now.clusters.items (sights_of seen.now) j }
     ensures { IsFound (λ i. IsCrossedIn (sights_of seen.now) i j) result }
 {
     if is_crossed_near(near, &seen[j]) {
@@ -81,7 +81,7 @@ fn first_near(near: &Near, seen: &[Seen], j: usize) -> Option<usize>
 }
 
 /// The least second, and with it the least first, of two leaves that meet and stand the other way. `fresh` has the leaves of the
-/// painting order, by which they are put into blocks.
+/// painting order, by which they are put into clusters.
 pub(crate) fn first_crossed(
     alloc: Global,
     seen: &[Seen],

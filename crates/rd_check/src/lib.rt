@@ -1,6 +1,6 @@
 //! Says whether a dump is one of a list that stands for the painting order of a tree, and if not, why not.
 //!
-//! Kept: in the blocks of `near.rt` each leaf lies within the hull of its block, and has no greater place than the block says.
+//! Kept: in the clusters of `near.rt` each leaf lies within the hull of its cluster, and has no greater place than the cluster says.
 //! Breaks: another reading of a line or another verdict breaks `IsChecked`, the clause of `check`.
 #![tactic(auto)]
 

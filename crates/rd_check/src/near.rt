@@ -1,21 +1,21 @@
-//! Leaves in blocks of leaves that lie near each other.
+//! Leaves in clusters of leaves that lie near each other.
 //!
-//! A leaf is put into the block that its place in the painting order has. Whether one of all these leaves meets another and has a
-//! greater place is asked of the blocks: only those whose hull meets it and that have a greater place are gone through. With n leaves
-//! a question goes over n / 256 blocks, and into those that lie round it, so where leaves of a size lie apart, or few pixels have them
+//! A leaf is put into the cluster that its place in the painting order has. Whether one of all these leaves meets another and has a
+//! greater place is asked of the clusters: only those whose hull meets it and that have a greater place are gone through. With n leaves
+//! a question goes over n / 256 clusters, and into those that lie round it, so where leaves of a size lie apart, or few pixels have them
 //! all, all questions together take some n * n / 256 steps. At worst, as where small leaves lie between two halves of large ones that never
-//! meet them, each block is gone into, and it takes n * n / 2 steps.
+//! meet them, each cluster is gone into, and it takes n * n / 2 steps.
 ghost use Rattle.std.specs.Prelude.{◌≡◌, ◌≤◌, ◌++◌, ◌∷◌, [], false, IfOk, OnOk};
 ghost use Rattle.std.specs.List.{AllByRecursion, list_any};
 ghost use Rattle.rd_check.specs.declared.near.Spot.{Spot as NotedSpot};
 ghost use Rattle.rd_check.specs.Internal.Near as near;
-ghost use Rattle.rd_check.specs.Internal.Near.{IsBlock, IsNoted};
+ghost use Rattle.rd_check.specs.Internal.Near.{IsCluster, IsNoted};
 
 use crate::around::Found;
 use rd_geom::{NoMemory, Rect, hull, meets};
 use std::alloc::Global;
 
-/// How many leaves a block has at most.
+/// How many leaves a cluster has at most.
 const BLOCK: usize = 256;
 
 /// Where a leaf may be seen, and its place in the painting order.
@@ -27,7 +27,7 @@ pub(crate) struct Spot {
 
 /// Leaves, the least rectangle with all of them, and their greatest place.
 #[derive(Drop)]
-pub(crate) struct Block {
+pub(crate) struct Cluster {
     hull: Rect,
     greatest: usize,
     spots: Vec<Spot>,
@@ -40,21 +40,21 @@ fn greater(a: usize, b: usize) -> usize
     if a < b { b } else { a }
 }
 
-impl Block {
-    fn empty(alloc: Global) -> Block
+impl Cluster {
+    fn empty(alloc: Global) -> Cluster
         ensures { result.spots.items ≡ [] }
     {
-        Block {
+        Cluster {
             hull: Rect::EMPTY,
             greatest: 0,
             spots: Vec::new(alloc),
         }
     }
 
-    /// Puts a leaf into the block.
+    /// Puts a leaf into the cluster.
     fn add(&mut self, spot: Spot) -> Result<(), NoMemory>
-        requires { IsBlock self.old }
-        ensures kept { OnOk result (IsBlock self.new) }
+        requires { IsCluster self.old }
+        ensures kept { OnOk result (IsCluster self.new) }
         ensures added { OnOk result (self.new.spots.items ≡ self.old.spots.items ++ spot ∷ []) }
     {
         self.hull = hull(self.hull, spot.seen);
@@ -63,17 +63,17 @@ impl Block {
         Ok(())
     }
 
-    /// The block of this leaf alone.
-    fn of(alloc: Global, spot: Spot) -> Result<Block, NoMemory>
-        ensures sound { IfOk result IsBlock }
+    /// The cluster of this leaf alone.
+    fn of(alloc: Global, spot: Spot) -> Result<Cluster, NoMemory>
+        ensures sound { IfOk result IsCluster }
         ensures one { IfOk result (λ b. b.spots.items ≡ spot ∷ []) }
     {
-        let mut block = Block::empty(alloc);
-        block.add(spot)?;
-        Ok(block)
+        let mut cluster = Cluster::empty(alloc);
+        cluster.add(spot)?;
+        Ok(cluster)
     }
 
-    /// Lies the block away from what may be seen here, or has it no greater place than this?
+    /// Lies the cluster away from what may be seen here, or has it no greater place than this?
     fn is_far(&self, seen: Rect, place: usize) -> bool
         ensures { result ≡ near.is_far seen place self.now }
     {
@@ -82,7 +82,7 @@ impl Block {
 
     /// Has it a leaf that meets one that may be seen here, and has a greater place than this?
     fn crosses(&self, seen: Rect, place: usize) -> bool
-        requires { IsBlock self.now }
+        requires { IsCluster self.now }
         ensures { result ≡ list_any (near.crosses seen place) self.now.spots.items }
     {
         if self.is_far(seen, place) {
@@ -110,11 +110,11 @@ fn any_crosses(spots: &[Spot], seen: Rect, place: usize) -> bool
     false
 }
 
-/// The leaves so far, in blocks, and the block for each place.
+/// The leaves so far, in clusters, and the cluster for each place.
 #[derive(Drop)]
 pub(crate) struct Near {
-    blocks: Vec<Block>,
-    block_of: Vec<usize>,
+    clusters: Vec<Cluster>,
+    cluster_of: Vec<usize>,
 }
 
 /// By what leaves are put near each other: how large they are, and where they lie.
@@ -150,79 +150,82 @@ fn lie_of(seen: Rect, place: usize) -> Lie {
     }
 }
 
-/// The block for each place of the painting order.
-fn blocks_for(alloc: Global, fresh: &[Found]) -> Result<Vec<usize>, NoMemory> {
+/// The cluster for each place of the painting order.
+fn clusters_for(alloc: Global, fresh: &[Found]) -> Result<Vec<usize>, NoMemory> {
     let mut lies = Vec::with_capacity(alloc, fresh.len())?;
-    let mut block_of = Vec::with_capacity(alloc, fresh.len())?;
+    let mut cluster_of = Vec::with_capacity(alloc, fresh.len())?;
     for i in 0..fresh.len() {
         lies.push(lie_of(fresh[i].leaf.visible, i))?;
-        block_of.push(0)?;
+        cluster_of.push(0)?;
     }
     lies.sort()?;
     for i in 0..lies.len() {
         let place = lies[i].place;
-        if place < block_of.len() {
-            block_of[place] = i / BLOCK;
+        if place < cluster_of.len() {
+            cluster_of[place] = i / BLOCK;
         }
     }
-    Ok(block_of)
+    Ok(cluster_of)
 }
 
-fn empty_blocks(alloc: Global, count: usize) -> Result<Vec<Block>, NoMemory>
-    ensures { IfOk result (λ v. AllByRecursion IsBlock v.items) }
+fn empty_clusters(alloc: Global, count: usize) -> Result<Vec<Cluster>, NoMemory>
+    ensures { IfOk result (λ v. AllByRecursion IsCluster v.items) }
 {
-    let mut blocks = Vec::with_capacity(alloc, count)?;
+    let mut clusters = Vec::with_capacity(alloc, count)?;
     for _ in 0..count {
-        blocks.push(Block::empty(alloc))?;
+        clusters.push(Cluster::empty(alloc))?;
     }
-    Ok(blocks)
+    Ok(clusters)
 }
 
 impl Near {
-    /// No leaf yet, and blocks for those of a painting order.
+    /// No leaf yet, and clusters for those of a painting order.
     pub(crate) fn new(alloc: Global, fresh: &[Found]) -> Result<Near, NoMemory>
-        ensures { IfOk result (λ n. AllByRecursion IsBlock n.blocks.items) }
+        ensures { IfOk result (λ n. AllByRecursion IsCluster n.clusters.items) }
     {
-        let block_of = blocks_for(alloc, fresh)?;
-        let blocks = empty_blocks(alloc, fresh.len() / BLOCK + 1)?;
-        Ok(Near { blocks, block_of })
+        let cluster_of = clusters_for(alloc, fresh)?;
+        let clusters = empty_clusters(alloc, fresh.len() / BLOCK + 1)?;
+        Ok(Near {
+            clusters,
+            cluster_of,
+        })
     }
 
     /// Has it a leaf that meets one that may be seen here, and has a greater place than this?
     pub(crate) fn crosses(&self, seen: Rect, place: usize) -> bool
-        requires { AllByRecursion IsBlock self.now.blocks.items }
-        ensures { result ≡ false → (s : NotedSpot) → IsNoted s self.now.blocks.items → near.crosses seen place s ≡ false }
+        requires { AllByRecursion IsCluster self.now.clusters.items }
+        ensures { result ≡ false → (s : NotedSpot) → IsNoted s self.now.clusters.items → near.crosses seen place s ≡ false }
     {
-        for block in &self.blocks {
-            if block.crosses(seen, place) {
+        for cluster in &self.clusters {
+            if cluster.crosses(seen, place) {
                 return true;
             }
         }
         false
     }
 
-    /// The number of the block for a place.
+    /// The number of the cluster for a place.
     fn number_of(&self, place: usize) -> usize {
-        match self.block_of.get(place) {
+        match self.cluster_of.get(place) {
             Some(number) => *number,
             None => 0,
         }
     }
 
-    /// Puts a leaf into its block.
+    /// Puts a leaf into its cluster.
     pub(crate) fn add(&mut self, alloc: Global, spot: Spot) -> Result<(), NoMemory>
-        requires { AllByRecursion IsBlock self.old.blocks.items }
-        ensures kept { OnOk result (AllByRecursion IsBlock self.new.blocks.items) }
-        ensures added { OnOk result (IsNoted spot self.new.blocks.items) }
-        ensures before { OnOk result ((s : NotedSpot) → IsNoted s self.old.blocks.items → IsNoted s self.new.blocks.items) }
+        requires { AllByRecursion IsCluster self.old.clusters.items }
+        ensures kept { OnOk result (AllByRecursion IsCluster self.new.clusters.items) }
+        ensures added { OnOk result (IsNoted spot self.new.clusters.items) }
+        ensures before { OnOk result ((s : NotedSpot) → IsNoted s self.old.clusters.items → IsNoted s self.new.clusters.items) }
     {
         let number = self.number_of(spot.place);
-        if number < self.blocks.len() {
-            self.blocks[number].add(spot)?;
+        if number < self.clusters.len() {
+            self.clusters[number].add(spot)?;
             return Ok(());
         }
-        let block = Block::of(alloc, spot)?;
-        self.blocks.push(block)?;
+        let cluster = Cluster::of(alloc, spot)?;
+        self.clusters.push(cluster)?;
         Ok(())
     }
 }

@@ -7,7 +7,7 @@ ghost use Rattle.rd_graph.specs.Internal.Seen.{seen};
 ghost use Rattle.rd_graph.specs.Internal.Taking.{KeepsBut, KeepsOthers, KeepsOutside};
 ghost use Rattle.rd_graph.specs.Runs.{places_aside, places_of, up_from};
 
-use crate::before::{Before, nothing};
+use crate::before::{Predecessors, nothing};
 use crate::graph::Node;
 use crate::lining_up::{gather_rising, has_room_aside, is_all_made, is_rising};
 use crate::runs::Run;
@@ -15,7 +15,7 @@ use std::alloc::Global;
 use std::mem;
 
 /// The node at a place has these predecessors.
-fn put_list(nodes: &mut Vec<Node>, place: usize, before: Before)
+fn put_list(nodes: &mut Vec<Node>, place: usize, before: Predecessors)
     requires { place < vec_len nodes.old }
     ensures { seen nodes.new.items ≡ with_list place before.items (seen nodes.old.items) }
 {
@@ -24,7 +24,7 @@ fn put_list(nodes: &mut Vec<Node>, place: usize, before: Before)
 }
 
 /// The nodes at these places have new lists of predecessors.
-pub(crate) fn put_lists(nodes: &mut Vec<Node>, lists: Vec<(usize, Before)>)
+pub(crate) fn put_lists(nodes: &mut Vec<Node>, lists: Vec<(usize, Predecessors)>)
     requires { AreWithin (lists_seen lists.items) (seen nodes.old.items) }
     ensures { seen nodes.new.items ≡ with_lists (lists_seen lists.items) (seen nodes.old.items) }
 {

@@ -70,7 +70,7 @@ fn rises(places: &[usize], end: usize) -> bool
 }
 
 /// How many are met, of those that are looked for one after another, when a walk comes to a place.
-pub(crate) fn met_after(gone: &[usize], met: usize, place: usize) -> usize
+pub(crate) fn advance_past(gone: &[usize], met: usize, place: usize) -> usize
     ensures { IsMet gone.now met place result }
 {
     if gone.len() <= met {
@@ -90,7 +90,7 @@ fn are_among(gone: &[usize], places: &[usize]) -> bool
 {
     let mut met = 0;
     for place in places {
-        met = met_after(gone, met, *place);
+        met = advance_past(gone, met, *place);
     }
     if met < gone.len() {
         return false;

@@ -8,7 +8,7 @@ ghost use Rattle.rd_graph.specs.Internal.Tables.{at};
 ghost use Rattle.rd_graph.specs.Internal.Trimming.{AreAsked, HasMark, KeepsMarks};
 ghost use Rattle.rd_graph.specs.Internal.Words.{IsPut};
 
-use crate::before::{Before, Name};
+use crate::before::{Name, Predecessors};
 use crate::gone::mark_of;
 use crate::tables::put;
 use indexmap::IndexMap;
@@ -41,7 +41,10 @@ fn mark_list(marks: &mut Vec<bool>, names: &[Name])
 }
 
 /// The marks of the names of those lists that have more than one.
-pub(crate) fn marks_asked(alloc: Global, lists: &[(usize, Before)]) -> Result<Vec<bool>, AllocError>
+pub(crate) fn marks_asked(
+    alloc: Global,
+    lists: &[(usize, Predecessors)],
+) -> Result<Vec<bool>, AllocError>
     ensures { IfOk result (λ v. AreAsked (lists_seen lists.now) v.items) }
 {
     let mut marks = vec![in alloc; false; 4096]?;

@@ -33,17 +33,17 @@ impl Default for Name {
 }
 
 /// Names of predecessors.
-pub(crate) type Before = SmallVec<Name, 1>;
+pub(crate) type Predecessors = SmallVec<Name, 1>;
 
 /// No name.
-pub(crate) fn nothing(alloc: Global) -> Before
+pub(crate) fn nothing(alloc: Global) -> Predecessors
     ensures { result.items ≡ [] }
 {
     SmallVec::new(alloc)
 }
 
 /// Puts a name at the end.
-pub(crate) fn push(list: &mut Before, key: EntryKey) -> Result<(), AllocError>
+pub(crate) fn push(list: &mut Predecessors, key: EntryKey) -> Result<(), AllocError>
     ensures { OnOk result (list.new.items ≡ list.old.items ++ key ∷ []) }
 {
     list.push(Name { key })?;
@@ -51,7 +51,7 @@ pub(crate) fn push(list: &mut Before, key: EntryKey) -> Result<(), AllocError>
 }
 
 /// One name.
-pub(crate) fn one(alloc: Global, key: EntryKey) -> Before
+pub(crate) fn one(alloc: Global, key: EntryKey) -> Predecessors
     ensures { result.items ≡ key ∷ [] }
 {
     let mut list = nothing(alloc);
@@ -60,7 +60,7 @@ pub(crate) fn one(alloc: Global, key: EntryKey) -> Before
 }
 
 /// A list once more.
-pub(crate) fn copied(alloc: Global, list: &[Name]) -> Result<Before, AllocError>
+pub(crate) fn copied(alloc: Global, list: &[Name]) -> Result<Predecessors, AllocError>
     ensures { IfOk result (λ v. v.items ≡ list.now) }
 {
     SmallVec::from_slice(alloc, list)

@@ -12,8 +12,8 @@ ghost use Rattle.rd_graph.specs.Internal.Relisting.{AddsAlong, AreMarked, AreNot
 ghost use Rattle.rd_graph.specs.Internal.Tables.{at, fits_list, has_it};
 ghost use Rattle.rd_graph.specs.Internal.Words.{NotesBy, note_at, resolved_by};
 
-use crate::arranging::met_after;
-use crate::before::{Before, Name, copied, is_among, nothing, push};
+use crate::arranging::advance_past;
+use crate::before::{Predecessors, Name, copied, is_among, nothing, push};
 use crate::gone::{Gone, goes, gone_at, mark_of, number_of, some_goes};
 use crate::graph::Node;
 use crate::resolving::resolve;
@@ -23,12 +23,12 @@ use std::alloc::{AllocError, Global};
 /// What one pass over the nodes gives: notes of those that go, by their numbers, and new lists of late ones.
 #[derive(Drop)]
 struct Passed {
-    notes: Vec<Before>,
-    lists: Vec<(usize, Before)>,
+    notes: Vec<Predecessors>,
+    lists: Vec<(usize, Predecessors)>,
 }
 
 /// As yet nothing is noted of so many names.
-fn no_notes(alloc: Global, count: usize) -> Result<Vec<Before>, AllocError>
+fn no_notes(alloc: Global, count: usize) -> Result<Vec<Predecessors>, AllocError>
     ensures len { IfOk result (λ v. length v.items ≡ count) }
     ensures none { IfOk result (λ v. (i : ℕ) → note_at v.items (Some i) ≡ []) }
 {
@@ -40,7 +40,7 @@ fn no_notes(alloc: Global, count: usize) -> Result<Vec<Before>, AllocError>
 }
 
 /// From now on this is noted at a number.
-fn put_note(notes: &mut Vec<Before>, number: usize, before: Before)
+fn put_note(notes: &mut Vec<Predecessors>, number: usize, before: Predecessors)
     requires { number < length notes.old.items }
     ensures { notes.new.items ≡ slice_set notes.old.items number before }
 {
@@ -51,7 +51,7 @@ fn put_note(notes: &mut Vec<Before>, number: usize, before: Before)
 fn note(
     alloc: Global,
     gone: &Gone,
-    notes: &mut Vec<Before>,
+    notes: &mut Vec<Predecessors>,
     number: usize,
     node: &Node,
 ) -> Result<(), AllocError>
@@ -69,9 +69,9 @@ fn note(
 
 /// Puts a list at the end, with the place of its node.
 pub(crate) fn push_list(
-    lists: &mut Vec<(usize, Before)>,
+    lists: &mut Vec<(usize, Predecessors)>,
     place: usize,
-    before: Before,
+    before: Predecessors,
 ) -> Result<(), AllocError>
     ensures { OnOk result (lists_seen lists.new.items ≡ lists_seen lists.old.items ++ (place, before.items) ∷ []) }
 {
@@ -83,8 +83,8 @@ pub(crate) fn push_list(
 fn relist(
     alloc: Global,
     gone: &Gone,
-    notes: &[Before],
-    lists: &mut Vec<(usize, Before)>,
+    notes: &[Predecessors],
+    lists: &mut Vec<(usize, Predecessors)>,
     place: usize,
     node: &Node,
 ) -> Result<(), AllocError>
@@ -100,8 +100,8 @@ fn relist(
 fn pass(
     alloc: Global,
     gone: &Gone,
-    notes: &mut Vec<Before>,
-    lists: &mut Vec<(usize, Before)>,
+    notes: &mut Vec<Predecessors>,
+    lists: &mut Vec<(usize, Predecessors)>,
     place: usize,
     node: &Node,
 ) -> Result<(), AllocError>
@@ -254,7 +254,7 @@ fn pass_all(
         pass(alloc, gone, &mut notes, &mut lists, place, &nodes[place])?;
         let stop = place_or(places, met, nodes.len());
         place = next_late(nodes, place + 1, stop, &gone.marks);
-        met = met_after(places, met, place);
+        met = advance_past(places, met, place);
     }
     Ok(Passed { notes, lists })
 }
@@ -281,7 +281,7 @@ fn has_edge(keys: &[Name], name: Option<EntryKey>) -> bool
 }
 
 /// A list with the edge from a name, which it may have already.
-fn with_edge(keys: Before, name: Option<EntryKey>) -> Result<Before, AllocError>
+fn with_edge(keys: Predecessors, name: Option<EntryKey>) -> Result<Predecessors, AllocError>
     ensures { IfOk result (λ v. v.items ≡ joined same_entry keys.items (listed name)) }
 {
     let mut keys = keys;
@@ -295,7 +295,7 @@ fn with_edge(keys: Before, name: Option<EntryKey>) -> Result<Before, AllocError>
 }
 
 /// What a node that stays has before the edge of the chain.
-fn own(alloc: Global, gone: &Gone, notes: &[Before], node: &Node) -> Result<Before, AllocError>
+fn own(alloc: Global, gone: &Gone, notes: &[Predecessors], node: &Node) -> Result<Predecessors, AllocError>
     requires marked { AreMarked gone.now.marks.items gone.now.names }
     requires stays { has_it gone.now.names node.now.key ≡ false }
     ensures { IfOk result (λ v. v.items
@@ -321,8 +321,8 @@ fn keeps_list(gone: &Gone, node: &Node, name: Option<EntryKey>) -> bool
 fn relist_along(
     alloc: Global,
     gone: &Gone,
-    notes: &[Before],
-    lists: &mut Vec<(usize, Before)>,
+    notes: &[Predecessors],
+    lists: &mut Vec<(usize, Predecessors)>,
     place: usize,
     node: &Node,
     name: Option<EntryKey>,
@@ -343,8 +343,8 @@ fn relist_along(
 fn stay_along(
     alloc: Global,
     gone: &Gone,
-    notes: &[Before],
-    lists: &mut Vec<(usize, Before)>,
+    notes: &[Predecessors],
+    lists: &mut Vec<(usize, Predecessors)>,
     place: usize,
     node: &Node,
     name: Option<EntryKey>,
@@ -365,8 +365,8 @@ fn stay_along(
 fn lead_along(
     alloc: Global,
     gone: &Gone,
-    notes: &[Before],
-    lists: &mut Vec<(usize, Before)>,
+    notes: &[Predecessors],
+    lists: &mut Vec<(usize, Predecessors)>,
     place: usize,
     node: &Node,
     name: Option<EntryKey>,
@@ -384,8 +384,8 @@ fn lead_along(
 fn go_along(
     alloc: Global,
     gone: &Gone,
-    notes: &[Before],
-    lists: &mut Vec<(usize, Before)>,
+    notes: &[Predecessors],
+    lists: &mut Vec<(usize, Predecessors)>,
     place: usize,
     node: &Node,
     name: Option<EntryKey>,
@@ -405,8 +405,8 @@ fn go_along_at(
     alloc: Global,
     nodes: &[Node],
     gone: &Gone,
-    notes: &[Before],
-    lists: &mut Vec<(usize, Before)>,
+    notes: &[Predecessors],
+    lists: &mut Vec<(usize, Predecessors)>,
     place: Option<usize>,
     chain: &[EntryKey],
     i: usize,
@@ -430,10 +430,10 @@ fn go_along_all(
     alloc: Global,
     nodes: &[Node],
     gone: &Gone,
-    notes: &[Before],
+    notes: &[Predecessors],
     chain: &[EntryKey],
     found: &[Option<usize>],
-    lists: &mut Vec<(usize, Before)>,
+    lists: &mut Vec<(usize, Predecessors)>,
 ) -> Result<(), AllocError>
     requires sound { IsInOrder (seen nodes.now) }
     requires once { Once chain.now }
@@ -459,7 +459,7 @@ fn led_along(
     chain: &[EntryKey],
     found: &[Option<usize>],
     passed: Passed,
-) -> Result<Vec<(usize, Before)>, AllocError>
+) -> Result<Vec<(usize, Predecessors)>, AllocError>
     requires sound { IsInOrder (seen nodes.now) }
     requires once { Once chain.now }
     requires found_are { found.now ≡ found_in chain.now (seen nodes.now) }
@@ -480,7 +480,7 @@ fn changed_by(
     gone: &Gone,
     chain: &[EntryKey],
     found: &[Option<usize>],
-) -> Result<Vec<(usize, Before)>, AllocError>
+) -> Result<Vec<(usize, Predecessors)>, AllocError>
     requires sound { IsInOrder (seen nodes.now) }
     requires can { CanBePatched places.now chain.now found.now (seen nodes.now) }
     requires named { fits_list gone.now.names (gathered places.now (nodes_of (seen nodes.now))) }
@@ -501,7 +501,7 @@ pub(crate) fn changed(
     gone: &[usize],
     chain: &[EntryKey],
     found: &[Option<usize>],
-) -> Result<Vec<(usize, Before)>, AllocError>
+) -> Result<Vec<(usize, Predecessors)>, AllocError>
     requires sound { IsInOrder (seen nodes.now) }
     requires can { CanBePatched gone.now chain.now found.now (seen nodes.now) }
     ensures { IfOk result (λ v. IsRelisted gone.now chain.now (seen nodes.now) (lists_seen v.items)) }

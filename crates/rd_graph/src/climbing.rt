@@ -5,7 +5,7 @@ ghost use Rattle.rd_graph.specs.Names.{place_of, same_entry};
 ghost use Rattle.rd_graph.specs.Internal.Seen.{seen};
 ghost use Rattle.rd_graph.specs.Internal.Thinning.{AreImplied, AddsOf, AddsBefore, MayAdd};
 
-use crate::before::{Before, Name, copied, is_among, nothing, push};
+use crate::before::{Name, Predecessors, copied, is_among, nothing, push};
 use crate::graph::Node;
 use crate::places::Places;
 use rd_keys::EntryKey;
@@ -18,8 +18,8 @@ const STEPS: usize = 64;
 fn sort_one(
     list: &[Name],
     key: EntryKey,
-    left: &mut Before,
-    found: &mut Before,
+    left: &mut Predecessors,
+    found: &mut Predecessors,
 ) -> Result<(), AllocError>
     ensures left { OnOk result (MayAdd key left.old.items left.new.items) }
     ensures found { OnOk result (MayAdd key found.old.items found.new.items) }
@@ -36,8 +36,8 @@ fn sort_one(
 fn sort_out(
     list: &[Name],
     before: &[Name],
-    left: &mut Before,
-    found: &mut Before,
+    left: &mut Predecessors,
+    found: &mut Predecessors,
 ) -> Result<(), AllocError>
     ensures left { OnOk result (AddsOf before.now left.old.items left.new.items) }
     ensures found { OnOk result (AddsOf before.now found.old.items found.new.items) }
@@ -54,8 +54,8 @@ fn go_on_at(
     list: &[Name],
     key: EntryKey,
     place: usize,
-    left: &mut Before,
-    found: &mut Before,
+    left: &mut Predecessors,
+    found: &mut Predecessors,
 ) -> Result<(), AllocError>
     requires within { place < length nodes.now }
     requires named { Some place ≡ place_of same_entry (nodes_of (seen nodes.now)) key }
@@ -74,8 +74,8 @@ fn go_on(
     list: &[Name],
     lowest: usize,
     key: EntryKey,
-    left: &mut Before,
-    found: &mut Before,
+    left: &mut Predecessors,
+    found: &mut Predecessors,
 ) -> Result<(), AllocError>
     requires { places.now ≡ nodes_of (seen nodes.now) }
     ensures left { OnOk result (AddsBefore (seen nodes.now) key left.old.items left.new.items) }
@@ -116,7 +116,7 @@ pub(crate) fn implied(
     nodes: &[Node],
     places: &Places,
     list: &[Name],
-) -> Result<Before, AllocError>
+) -> Result<Predecessors, AllocError>
     requires { places.now ≡ nodes_of (seen nodes.now) }
     ensures { IfOk result (λ v. AreImplied (seen nodes.now) list.now v.items) }
 {

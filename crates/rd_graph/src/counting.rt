@@ -9,7 +9,7 @@ ghost use Rattle.rd_graph.specs.Internal.Walks.{staying};
 ghost use Rattle.rd_graph.specs.Internal.Regions.{IsRegion};
 ghost use Rattle.rd_graph.specs.Internal.Ranks.{counted_ranks, labelled_ranks, PutsWithin, PutsRanked, AreNamesAt};
 
-use crate::arranging::met_after;
+use crate::arranging::advance_past;
 use crate::chain::label_nodes;
 use crate::graph::Node;
 use crate::regions::{Region, region_of};
@@ -53,7 +53,7 @@ fn push_counted(
     let mut met = 0;
     for place in from..to {
         push_pair(pairs, stays[place], least + met, place)?;
-        met = met_after(some, met, place);
+        met = advance_past(some, met, place);
     }
     Ok(())
 }

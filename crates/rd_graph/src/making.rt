@@ -5,14 +5,14 @@ ghost use Rattle.rd_graph.specs.Internal.MadeNodes.{made_at, made_after};
 ghost use Rattle.rd_graph.specs.Internal.Patching.{HasRoom};
 ghost use Rattle.rd_graph.specs.Internal.Seen.{seen};
 
-use crate::before::{Before, nothing, one};
+use crate::before::{Predecessors, nothing, one};
 use crate::graph::Node;
 use crate::runs::{Run, count_aside, count_of};
 use rd_keys::EntryKey;
 use std::alloc::{AllocError, Global};
 
 /// What comes right before a place of the chain.
-fn before_at(alloc: Global, chain: &[EntryKey], i: usize) -> Before
+fn before_at(alloc: Global, chain: &[EntryKey], i: usize) -> Predecessors
     requires { i < length chain.now }
     ensures { result.items ≡ before_place chain.now (Some i) }
 {

@@ -5,7 +5,7 @@ ghost use Rattle.rd_graph.specs.Patches.{CanBePatched, FitsPatch, IsPatched, pat
 
 use crate::applying::{in_line, put_lists};
 use crate::arranging::arrange;
-use crate::before::Before;
+use crate::before::Predecessors;
 use crate::changing::changed;
 use crate::graph::{Node, OrderGraph};
 use crate::making::{aside_room, make, room};
@@ -22,7 +22,7 @@ use std::marker::Model;
 #[derive(Drop)]
 pub struct Patch {
     pub(crate) alloc: Global,
-    pub(crate) lists: Vec<(usize, Before)>,
+    pub(crate) lists: Vec<(usize, Predecessors)>,
     pub(crate) made: Vec<Node>,
     pub(crate) line: Option<Vec<Run>>,
     pub(crate) aside: Vec<Node>,

@@ -6,7 +6,7 @@ ghost use Rattle.rd_graph.specs.Internal.Relisting.{AreMarked};
 ghost use Rattle.rd_graph.specs.Internal.Tables.{fits_list};
 ghost use Rattle.rd_graph.specs.Internal.Words.{in_place_by, note_at, resolved_by};
 
-use crate::before::{Before, Name, is_among, nothing, push};
+use crate::before::{Name, Predecessors, is_among, nothing, push};
 use crate::gone::{Gone, number_of};
 use crate::tables::{push_all, push_new};
 use indexmap::IndexMap;
@@ -17,7 +17,7 @@ use std::alloc::{AllocError, Global};
 const FEW: usize = 4;
 
 /// Puts a name at the end, if it is not there yet.
-fn push_once(names: &mut Before, key: EntryKey) -> Result<(), AllocError>
+fn push_once(names: &mut Predecessors, key: EntryKey) -> Result<(), AllocError>
     ensures { OnOk result (names.new.items ≡ pushed same_entry names.old.items key) }
 {
     if is_among(names, key) {
@@ -27,7 +27,7 @@ fn push_once(names: &mut Before, key: EntryKey) -> Result<(), AllocError>
 }
 
 /// Puts names at the end, those that are not there yet. False where there may be more than a few.
-fn push_few(names: &mut Before, more: &[Name]) -> Result<bool, AllocError>
+fn push_few(names: &mut Predecessors, more: &[Name]) -> Result<bool, AllocError>
     ensures { IfOk result (λ few. IsTrue few → names.new.items ≡ all_pushed same_entry names.old.items more.now) }
 {
     if FEW < names.len().saturating_add(more.len()) {
@@ -40,7 +40,7 @@ fn push_few(names: &mut Before, more: &[Name]) -> Result<bool, AllocError>
 }
 
 /// A predecessor that stays. False where there may be more than a few.
-fn add_one(found: &mut Before, key: EntryKey) -> Result<bool, AllocError>
+fn add_one(found: &mut Predecessors, key: EntryKey) -> Result<bool, AllocError>
     ensures { IfOk result (λ few. IsTrue few → found.new.items ≡ pushed same_entry found.old.items key) }
 {
     if FEW <= found.len() {
@@ -51,7 +51,11 @@ fn add_one(found: &mut Before, key: EntryKey) -> Result<bool, AllocError>
 }
 
 /// What is noted at a number. False where there may be more than a few.
-fn add_noted(notes: &[Before], number: usize, found: &mut Before) -> Result<bool, AllocError>
+fn add_noted(
+    notes: &[Predecessors],
+    number: usize,
+    found: &mut Predecessors,
+) -> Result<bool, AllocError>
     ensures { IfOk result (λ few. IsTrue few → found.new.items
         ≡ all_pushed same_entry found.old.items (note_at notes.now (Some number))) }
 {
@@ -64,8 +68,8 @@ fn add_noted(notes: &[Before], number: usize, found: &mut Before) -> Result<bool
 /// A predecessor, or what is noted in its place where it goes. False where there may be more than a few.
 fn add_few(
     gone: &Gone,
-    notes: &[Before],
-    found: &mut Before,
+    notes: &[Predecessors],
+    found: &mut Predecessors,
     key: EntryKey,
 ) -> Result<bool, AllocError>
     requires { AreMarked gone.now.marks.items gone.now.names }
@@ -82,9 +86,9 @@ fn add_few(
 fn resolve_few(
     alloc: Global,
     gone: &Gone,
-    notes: &[Before],
+    notes: &[Predecessors],
     before: &[Name],
-) -> Result<Option<Before>, AllocError>
+) -> Result<Option<Predecessors>, AllocError>
     requires { AreMarked gone.now.marks.items gone.now.names }
     ensures { IfOk result (λ o. IfSome o (λ v. v.items ≡ resolved_by gone.now.names notes.now before.now)) }
 {
@@ -100,9 +104,9 @@ fn resolve_few(
 
 /// What is noted at a number, however much. `met` has the names that are there.
 fn add_all_noted(
-    notes: &[Before],
+    notes: &[Predecessors],
     number: usize,
-    found: &mut Before,
+    found: &mut Predecessors,
     met: &mut IndexMap<EntryKey, usize>,
 ) -> Result<(), AllocError>
     requires { fits_list met.old found.old.items }
@@ -119,8 +123,8 @@ fn add_all_noted(
 /// A predecessor, or what is noted in its place where it goes, however much.
 fn add_any(
     gone: &Gone,
-    notes: &[Before],
-    found: &mut Before,
+    notes: &[Predecessors],
+    found: &mut Predecessors,
     met: &mut IndexMap<EntryKey, usize>,
     key: EntryKey,
 ) -> Result<(), AllocError>
@@ -140,9 +144,9 @@ fn add_any(
 fn resolve_any(
     alloc: Global,
     gone: &Gone,
-    notes: &[Before],
+    notes: &[Predecessors],
     before: &[Name],
-) -> Result<Before, AllocError>
+) -> Result<Predecessors, AllocError>
     requires { AreMarked gone.now.marks.items gone.now.names }
     ensures { IfOk result (λ v. v.items ≡ resolved_by gone.now.names notes.now before.now) }
 {
@@ -158,9 +162,9 @@ fn resolve_any(
 pub(crate) fn resolve(
     alloc: Global,
     gone: &Gone,
-    notes: &[Before],
+    notes: &[Predecessors],
     before: &[Name],
-) -> Result<Before, AllocError>
+) -> Result<Predecessors, AllocError>
     requires { AreMarked gone.now.marks.items gone.now.names }
     ensures { IfOk result (λ v. v.items ≡ resolved_by gone.now.names notes.now before.now) }
 {

@@ -5,7 +5,7 @@ ghost use Rattle.rd_graph.specs.Internal.Patching.{lists_seen};
 ghost use Rattle.rd_graph.specs.Internal.Seen.{seen, seen_one};
 ghost use Rattle.rd_graph.specs.Internal.Thinning.{AreImplied, Leaves, MayLeave, IsThinner, ThinsOne, IsThinned};
 
-use crate::before::{Before, Name, copied, is_among, nothing, push};
+use crate::before::{Name, Predecessors, copied, is_among, nothing, push};
 use crate::climbing::implied;
 use crate::graph::Node;
 use crate::places::Places;
@@ -16,11 +16,11 @@ use std::alloc::{AllocError, Global};
 #[derive(Drop)]
 pub(crate) struct ThinNodes {
     pub(crate) nodes: Vec<Node>,
-    pub(crate) lists: Vec<(usize, Before)>,
+    pub(crate) lists: Vec<(usize, Predecessors)>,
 }
 
 /// Puts a name at the end, unless it is one of some names.
-fn leave_one(names: &[Name], left: &mut Before, key: EntryKey) -> Result<(), AllocError>
+fn leave_one(names: &[Name], left: &mut Predecessors, key: EntryKey) -> Result<(), AllocError>
     ensures { OnOk result (MayLeave names.now key left.old.items left.new.items) }
 {
     if is_among(names, key) {
@@ -31,7 +31,7 @@ fn leave_one(names: &[Name], left: &mut Before, key: EntryKey) -> Result<(), All
 }
 
 /// A list without some names.
-fn without(alloc: Global, list: &[Name], names: &[Name]) -> Result<Before, AllocError>
+fn without(alloc: Global, list: &[Name], names: &[Name]) -> Result<Predecessors, AllocError>
     ensures { IfOk result (λ v. Leaves names.now list.now v.items) }
 {
     let mut left = nothing(alloc);
@@ -47,7 +47,7 @@ fn thinner(
     nodes: &[Node],
     places: &Places,
     list: &[Name],
-) -> Result<Option<Before>, AllocError>
+) -> Result<Option<Predecessors>, AllocError>
     requires { places.now ≡ nodes_of (seen nodes.now) }
     ensures { IfOk result (λ l. IfSome l (λ v. IsThinner (seen nodes.now) v.items list.now)) }
 {
@@ -68,7 +68,7 @@ fn thin_one(
     nodes: &[Node],
     places: &Places,
     thin: &mut Vec<Node>,
-    lists: &mut Vec<(usize, Before)>,
+    lists: &mut Vec<(usize, Predecessors)>,
     place: usize,
     node: &Node,
 ) -> Result<(), AllocError>
@@ -130,9 +130,9 @@ pub(crate) fn thinned(alloc: Global, nodes: &[Node]) -> Result<ThinNodes, AllocE
 
 /// Lists of predecessors, and after them others.
 pub(crate) fn joined(
-    lists: Vec<(usize, Before)>,
-    more: Vec<(usize, Before)>,
-) -> Result<Vec<(usize, Before)>, AllocError>
+    lists: Vec<(usize, Predecessors)>,
+    more: Vec<(usize, Predecessors)>,
+) -> Result<Vec<(usize, Predecessors)>, AllocError>
     ensures { IfOk result (λ v. lists_seen v.items ≡ lists_seen lists.items ++ lists_seen more.items) }
 {
     let mut all = lists;

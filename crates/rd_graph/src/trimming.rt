@@ -7,7 +7,7 @@ ghost use Rattle.rd_graph.specs.Internal.Tables.{at};
 ghost use Rattle.rd_graph.specs.Internal.Trimming.{higher, highest, is_left, trimmed, all_trimmed};
 
 use crate::asking::{marks_asked, places_asked};
-use crate::before::{Before, Name, nothing, push};
+use crate::before::{Name, Predecessors, nothing, push};
 use crate::changing::push_list;
 use crate::tables::find;
 use indexmap::IndexMap;
@@ -46,7 +46,7 @@ fn stays(places: &IndexMap<EntryKey, usize>, top: usize, key: EntryKey) -> bool
 }
 
 /// Puts a name at the end, if it is left.
-fn push_if(keys: &mut Before, stays: bool, key: EntryKey) -> Result<(), AllocError>
+fn push_if(keys: &mut Predecessors, stays: bool, key: EntryKey) -> Result<(), AllocError>
     ensures { OnOk result (keys.new.items ≡ keys.old.items ++ (if stays then key ∷ [] else [])) }
 {
     if stays {
@@ -60,7 +60,7 @@ fn left_of(
     alloc: Global,
     places: &IndexMap<EntryKey, usize>,
     keys: &[Name],
-) -> Result<Before, AllocError>
+) -> Result<Predecessors, AllocError>
     ensures { IfOk result (λ v. v.items ≡ trimmed (at places.now) keys.now) }
 {
     let top = top_of(places, keys);
@@ -76,8 +76,8 @@ fn left_of(
 fn trim(
     alloc: Global,
     places: &IndexMap<EntryKey, usize>,
-    keys: Before,
-) -> Result<Before, AllocError>
+    keys: Predecessors,
+) -> Result<Predecessors, AllocError>
     ensures { IfOk result (λ v. v.items ≡ trimmed (at places.now) keys.items) }
 {
     if keys.len() < 2 {
@@ -90,9 +90,9 @@ fn trim(
 fn push_trimmed(
     alloc: Global,
     places: &IndexMap<EntryKey, usize>,
-    all: &mut Vec<(usize, Before)>,
+    all: &mut Vec<(usize, Predecessors)>,
     place: usize,
-    keys: Before,
+    keys: Predecessors,
 ) -> Result<(), AllocError>
     ensures { OnOk result (lists_seen all.new.items
         ≡ lists_seen all.old.items ++ (place, trimmed (at places.now) keys.items) ∷ []) }
@@ -105,8 +105,8 @@ fn push_trimmed(
 fn trim_all(
     alloc: Global,
     places: &IndexMap<EntryKey, usize>,
-    lists: Vec<(usize, Before)>,
-) -> Result<Vec<(usize, Before)>, AllocError>
+    lists: Vec<(usize, Predecessors)>,
+) -> Result<Vec<(usize, Predecessors)>, AllocError>
     ensures { IfOk result (λ v. lists_seen v.items
         ≡ all_trimmed (at places.now) (lists_seen lists.items)) }
 {
@@ -121,7 +121,7 @@ fn trim_all(
 fn places_in(
     alloc: Global,
     chain: &[EntryKey],
-    lists: &[(usize, Before)],
+    lists: &[(usize, Predecessors)],
 ) -> Result<IndexMap<EntryKey, usize>, AllocError>
     requires { Once chain.now }
     ensures { IfOk result (λ t. (l : ℕ × List EntryKey) → Contains (lists_seen lists.now) l → 1 < length l.1
@@ -132,7 +132,7 @@ fn places_in(
 }
 
 /// Has each of these lists one name at most?
-fn are_short(lists: &[(usize, Before)]) -> bool
+fn are_short(lists: &[(usize, Predecessors)]) -> bool
     ensures { IsTrue result → (l : ℕ × List EntryKey) → Contains (lists_seen lists.now) l → length l.1 < 2 }
 {
     for list in lists {
@@ -147,8 +147,8 @@ fn are_short(lists: &[(usize, Before)]) -> bool
 pub(crate) fn trimmed(
     alloc: Global,
     chain: &[EntryKey],
-    lists: Vec<(usize, Before)>,
-) -> Result<Vec<(usize, Before)>, AllocError>
+    lists: Vec<(usize, Predecessors)>,
+) -> Result<Vec<(usize, Predecessors)>, AllocError>
     requires { Once chain.now }
     ensures { IfOk result (λ v. lists_seen v.items
         ≡ all_trimmed (place_of same_entry chain.now) (lists_seen lists.items)) }

@@ -10,13 +10,13 @@ use Rattle.rd_list.specs.declared.kept.Entry.{Entry}
 use Rattle.rd_list.specs.Wrappers.{Wrapper}
 use Rattle.rd_list.specs.Displayed.{shown}
 use Rattle.rd_list.specs.Entries.{Entries, nil, leaf, group, ◌▷◌, flat}
-use Rattle.rd_list.specs.Blocks.{AreHeld, AreWithin, Covers, Tells, total}
+use Rattle.rd_list.specs.Chunks.{AreHeld, AreWithin, Covers, Tells, total}
 use Rattle.rd_list.specs.EntryNames.{kept_leaves}
 use Rattle.rd_list.specs.Kept.{Ordered}
 use Rattle.rd_list.specs.KeptView.{kept_entries}
 use Rattle.rd_list.proofs.Covering.{held_leaves, total_next}
 use Rattle.rd_list.proofs.Admitting.{found_told}
-use Rattle.rd_list.specs.declared.blocks.Block.{Block}
+use Rattle.rd_list.specs.declared.chunks.Chunk.{Chunk}
 use Rattle.rd_item.specs.Items.{Made}
 use Rattle.rd_keys.specs.declared.entry.EntryKey.{EntryKey}
 use Rattle.rd_list.specs.Lists.{hit, is_hit, is_outline, last}
@@ -96,7 +96,7 @@ pub unseen_missed : (x y : ℤ) (l : item.Leaf) → holds_pixel l.visible x y �
 unseen_missed x y l h =
     sym (leaf_missed x y l (unseen (holds_pixel l.shape.outer x y) (not (holds_pixel l.shape.inner x y)) (holds_pixel l.visible x y) (not (is_outline l.part)) l.hits h))
 
--- ---- block by block
+-- ---- chunk by chunk
 
 -- no leaf that lies in a rectangle is hit outside of it
 outside : (x y : ℤ) (r : Rectangle) (l : item.Leaf) → IsWithin l.visible r → holds_pixel r x y ≡ false → holds_pixel l.visible x y ≡ false
@@ -117,25 +117,25 @@ list_missed x y r (group g inner rest) h f =
     ∙ ap (λ g. or_else g (hit (kept_leaves inner) x y)) (list_missed x y r rest (within_right r (flat inner) (flat rest) h) f) ∙ list_missed x y r inner (within_left r (flat inner) (flat rest) h) f
 
 module _ {A : Type 0} where
-  -- outside of its hull nothing of a block is hit
-  pub block_missed : (x y : ℤ) (r : Rectangle) (es : List (Entry A)) → AreHeld r es → holds_pixel r x y ≡ false → None ≡ hit (shown es) x y
-  block_missed x y r es h f = sym (list_missed x y r (kept_entries es) (held_leaves r es h) f)
+  -- outside of its hull nothing of a chunk is hit
+  pub chunk_missed : (x y : ℤ) (r : Rectangle) (es : List (Entry A)) → AreHeld r es → holds_pixel r x y ≡ false → None ≡ hit (shown es) x y
+  chunk_missed x y r es h f = sym (list_missed x y r (kept_entries es) (held_leaves r es h) f)
 
-  -- one block further down
-  pub block_down : (x y : ℤ) (es : List (Entry A)) (start end : ℕ) (found : Option BoxKey) → start ≤ end → end ≤ length es → found ≡ hit (shown (take (end - start) (drop start es))) x y → hit (shown (drop end es)) x y ≡ None
+  -- one chunk further down
+  pub chunk_down : (x y : ℤ) (es : List (Entry A)) (start end : ℕ) (found : Option BoxKey) → start ≤ end → end ≤ length es → found ≡ hit (shown (take (end - start) (drop start es))) x y → hit (shown (drop end es)) x y ≡ None
       → hit (shown (drop start es)) x y ≡ found
   unfolding or_else
-  block_down x y es start end found l m f n =
+  chunk_down x y es start end found l m f n =
       let parts : drop start es ≡ take (end - start) (drop start es) ++ drop end es =
       sym (take-append-drop (end - start) (drop start es)) ∙ ap (λ zs. take (end - start) (drop start es) ++ zs) (drop-drop (end - start) start es ∙ ap (λ k. drop k es) (let e : start + (end - start) ≡ end = omega (arith, l) in e)) in
       ap (λ zs. hit (shown zs) x y) parts ∙ ap (λ zs. hit zs x y) (shown-append (take (end - start) (drop start es)) (drop end es))
       ∙ hit-join x y (shown (take (end - start) (drop start es))) (shown (drop end es))
       ∙ ap (λ g. or_else g (hit (shown (take (end - start) (drop start es))) x y)) n ∙ sym f
 
-  -- the block below a number of blocks
-  pub block_below : (bs : List Block) (es : List (Entry A)) (number end : ℕ) (b : Block) → Covers bs es → 0 < number → number ≤ length bs → end ≡ total (take number bs) → b ≡ get_or bs (number - 1) b
+  -- the chunk below a number of chunks
+  pub chunk_below : (bs : List Chunk) (es : List (Entry A)) (number end : ℕ) (b : Chunk) → Covers bs es → 0 < number → number ≤ length bs → end ≡ total (take number bs) → b ≡ get_or bs (number - 1) b
       → (b.count ≤ end) × (end - b.count ≡ total (take (number - 1) bs)) × (b.is_open ≡ false → Tells b (take (end - (end - b.count)) (drop (end - b.count) es)))
-  block_below bs es number end b c some few e is =
+  chunk_below bs es number end b c some few e is =
       let i : ℕ = number - 1 in
       let n = total_next bs i b (omega (arith, some, few)) is in
       let same : i + 1 ≡ number = omega (arith, some) in

@@ -9,7 +9,7 @@
 ghost use Rattle.std.specs.Prelude.{◌≡◌, ◌≤◌, ◌<◌, ◌+◌, ◌-◌, ◌∷◌, [], IsTrue, None, drop, false, length};
 ghost use Rattle.rd_geom.specs.Plane.{holds_pixel, is_among};
 ghost use Rattle.rd_list.specs.Displayed.{shown};
-ghost use Rattle.rd_list.specs.Blocks.{Covers, Tells};
+ghost use Rattle.rd_list.specs.Chunks.{Covers, Tells};
 ghost use Rattle.rd_list.specs.Entries as list;
 ghost use Rattle.rd_list.specs.EntryNames.{kept_leaves};
 ghost use Rattle.rd_list.specs.Lists as lists;
@@ -17,7 +17,7 @@ ghost use Rattle.rd_list.specs.Lists as lists;
 use rd_geom::Rect;
 use rd_item::Item;
 use rd_keys::{BoxKey, Part};
-use rd_list::{Block, Entry, Kept, ListView, covered_by};
+use rd_list::{Chunk, Entry, Kept, ListView, covered_by};
 use std::sync::ledger::Ledger;
 
 fn is_outline(part: Part) -> bool
@@ -129,26 +129,26 @@ fn left_below<A: Ledger>(entries: &[Entry<A>], from: usize, x: i32, y: i32) -> u
 fn topmost_of<A: Ledger>(list: &Kept<A>, x: i32, y: i32) -> Option<BoxKey>
     ensures { result ≡ lists.hit (kept_leaves list.now.entries) x y }
 {
-    topmost_by(&list.blocks, &list.entries, x, y)
+    topmost_by(&list.chunks, &list.entries, x, y)
 }
 
-/// The same of a level, block by block from the top down.
+/// The same of a level, chunk by chunk from the top down.
 #[cycle(hitting)]
-fn topmost_by<A: Ledger>(blocks: &[Block], entries: &[Entry<A>], x: i32, y: i32) -> Option<BoxKey>
-    requires { Covers blocks.now entries.now }
+fn topmost_by<A: Ledger>(chunks: &[Chunk], entries: &[Entry<A>], x: i32, y: i32) -> Option<BoxKey>
+    requires { Covers chunks.now entries.now }
     ensures { result ≡ lists.hit (shown entries.now) x y }
 {
-    let mut number = blocks.len();
-    let mut end = covered_by(blocks, entries);
+    let mut number = chunks.len();
+    let mut end = covered_by(chunks, entries);
     let found = topmost(&entries[end..], x, y);
     if found.is_some() {
         return found;
     }
     while number > 0 {
         number -= 1;
-        let block = blocks[number];
-        let start = end - block.count;
-        let found = topmost_in_block(block, &entries[start..end], x, y);
+        let chunk = chunks[number];
+        let start = end - chunk.count;
+        let found = topmost_in_chunk(chunk, &entries[start..end], x, y);
         if found.is_some() {
             return found;
         }
@@ -157,13 +157,13 @@ fn topmost_by<A: Ledger>(blocks: &[Block], entries: &[Entry<A>], x: i32, y: i32)
     None
 }
 
-/// The same of the entries of a block, unless the pixel is outside of its hull.
+/// The same of the entries of a chunk, unless the pixel is outside of its hull.
 #[cycle(hitting)]
-fn topmost_in_block<A: Ledger>(block: Block, entries: &[Entry<A>], x: i32, y: i32) -> Option<BoxKey>
-    requires { block.is_open ≡ false → Tells block entries.now }
+fn topmost_in_chunk<A: Ledger>(chunk: Chunk, entries: &[Entry<A>], x: i32, y: i32) -> Option<BoxKey>
+    requires { chunk.is_open ≡ false → Tells chunk entries.now }
     ensures { result ≡ lists.hit (shown entries.now) x y }
 {
-    if !block.is_open && misses(block.told.hull, x, y) {
+    if !chunk.is_open && misses(chunk.told.hull, x, y) {
         return None;
     }
     topmost(entries, x, y)

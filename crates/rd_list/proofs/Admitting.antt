@@ -1,15 +1,15 @@
--- An entry comes to a place of a level with blocks.
+-- An entry comes to a place of a level with chunks.
 use Rattle.std.proofs.Common.{◌≡◌, refl, ap, ◌∙◌, sym, subst, ℕ, zero, suc, ◌+◌, ◌-◌, ◌<◌, ◌≤◌, Bool, false, List, [], ◌∷◌, length, take, drop, get_or, set, Option, Some, None, inl, inr, ◌⊎◌, arith}
 use Rattle.std.specs.Prelude.{IfSome, IsTrue, MatchOption, ◌≢◌}
 use Rattle.std.proofs.lemmas.Bool.{cases_lt}
 use Rattle.std.proofs.lemmas.List.{length-take-le, length-drop, get_or-take, get_or-drop, drop-drop}
 use Rattle.rd_geom.specs.Plane.{Rectangle}
 use Rattle.rd_keys.specs.declared.range.KeyRange.{KeyRange}
-use Rattle.rd_list.specs.Blocks.{IsHeld, AreHeld, AreNamed, IsTold, IsWider, Tells, Covers, total, leaf_count, ChangesTo, IsAt, IsFound, IsLeaf}
+use Rattle.rd_list.specs.Chunks.{IsHeld, AreHeld, AreNamed, IsTold, IsWider, Tells, Covers, total, leaf_count, ChangesTo, IsAt, IsFound, IsLeaf}
 use Rattle.rd_list.specs.KeptView.{kept_entries}
 use Rattle.rd_list.proofs.Covering.{count_append, held_wider, named_on}
-use Rattle.rd_list.specs.declared.blocks.Block.{Block}
-use Rattle.rd_list.specs.declared.told.Told.{Told}
+use Rattle.rd_list.specs.declared.chunks.Chunk.{Chunk}
+use Rattle.rd_list.specs.declared.told.ChunkBounds.{ChunkBounds}
 use Rattle.rd_list.specs.declared.kept.Entry.{Entry}
 use Rattle.rd_list.specs.declared.kept.Entry.TheVariants.{Leaf, Group}
 
@@ -72,8 +72,8 @@ module _ {A : Type 0} where
       let b = length-drop n ys in
       same_lists (drop n xs) (drop n ys) (omega (arith, a, b, e)) (λ k d m. get_or-drop n xs k d ∙ f (n + k) d (omega arith) ∙ sym (get_or-drop n ys k d))
 
-  -- blocks say nothing of the entries past them
-  pub covers_same : (bs : List Block) (xs ys : List (Entry A)) → Covers bs xs → length xs ≡ length ys → ((k : ℕ) (d : Entry A) → k < total bs → get_or xs k d ≡ get_or ys k d) → Covers bs ys
+  -- chunks say nothing of the entries past them
+  pub covers_same : (bs : List Chunk) (xs ys : List (Entry A)) → Covers bs xs → length xs ≡ length ys → ((k : ℕ) (d : Entry A) → k < total bs → get_or xs k d ≡ get_or ys k d) → Covers bs ys
   covers_same [] xs ys c e f = tt
   covers_same (b ∷ bs) xs ys c e f =
       let l = c.0 in
@@ -129,8 +129,8 @@ module _ {A : Type 0} where
       let rest = count_put n place xs ys (omega (arith, p)) (omega (arith, l)) (omega (arith, e)) (λ k d m. f (suc k) d (λ q. m (omega (arith, q)))) g h in
       count_cons y (take n ys) ∙ ap (λ z. leaf_count (z ∷ []) + leaf_count (take n ys)) first ∙ ap (λ m. leaf_count (x ∷ []) + m) rest ∙ sym (count_cons x (take n xs))
 
-  -- what a block must be that stands in place of another
-  pub record Serves (b new : Block) (x y : Entry A) : Type 0 where
+  -- what a chunk must be that stands in place of another
+  pub record Serves (b new : Chunk) (x y : Entry A) : Type 0 where
     pub count : new.count ≡ b.count
     pub closed : new.is_open ≡ false → (b ≡ new) × IsHeld new.told.hull x × IsLeaf x × IsLeaf y × IsNamed new.told.keys x
 
@@ -139,8 +139,8 @@ module _ {A : Type 0} where
   read_some (u ∷ us) zero q = (u, refl)
   read_some (u ∷ us) (suc i) q = read_some us i (omega (arith, q))
 
-  pub covers_put : (bs : List Block) (xs ys : List (Entry A)) (at start place : ℕ) (new : Block) → Covers bs xs → start ≡ total (take at bs) → start ≤ place → at < length bs
-      → ((b : Block) → b ≡ get_or bs at b → (place < start + b.count) × ((x y : Entry A) → place < length ys → x ≡ get_or ys place x → y ≡ get_or xs place y → Serves b new x y) × (new.count ≡ b.count))
+  pub covers_put : (bs : List Chunk) (xs ys : List (Entry A)) (at start place : ℕ) (new : Chunk) → Covers bs xs → start ≡ total (take at bs) → start ≤ place → at < length bs
+      → ((b : Chunk) → b ≡ get_or bs at b → (place < start + b.count) × ((x y : Entry A) → place < length ys → x ≡ get_or ys place x → y ≡ get_or xs place y → Serves b new x y) × (new.count ≡ b.count))
       → length xs ≡ length ys → ((k : ℕ) (d : Entry A) → k ≢ place → get_or ys k d ≡ get_or xs k d) → Covers (set bs at new) ys
   covers_put [] xs ys at start place new c s l h w e f = absurd (omega (arith, h))
   covers_put (b ∷ bs) xs ys zero start place new c s l h w e f =
@@ -188,53 +188,53 @@ module _ {A : Type 0} where
             (λ k d q. get_or-drop b.count ys k d ∙ f (b.count + k) d (λ r. q (omega (arith, r))) ∙ sym (get_or-drop b.count xs k d)),
       )
 
-  -- an open block serves for any entry
-  pub opened_serves : (b new : Block) (x y : Entry A) → new.count ≡ b.count → IsTrue new.is_open → Serves b new x y
+  -- an open chunk serves for any entry
+  pub opened_serves : (b new : Chunk) (x y : Entry A) → new.count ≡ b.count → IsTrue new.is_open → Serves b new x y
   opened_serves b new x y e t = record { count = e; closed = λ f. absurd (clash new.is_open f t) }
 
   -- one that says of the leaf all that is told of it stays, where another leaf was
-  pub same_serves : (b : Block) (told : Option Told) (x y : Entry A) → MatchOption told ⊥ (λ t. IsWider t b.told) → IfSome told (λ t. IsTold t (x ∷ []) × IsLeaf x × IsLeaf y) → Serves b b x y
+  pub same_serves : (b : Chunk) (told : Option ChunkBounds) (x y : Entry A) → MatchOption told ⊥ (λ t. IsWider t b.told) → IfSome told (λ t. IsTold t (x ∷ []) × IsLeaf x × IsLeaf y) → Serves b b x y
   same_serves b None x y a h = absurd a
   same_serves b (Some t) x y a h = record {
     count = refl;
     closed = λ f. (refl, held_wider t.hull b.told.hull x a.hull h.0.0.0, h.1, h.2, named_on t.keys b.told.keys (x ∷ []) a.keys h.0.2);
   }
 
-  -- an entry comes to a place of a block, which is another one then, or the same
-  pub put_found : (bs : List Block) (at start place : ℕ) (told : Option Told) (new : Block) → at < length bs → IsAt bs at start → IsFound bs at start place
-      → ((b : Block) → b ≡ get_or bs at b → (x y : Entry A) → IfSome told (λ t. IsTold t (x ∷ []) × IsLeaf x × IsLeaf y) → Serves b new x y) → ((b : Block) → b ≡ get_or bs at b → new.count ≡ b.count)
+  -- an entry comes to a place of a chunk, which is another one then, or the same
+  pub put_found : (bs : List Chunk) (at start place : ℕ) (told : Option ChunkBounds) (new : Chunk) → at < length bs → IsAt bs at start → IsFound bs at start place
+      → ((b : Chunk) → b ≡ get_or bs at b → (x y : Entry A) → IfSome told (λ t. IsTold t (x ∷ []) × IsLeaf x × IsLeaf y) → Serves b new x y) → ((b : Chunk) → b ≡ get_or bs at b → new.count ≡ b.count)
       → (xs ys : List (Entry A)) → Covers bs xs → ChangesTo place told xs ys → Covers (set bs at new) ys
   put_found bs at start place told new h a found serves count xs ys c to =
       covers_put bs xs ys at start place new c a.1 found.0 h
       (λ b is. (found.1 b h is, (λ x y l e d. serves b is x y (to.there x y l e d)), count b is))
       (sym to.size) to.others
 
-  -- no block has the place
-  pub put_past : (bs : List Block) (at start place : ℕ) (told : Option Told) → length bs ≤ at → IsAt bs at start → IsFound bs at start place → (xs ys : List (Entry A)) → Covers bs xs → ChangesTo place told xs ys → Covers bs ys
+  -- no chunk has the place
+  pub put_past : (bs : List Chunk) (at start place : ℕ) (told : Option ChunkBounds) → length bs ≤ at → IsAt bs at start → IsFound bs at start place → (xs ys : List (Entry A)) → Covers bs xs → ChangesTo place told xs ys → Covers bs ys
   put_past bs at start place told h a found xs ys c to =
       let s = a.1 in
       let l = found.0 in
       let whole : total (take at bs) ≡ total bs = ap total (take_whole bs at h) in
       covers_same bs xs ys c (sym to.size) (λ k d j. sym (to.others k d (λ q. omega (arith, q, j, s, l, whole))))
     where
-      take_whole : (cs : List Block) (n : ℕ) → length cs ≤ n → take n cs ≡ cs
+      take_whole : (cs : List Chunk) (n : ℕ) → length cs ≤ n → take n cs ≡ cs
       take_whole [] zero m = refl
       take_whole [] (suc n) m = refl
       take_whole (x ∷ cs) zero m = absurd (omega (arith, m))
       take_whole (x ∷ cs) (suc n) m = ap (λ ds. x ∷ ds) (take_whole cs n (omega (arith, m)))
 
-  -- ---- what blocks say of some entries
+  -- ---- what chunks say of some entries
 
-  -- a block that is found, and what it says
-  pub found_told : (bs : List Block) (xs : List (Entry A)) (at start : ℕ) (b : Block) → Covers bs xs → IsAt bs at start → at < length bs → b ≡ get_or bs at b
+  -- a chunk that is found, and what it says
+  pub found_told : (bs : List Chunk) (xs : List (Entry A)) (at start : ℕ) (b : Chunk) → Covers bs xs → IsAt bs at start → at < length bs → b ≡ get_or bs at b
       → (start + b.count ≤ length xs) × (b.is_open ≡ false → Tells b (take b.count (drop start xs)))
   found_told [] xs at start b c s h is = absurd (omega (arith, h))
   found_told (x ∷ bs) xs zero start b c s h is =
       let e : start ≡ 0 = s.1 in
       let m = c.0 in
       let same : x ≡ b = sym is in
-      let n : b.count ≡ x.count = ap (λ (y : Block). y.count) is in
-      (omega (arith, e, m, n), (λ f. rw e (subst (λ (y : Block). y.is_open ≡ false → Tells y (take y.count xs)) same c.1 f)))
+      let n : b.count ≡ x.count = ap (λ (y : Chunk). y.count) is in
+      (omega (arith, e, m, n), (λ f. rw e (subst (λ (y : Chunk). y.is_open ≡ false → Tells y (take y.count xs)) same c.1 f)))
   found_told (x ∷ bs) xs (suc at) start b c s h is =
       let e : start ≡ x.count + total (take at bs) = s.1 in
       let l = s.0 in

@@ -1,10 +1,10 @@
--- Blocks, one after another.
+-- Chunks, one after another.
 use Rattle.std.proofs.Common.{◌≡◌, refl, ap, ◌∙◌, sym, subst, ℕ, zero, suc, ◌+◌, ◌-◌, ◌<◌, ◌==◌, ◌≤◌, false, List, [], ◌∷◌, ◌++◌, length, take, drop, get_or, Option, None, Some, arith, rules}
 use Rattle.std.specs.Prelude.{IfSome}
 use Rattle.std.proofs.lemmas.List.{length-append, length-take-le, length-drop, take-append-le, drop-append-le, take-append-drop, take_more, drop-drop}
 use Rattle.rd_geom.specs.Plane.{Rectangle, IsWithin}
 use Rattle.rd_item.specs.Items.{Made}
-use Rattle.rd_list.specs.Blocks.{IsHeld, AreHeld, AreNamed, AreWithin, IsGroupTold, IsListTold, IsTold, Tells, Covers, CoversAll, total, leaf_count, IsAt}
+use Rattle.rd_list.specs.Chunks.{IsHeld, AreHeld, AreNamed, AreWithin, IsGroupTold, IsListTold, IsTold, Tells, Covers, CoversAll, total, leaf_count, IsAt}
 use Rattle.rd_list.specs.Internal.Telling.{IsBoth}
 use Rattle.rd_keys.specs.Keys.{BoxKey}
 use Rattle.rd_keys.specs.Ranges.{IsAmong}
@@ -17,20 +17,20 @@ use Rattle.rd_list.specs.KeptView.{kept_entries}
 use Rattle.rd_list.specs.declared.kept.Group.{Group as GroupOf}
 use Rattle.rd_list.proofs.Merges.Levelling.{flat-join}
 use Rattle.rd_list.proofs.News.{kept-append}
-use Rattle.rd_list.specs.declared.blocks.Block.{Block}
-use Rattle.rd_list.specs.declared.told.Told.{Told}
+use Rattle.rd_list.specs.declared.chunks.Chunk.{Chunk}
+use Rattle.rd_list.specs.declared.told.ChunkBounds.{ChunkBounds}
 use Rattle.rd_list.specs.declared.kept.Entry.{Entry}
 use Rattle.rd_list.specs.declared.kept.Entry.TheVariants.{Leaf, Group}
 
-pub total_append : (bs cs : List Block) → total (bs ++ cs) ≡ total bs + total cs
+pub total_append : (bs cs : List Chunk) → total (bs ++ cs) ≡ total bs + total cs
 total_append [] cs = omega arith
 total_append (b ∷ bs) cs = let e = total_append bs cs in omega (arith, e)
 
-pub total_next : (bs : List Block) (i : ℕ) (b : Block) → i < length bs → b ≡ get_or bs i b → total (take (i + 1) bs) ≡ total (take i bs) + b.count
+pub total_next : (bs : List Chunk) (i : ℕ) (b : Chunk) → i < length bs → b ≡ get_or bs i b → total (take (i + 1) bs) ≡ total (take i bs) + b.count
 total_next bs i b h is = ap total (take_more bs i b h ∙ ap (λ c. take i bs ++ c ∷ []) (sym is)) ∙ total_append (take i bs) (b ∷ []) ∙ (let e : total (take i bs) + (b.count + 0) ≡ total (take i bs) + b.count = omega arith in e)
 
--- on to the next block
-pub at_next : (bs : List Block) (i start place n : ℕ) (b : Block) → i < length bs → b ≡ get_or bs i b → n ≡ b.count → IsAt bs i start → start ≤ place → n ≤ place - start → IsAt bs (i + 1) (start + n) × (start + n ≤ place)
+-- on to the next chunk
+pub at_next : (bs : List Chunk) (i start place n : ℕ) (b : Chunk) → i < length bs → b ≡ get_or bs i b → n ≡ b.count → IsAt bs i start → start ≤ place → n ≤ place - start → IsAt bs (i + 1) (start + n) × (start + n ≤ place)
 at_next bs i start place n b h is e at l c =
     let s = at.1 in
     let t = total_next bs i b h is in
@@ -60,7 +60,7 @@ named_both r (leaf m rest) ys h k = (h.0, named_both r rest ys h.1 k)
 named_both r (group g inner rest) ys h k = (h.0, h.1, h.2, named_both r rest ys h.3 k)
 
 -- what is told of a list, and the key of its group beside
-pub with_key : (t : Told) (keys : KeyRange) (key : BoxKey) (list : Entries (Ordered EntryKey Wrapper) Made) → ((k : BoxKey) → IsAmong t.keys k → IsAmong keys k) → IsAmong keys key → is_empty list ≡ false → IsListTold t list
+pub with_key : (t : ChunkBounds) (keys : KeyRange) (key : BoxKey) (list : Entries (Ordered EntryKey Wrapper) Made) → ((k : BoxKey) → IsAmong t.keys k → IsAmong keys k) → IsAmong keys key → is_empty list ≡ false → IsListTold t list
     → IsGroupTold (record { hull = t.hull; leaves = t.leaves; keys = keys }) key list
 with_key t keys key list w k e h = ((h.0, h.1, named_wider t.keys keys list w h.2), k, e)
 
@@ -93,7 +93,7 @@ module _ {A : Type 0} where
   named_on r s es w h = named_wider r s (kept_entries es) w h
 
   -- what is told of some entries and of those after them
-  pub told_both : (a b t : Told) (xs ys : List (Entry A)) → IsTold a xs → IsTold b ys → IsBoth a b t → IsTold t (xs ++ ys)
+  pub told_both : (a b t : ChunkBounds) (xs ys : List (Entry A)) → IsTold a xs → IsTold b ys → IsBoth a b t → IsTold t (xs ++ ys)
   told_both a b t xs ys h k j =
       let c = count_append xs ys in
       let f = h.1 in
@@ -105,12 +105,12 @@ module _ {A : Type 0} where
       )
 
   -- what is told of some entries and of one more, if it can be told
-  pub told_if : (o : Option Told) (a b : Told) (es : List (Entry A)) (x : Entry A) → IfSome o (IsBoth a b) → IsTold a es → IsTold b (x ∷ []) → IfSome o (λ t. IsTold t (es ++ x ∷ []))
+  pub told_if : (o : Option ChunkBounds) (a b : ChunkBounds) (es : List (Entry A)) (x : Entry A) → IfSome o (IsBoth a b) → IsTold a es → IsTold b (x ∷ []) → IfSome o (λ t. IsTold t (es ++ x ∷ []))
   told_if None a b es x j h k = tt
   told_if (Some t) a b es x j h k = told_both a b t es (x ∷ []) h k j
 
   -- a list, by what is told of its entries
-  pub told_list : (t : Told) (es : List (Entry A)) (list : Entries (Ordered EntryKey Wrapper) Made) → kept_entries es ≡ list → IsTold t es → IsListTold t list
+  pub told_list : (t : ChunkBounds) (es : List (Entry A)) (list : Entries (Ordered EntryKey Wrapper) Made) → kept_entries es ≡ list → IsTold t es → IsListTold t list
   told_list t es list e h = subst (IsListTold t) e (held_leaves t.hull es h.0, h.1, h.2)
 
   -- a level without entries
@@ -120,15 +120,15 @@ module _ {A : Type 0} where
   none_is_empty (Group g ∷ es) = not_none (length es)
 
   -- a group, by what is told of its list
-  pub told_group : (t : Told) (g : GroupOf A) (x : Entry A) → x ≡ Group g → IsGroupTold t g.key g.inner.entries → IsTold t (x ∷ [])
+  pub told_group : (t : ChunkBounds) (g : GroupOf A) (x : Entry A) → x ≡ Group g → IsGroupTold t g.key g.inner.entries → IsTold t (x ∷ [])
   told_group t g x is h =
       let count = h.0.1 in
       let end = length-append (flat g.inner.entries) [] in
       rw is ((h.0.0, tt), omega (arith, count, end), (h.1, h.2, h.0.2, tt))
 
-  -- ---- blocks one after another
+  -- ---- chunks one after another
 
-  pub covers_more : (bs : List Block) (xs ys : List (Entry A)) → Covers bs xs → Covers bs (xs ++ ys)
+  pub covers_more : (bs : List Chunk) (xs ys : List (Entry A)) → Covers bs xs → Covers bs (xs ++ ys)
   covers_more [] xs ys c = tt
   covers_more (b ∷ bs) xs ys c =
       let l = c.0 in
@@ -139,7 +139,7 @@ module _ {A : Type 0} where
         subst (Covers bs) (sym (drop-append-le b.count xs ys l)) (covers_more bs (drop b.count xs) ys c.2),
       )
 
-  pub covers_append : (bs cs : List Block) (xs ys : List (Entry A)) → CoversAll bs xs → Covers cs ys → Covers (bs ++ cs) (xs ++ ys)
+  pub covers_append : (bs cs : List Chunk) (xs ys : List (Entry A)) → CoversAll bs xs → Covers cs ys → Covers (bs ++ cs) (xs ++ ys)
   covers_append [] cs [] ys c d = d
   covers_append [] cs (x ∷ xs) ys c d = absurd (let e = c.1 in omega (arith, e))
   covers_append (b ∷ bs) cs xs ys c d =
@@ -154,7 +154,7 @@ module _ {A : Type 0} where
         subst (Covers (bs ++ cs)) (sym (drop-append-le b.count xs ys l)) (covers_append bs cs (drop b.count xs) ys (c.0.2, t) d),
       )
 
-  pub all_append : (bs cs : List Block) (xs ys : List (Entry A)) → CoversAll bs xs → CoversAll cs ys → CoversAll (bs ++ cs) (xs ++ ys)
+  pub all_append : (bs cs : List Chunk) (xs ys : List (Entry A)) → CoversAll bs xs → CoversAll cs ys → CoversAll (bs ++ cs) (xs ++ ys)
   all_append bs cs xs ys c d =
       let e = c.1 in
       let f = d.1 in
@@ -162,8 +162,8 @@ module _ {A : Type 0} where
       let n = length-append xs ys in
       (covers_append bs cs xs ys c d.0, omega (arith, e, f, m, n))
 
-  -- one block of so many entries
-  pub one_covers : (b : Block) (es : List (Entry A)) → length es ≡ b.count → (b.is_open ≡ false → Tells b es) → CoversAll (b ∷ []) es
+  -- one chunk of so many entries
+  pub one_covers : (b : Chunk) (es : List (Entry A)) → length es ≡ b.count → (b.is_open ≡ false → Tells b es) → CoversAll (b ∷ []) es
   one_covers b es e h =
       let l : b.count ≤ length es = omega (arith, e) in
       let same : take b.count es ≡ es = subst (λ n. take n es ≡ es) e (take_whole es) in
@@ -182,12 +182,12 @@ module _ {A : Type 0} where
   take_on [] (suc p) n = take_nil (suc p + n) ∙ sym (take_nil n)
   take_on (e ∷ es) (suc p) n = ap (λ m. take m (e ∷ es)) (let s : suc p + n ≡ suc (p + n) = omega arith in s) ∙ ap (λ ys. e ∷ ys) (take_on es p n)
 
-  -- blocks of the entries before a place are some of all of them
-  pub covers_all : (bs : List Block) (p : ℕ) (es : List (Entry A)) → Covers bs (take p es) → Covers bs es
+  -- chunks of the entries before a place are some of all of them
+  pub covers_all : (bs : List Chunk) (p : ℕ) (es : List (Entry A)) → Covers bs (take p es) → Covers bs es
   covers_all bs p es c = subst (Covers bs) (take-append-drop p es) (covers_more bs (take p es) (drop p es) c)
 
-  -- the next block, on top of those of the entries before it
-  pub next_covers : (bs : List Block) (b : Block) (es : List (Entry A)) (p : ℕ) → CoversAll bs (take p es) → b.count ≤ length es - p → (b.is_open ≡ false → Tells b (take b.count (drop p es))) → CoversAll (bs ++ b ∷ []) (take (p + b.count) es)
+  -- the next chunk, on top of those of the entries before it
+  pub next_covers : (bs : List Chunk) (b : Chunk) (es : List (Entry A)) (p : ℕ) → CoversAll bs (take p es) → b.count ≤ length es - p → (b.is_open ≡ false → Tells b (take b.count (drop p es))) → CoversAll (bs ++ b ∷ []) (take (p + b.count) es)
   next_covers bs b es p c l h =
       let n = length-drop p es in
       let m : length (take b.count (drop p es)) ≡ b.count = length-take-le b.count (drop p es) (omega (arith, l, n)) in
@@ -201,7 +201,7 @@ module _ {A : Type 0} where
   pub slice_within : (es : List (Entry A)) (p to n : ℕ) → p ≤ to → to ≤ length es → n ≤ length (take (to - p) (drop p es)) → p + n ≤ to
   slice_within es p to n l m h = let e = slice_length es p to l m in omega (arith, e, h, l)
 
-  pub cover_next : (old new : List Block) (b : Block) (es : List (Entry A)) (p to : ℕ) → p ≤ to → to ≤ length es → CoversAll old (take p es) → b.count ≤ length (take (to - p) (drop p es))
+  pub cover_next : (old new : List Chunk) (b : Chunk) (es : List (Entry A)) (p to : ℕ) → p ≤ to → to ≤ length es → CoversAll old (take p es) → b.count ≤ length (take (to - p) (drop p es))
       → (b.is_open ≡ false → Tells b (take b.count (take (to - p) (drop p es)))) → new ≡ old ++ b ∷ [] → CoversAll new (take (p + b.count) es)
   cover_next old new b es p to l m c w h is =
       let e = slice_length es p to l m in
@@ -215,8 +215,8 @@ module _ {A : Type 0} where
       inner [] (suc i) (suc j) h = refl
       inner (x ∷ xs) (suc i) (suc j) h = ap (λ ys. x ∷ ys) (inner xs i j (omega (arith, h)))
 
-  -- of blocks that are still ahead, the first one
-  pub ahead_first : (bs : List Block) (es : List (Entry A)) (i p : ℕ) (b : Block) → i < length bs → b ≡ get_or bs i b → p ≤ length es → Covers (drop i bs) (drop p es)
+  -- of chunks that are still ahead, the first one
+  pub ahead_first : (bs : List Chunk) (es : List (Entry A)) (i p : ℕ) (b : Chunk) → i < length bs → b ≡ get_or bs i b → p ≤ length es → Covers (drop i bs) (drop p es)
       → (b.count ≤ length es - p) × (b.is_open ≡ false → Tells b (take b.count (drop p es))) × Covers (drop (i + 1) bs) (drop (p + b.count) es)
   ahead_first bs es i p b h is l c =
       let first : drop i bs ≡ b ∷ drop (i + 1) bs = drop_first bs i b h is in
@@ -225,12 +225,12 @@ module _ {A : Type 0} where
       let m = d.0 in
       (omega (arith, m, n), d.1, subst (Covers (drop (i + 1) bs)) (drop-drop b.count p es) d.2)
     where
-      drop_first : (xs : List Block) (j : ℕ) (x : Block) → j < length xs → x ≡ get_or xs j x → drop j xs ≡ x ∷ drop (j + 1) xs
+      drop_first : (xs : List Chunk) (j : ℕ) (x : Chunk) → j < length xs → x ≡ get_or xs j x → drop j xs ≡ x ∷ drop (j + 1) xs
       drop_first [] j x k e = absurd (omega (arith, k))
       drop_first (y ∷ ys) zero x k e = ap (λ z. z ∷ ys) (sym e)
       drop_first (y ∷ ys) (suc j) x k e = drop_first ys j x (omega (arith, k)) e ∙ ap (λ n. x ∷ drop n (y ∷ ys)) (let s : suc (j + 1) ≡ suc j + 1 = omega arith in s)
 
-  -- a block that stays, on top of those of the entries before it
-  pub stay_next : (old new : List Block) (b : Block) (es : List (Entry A)) (p : ℕ) → CoversAll old (take p es) → b.count ≤ length es - p → (b.is_open ≡ false → Tells b (take b.count (drop p es)))
+  -- a chunk that stays, on top of those of the entries before it
+  pub stay_next : (old new : List Chunk) (b : Chunk) (es : List (Entry A)) (p : ℕ) → CoversAll old (take p es) → b.count ≤ length es - p → (b.is_open ≡ false → Tells b (take b.count (drop p es)))
       → new ≡ old ++ b ∷ [] → CoversAll new (take (p + b.count) es)
   stay_next old new b es p c l h is = subst (λ bs. CoversAll bs (take (p + b.count) es)) (sym is) (next_covers old b es p c l h)

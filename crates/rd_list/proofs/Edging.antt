@@ -5,7 +5,7 @@ use Rattle.rd_geom.specs.Plane.{Rectangle, IsWithin}
 use Rattle.rd_geom.proofs.Pixels.{edges_within}
 use Rattle.rd_item.specs.Items.{Made}
 use Rattle.rd_keys.specs.Ranges.{IsAmong}
-use Rattle.rd_list.specs.Blocks.{AreHeld, AreNamed, IsTold, leaf_count}
+use Rattle.rd_list.specs.Chunks.{AreHeld, AreNamed, IsTold, leaf_count}
 use Rattle.rd_list.specs.Internal.Edged.{AreInside, IsBetween, IsFurther, IsInside, IsSpanned}
 use Rattle.rd_list.specs.KeptView.{kept_entries}
 use Rattle.rd_list.specs.declared.edges.Edges.{Edges}

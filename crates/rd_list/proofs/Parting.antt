@@ -3,7 +3,7 @@ use Rattle.std.proofs.Common.{◌≡◌, ℕ, zero, suc, ◌-◌, ◌≤◌, Lis
 use Rattle.std.proofs.lemmas.List.{length-drop, take_all}
 use Rattle.rd_geom.specs.Plane.{Rectangle}
 use Rattle.rd_item.specs.Items.{Made}
-use Rattle.rd_list.specs.Blocks.{AreWithin}
+use Rattle.rd_list.specs.Chunks.{AreWithin}
 use Rattle.rd_list.specs.Entries.{list_size}
 use Rattle.rd_list.specs.KeptView.{kept_entries}
 use Rattle.rd_list.specs.declared.kept.Entry.{Entry}

@@ -2,11 +2,11 @@
 ghost use Rattle.std.specs.Prelude.{IfSome, List, ◌≡◌, ◌≤◌, length, take};
 ghost use Rattle.rd_list.specs.declared.kept.Entry.{Entry as KeptEntry};
 ghost use Rattle.rd_list.specs.declared.kept.Entry.TheVariants as variants;
-ghost use Rattle.rd_list.specs.Blocks.{IsTold};
+ghost use Rattle.rd_list.specs.Chunks.{IsTold};
 ghost use Rattle.rd_list.specs.Internal.Edged.{AreInside, IsFurther, IsInside, IsSpanned};
 
 use crate::kept::Entry;
-use crate::told::{NOTHING, Told};
+use crate::told::{ChunkBounds, NOTHING};
 use rd_geom::{MAX_REACH, Rect};
 use rd_item::Item;
 use rd_keys::KeyRange;
@@ -83,13 +83,13 @@ fn spanned(edges: &Edges) -> Option<Rect>
 }
 
 /// What is told of leaves by their edges. None where these reach further than a rectangle may.
-pub(crate) fn leaves_told<A: Ledger>(leaves: &Leaves) -> Option<Told>
+pub(crate) fn leaves_told<A: Ledger>(leaves: &Leaves) -> Option<ChunkBounds>
     ensures { (es : List (KeptEntry A)) → AreInside leaves.now.edges es → length es ≡ leaves.now.count → IfSome result (λ t. IsTold t es) }
 {
     if leaves.count == 0 {
         return Some(NOTHING);
     }
-    Some(Told {
+    Some(ChunkBounds {
         hull: spanned(&leaves.edges)?,
         leaves: leaves.count,
         keys: leaves.edges.keys,

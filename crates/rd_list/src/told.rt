@@ -3,12 +3,12 @@
 ghost use Rattle.std.specs.Prelude.{IfSome, IsTrue, List, ◌≡◌, ◌∷◌, ◌++◌, []};
 ghost use Rattle.rd_list.specs.declared.kept.Entry.{Entry as KeptEntry};
 ghost use Rattle.rd_list.specs.declared.kept.Entry.TheVariants as variants;
-ghost use Rattle.rd_list.specs.Blocks.{Covers, IsGroupTold, IsListTold, IsTold, IsWider};
+ghost use Rattle.rd_list.specs.Chunks.{Covers, IsGroupTold, IsListTold, IsTold, IsWider};
 ghost use Rattle.rd_list.specs.Entries.{is_empty};
 ghost use Rattle.rd_list.specs.KeptView.{kept_entries};
 ghost use Rattle.rd_list.specs.Internal.Telling.{IsBoth};
 
-use crate::blocks::Block;
+use crate::chunks::Chunk;
 use crate::kept::{Entry, Kept};
 use rd_geom::{Rect, hull, is_within};
 use rd_item::Item;
@@ -18,14 +18,14 @@ use std::sync::ledger::Ledger;
 /// What is told of some entries: all that may be seen of them is in the hull, they are or hold so many leaves, and the boxes of these
 /// leaves and of the groups round them are among the keys. No group of them is empty.
 #[derive(Clone, Copy)]
-pub struct Told {
+pub struct ChunkBounds {
     pub hull: Rect,
     pub leaves: usize,
     pub keys: KeyRange,
 }
 
 /// What is told of no entry.
-pub(crate) const NOTHING: Told = Told {
+pub(crate) const NOTHING: ChunkBounds = ChunkBounds {
     hull: Rect::EMPTY,
     leaves: 0,
     keys: KeyRange::NONE,
@@ -33,7 +33,7 @@ pub(crate) const NOTHING: Told = Told {
 
 /// Does what is told of other entries say all that the first says?
 #[inline(always)]
-pub(crate) fn is_wider(told: Told, wider: Told) -> bool
+pub(crate) fn is_wider(told: ChunkBounds, wider: ChunkBounds) -> bool
     ensures { IsTrue result → IsWider told wider }
 {
     is_within(told.hull, wider.hull) && wider.keys.has_all(told.keys)
@@ -41,30 +41,30 @@ pub(crate) fn is_wider(told: Told, wider: Told) -> bool
 
 /// What is told of some entries and of some more. None where that would be too many leaves.
 #[inline(always)]
-fn joined(told: &Told, more: &Told) -> Option<Told>
+fn joined(told: &ChunkBounds, more: &ChunkBounds) -> Option<ChunkBounds>
     ensures { IfSome result (IsBoth told.now more.now) }
 {
     let leaves = told.leaves.checked_add(more.leaves)?;
-    Some(Told {
+    Some(ChunkBounds {
         hull: hull(told.hull, more.hull),
         leaves,
         keys: told.keys.joined(more.keys),
     })
 }
 
-/// What blocks tell of all entries of a level. None where one is open, or an entry has none.
-fn told_by<A: Ledger>(blocks: &[Block], entries: &[Entry<A>]) -> Option<Told>
-    requires { Covers blocks.now entries.now }
+/// What chunks tell of all entries of a level. None where one is open, or an entry has none.
+fn told_by<A: Ledger>(chunks: &[Chunk], entries: &[Entry<A>]) -> Option<ChunkBounds>
+    requires { Covers chunks.now entries.now }
     ensures { IfSome result (λ t. IsTold t entries.now) }
 {
     let mut told = NOTHING;
     let mut place = 0;
-    for block in blocks {
-        if block.is_open {
+    for chunk in chunks {
+        if chunk.is_open {
             return None;
         }
-        told = joined(&told, &block.told)?;
-        place += block.count;
+        told = joined(&told, &chunk.told)?;
+        place += chunk.count;
     }
     if place < entries.len() {
         return None;
@@ -72,11 +72,11 @@ fn told_by<A: Ledger>(blocks: &[Block], entries: &[Entry<A>]) -> Option<Told>
     Some(told)
 }
 
-/// What blocks tell of a list.
-pub(crate) fn list_told<A: Ledger>(list: &Kept<A>) -> Option<Told>
+/// What chunks tell of a list.
+pub(crate) fn list_told<A: Ledger>(list: &Kept<A>) -> Option<ChunkBounds>
     ensures { IfSome result (λ t. IsListTold t list.now.entries) }
 {
-    told_by(&list.blocks, &list.entries)
+    told_by(&list.chunks, &list.entries)
 }
 
 /// Is there no entry?
@@ -88,14 +88,14 @@ fn has_none<A: Ledger>(entries: &[Entry<A>]) -> bool
 }
 
 /// What is told of the group of a box with this list. None of an empty one.
-fn group_told<A: Ledger>(key: BoxKey, list: &Kept<A>) -> Option<Told>
+fn group_told<A: Ledger>(key: BoxKey, list: &Kept<A>) -> Option<ChunkBounds>
     ensures { IfSome result (λ t. IsGroupTold t key list.now.entries) }
 {
     if has_none(&list.entries) {
         return None;
     }
     let told = list_told(list)?;
-    Some(Told {
+    Some(ChunkBounds {
         hull: told.hull,
         leaves: told.leaves,
         keys: told.keys.joined(KeyRange::one(key)),
@@ -104,19 +104,19 @@ fn group_told<A: Ledger>(key: BoxKey, list: &Kept<A>) -> Option<Told>
 
 /// What is told of the leaf that an item is.
 #[inline(always)]
-pub fn item_told<A: Ledger>(item: &Item<A>) -> Told
+pub fn item_told<A: Ledger>(item: &Item<A>) -> ChunkBounds
     ensures { (e : KeptEntry A) → e ≡ variants.Leaf item.now → IsTold result (e ∷ []) }
 {
-    Told {
+    ChunkBounds {
         hull: item.visible(),
         leaves: 1,
         keys: KeyRange::one(item.owner()),
     }
 }
 
-/// What is told of an entry: of a group by the blocks of its list.
+/// What is told of an entry: of a group by the chunks of its list.
 #[inline(always)]
-fn told_of<A: Ledger>(entry: &Entry<A>) -> Option<Told>
+fn told_of<A: Ledger>(entry: &Entry<A>) -> Option<ChunkBounds>
     ensures { IfSome result (λ t. IsTold t (entry.now ∷ [])) }
 {
     match entry {
@@ -127,7 +127,7 @@ fn told_of<A: Ledger>(entry: &Entry<A>) -> Option<Told>
 
 /// What is told of some entries, and of one more.
 #[inline(always)]
-pub(crate) fn told_more<A: Ledger>(told: &Told, entry: &Entry<A>) -> Option<Told>
+pub(crate) fn told_more<A: Ledger>(told: &ChunkBounds, entry: &Entry<A>) -> Option<ChunkBounds>
     ensures { (es : List (KeptEntry A)) → IsTold told.now es → IfSome result (λ t. IsTold t (es ++ entry.now ∷ [])) }
 {
     let more = told_of(entry)?;

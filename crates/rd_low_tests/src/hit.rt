@@ -41,7 +41,7 @@ fn scene<A: Ledger>(alloc: Global, made: &mut Steps<A>) -> Option<Kept<A>> {
     let inner = Kept {
         entries: inner,
         graph: OrderGraph::empty(alloc),
-        blocks: Vec::new(alloc),
+        chunks: Vec::new(alloc),
     };
     entries
         .push(Entry::Group(Group {
@@ -59,7 +59,7 @@ fn scene<A: Ledger>(alloc: Global, made: &mut Steps<A>) -> Option<Kept<A>> {
     Some(Kept {
         entries,
         graph,
-        blocks: Vec::new(alloc),
+        chunks: Vec::new(alloc),
     })
 }
 

@@ -43,7 +43,7 @@ impl Touches for Only {
         self.all || self.key.is(key)
     }
 
-    fn are_quiet(&self, _keys: KeyRange) -> bool {
+    fn none_touched(&self, _keys: KeyRange) -> bool {
         false
     }
 }

@@ -82,7 +82,7 @@ fn faded<A: Ledger>(alloc: Global, opacity: u8, entries: Vec<Entry<A>>) -> Group
         inner: Kept {
             entries,
             graph: OrderGraph::empty(alloc),
-            blocks: Vec::new(alloc),
+            chunks: Vec::new(alloc),
         },
     }
 }
@@ -167,7 +167,7 @@ fn scene<A: Ledger>(rt: &impl Abort, alloc: Global, made: &mut Steps<A>) -> Kept
     Kept {
         entries,
         graph,
-        blocks: Vec::new(alloc),
+        chunks: Vec::new(alloc),
     }
 }
 

@@ -99,7 +99,7 @@ fn list_of<A: Ledger>(
     Kept {
         entries,
         graph: OrderGraph::empty(alloc),
-        blocks: Vec::new(alloc),
+        chunks: Vec::new(alloc),
     }
 }
 

@@ -4,8 +4,8 @@ use Rattle.std.specs.Prelude.{IfSome, Option, Some, None, is_some, vec_len}
 use Rattle.std.specs.declared.vec.Vec.{Vec}
 use Rattle.std.proofs.lemmas.List.{append-nil, get_or-set_other, get_or-set_same, length-set}
 use Rattle.std.proofs.lemmas.Option.{IfSome_then}
-use Rattle.rd_list.specs.Blocks.{ChangesTo, IsLeaf, IsTold}
-use Rattle.rd_list.specs.declared.told.Told.{Told}
+use Rattle.rd_list.specs.Chunks.{ChangesTo, IsLeaf, IsTold}
+use Rattle.rd_list.specs.declared.told.ChunkBounds.{ChunkBounds}
 use Rattle.rd_list.proofs.Admitting.{read_any}
 use Rattle.rd_graph.specs.Gathered.{gathered, arranged}
 use Rattle.rd_graph.specs.Internal.Taking.{KeepsOthers}
@@ -93,7 +93,7 @@ module _ {A : Type 0} where
       ∙ ap (λ o. put_entry o (kept_entries (x ∷ [])) (kept_entries es ▷ kept_entries ms)) (sym is)
 
   -- a leaf that comes to a place, of which this is told where it comes for a leaf
-  pub leaf_changes : (place : ℕ) (told : Option Told) (m : Made) (old new : List (Entry A)) (y : Entry A) → place < length old → y ≡ get_or old place y → new ≡ set old place (kept.Leaf m)
+  pub leaf_changes : (place : ℕ) (told : Option ChunkBounds) (m : Made) (old new : List (Entry A)) (y : Entry A) → place < length old → y ≡ get_or old place y → new ≡ set old place (kept.Leaf m)
       → IfSome told (λ t. ((e : Entry A) → e ≡ kept.Leaf m → IsTold t (e ∷ [])) × IsLeaf y) → ChangesTo place told old new
   leaf_changes place told m old new y l is h told_so = record {
     size = ap length h ∙ length-set old place (kept.Leaf m);

@@ -7,14 +7,14 @@ use Rattle.rd_graph.specs.Names.{place_of, same_entry}
 use Rattle.rd_graph.proofs.Lists.Entries.{place_some, same_entry-sound, same_entry-refl}
 use Rattle.rd_graph.proofs.Lists.Listing.{cases, never}
 use Rattle.rd_graph.proofs.Patches.ListsAt.{same_place, other_place}
-use Rattle.rd_merge.specs.Internal.Marks.{AreMarkedBy, box_mark, box_marks, box_of, name_marks, run_mark}
+use Rattle.rd_merge.specs.Internal.Marks.{AreMarkedBy, box_mark, box_marks, box_of, name_marks, page_mark}
 
 pub mark_small : (wide : Bool) (k : BoxKey) → box_mark wide k < box_marks wide
 mark_small true k = omega arith
 mark_small false k = omega arith
 
-pub run_small : (k : BoxKey) → run_mark k < 512
-run_small k = omega arith
+pub page_small : (k : BoxKey) → page_mark k < 512
+page_small k = omega arith
 
 module _ (at : BoxKey → ℕ) (count : ℕ) (small : (k : BoxKey) → at k < count) (names : List EntryKey) where
   mark_at : (i : ℕ) (d : EntryKey) → i < length names → get_or (name_marks at names) i 0 ≡ at (box_of (get_or names i d))

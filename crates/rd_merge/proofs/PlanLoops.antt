@@ -113,7 +113,7 @@ module _ (touched : BoxKey → Bool) (xs : Olds) where
       )
 
   pub group_smaller : {A : Type 0} (x : NewEntry A) (k : BoxKey) (o : ℕ) (b : Blend) (inner : News) → x ≡ new.Group k o b inner → list_size (new_entries (x ∷ [])) ≡ list_size inner + 1
-  group_smaller {A} x k o b inner e = ap (λ (z : NewEntry A). list_size (new_entries (z ∷ []))) e ∙ (let s : list_size (new_entries (new.Group k o b inner ∷ [])) ≡ list_size inner + 1 = omega arith in s)
+  group_smaller {A} x k o b inner e = ap (λ (z : NewEntry A). list_size (new_entries (z ∷ []))) e ∙ (let s : list_size (new_entries {A = A} (new.Group k o b inner ∷ [])) ≡ list_size inner + 1 = omega arith in s)
 
   adds_join : {A : Type 0} (fs bs : News) (old now then : List (Step A)) → AddsSteps touched xs fs old now → AddsSteps touched xs bs now then → AddsSteps touched xs (fs ▷ bs) old then
   adds_join fs bs old now then a b = (

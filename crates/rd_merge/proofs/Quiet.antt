@@ -1,4 +1,4 @@
--- Blocks of which nothing is noted, since none of their boxes is touched, and none is sought.
+-- Chunks of which nothing is noted, since none of their boxes is touched, and none is sought.
 use Rattle.std.proofs.Common.{◌≡◌, refl, ap, ◌∙◌, sym, subst, ℕ, zero, suc, ◌+◌, ◌-◌, ◌<◌, ◌≤◌, Bool, true, false, not, List, [], ◌∷◌, ◌++◌, length, take, drop, get_or, arith, Option}
 use Rattle.std.proofs.lemmas.List.{get_or-take, get_or-drop, length-take-le, length-drop}
 use Rattle.rd_keys.specs.Keys.{BoxKey}
@@ -9,7 +9,7 @@ use Rattle.rd_graph.specs.Orders as spec
 use Rattle.rd_graph.specs.Names.{is_in, place_of, same_entry}
 use Rattle.rd_item.specs.declared.leaf.Leaf as item
 use Rattle.rd_item.specs.Items.{Made}
-use Rattle.rd_list.specs.Blocks.{AreNamed}
+use Rattle.rd_list.specs.Chunks.{AreNamed}
 use Rattle.rd_list.specs.Entries.{Entries, nil, leaf, group, is_empty}
 use Rattle.rd_list.specs.EntryNames.{entry_names, kept_leaves}
 use Rattle.rd_list.specs.Kept.{Ordered}
@@ -21,9 +21,9 @@ use Rattle.rd_list.proofs.Admitting.{named_at, read_some}
 use Rattle.rd_merge.specs.Going.{any_stays, is_untouched}
 use Rattle.rd_merge.specs.Looking.{any_goes, kept_names}
 use Rattle.rd_merge.specs.Internal.Looks.{LeafStays, LeavesStay, NothingNoted, gone_at, inner_at, name_of, noted}
-use Rattle.rd_merge.specs.Internal.Marks.{AreRunsMarked, run_mark}
+use Rattle.rd_merge.specs.Internal.Marks.{ArePagesMarked, page_mark}
 use Rattle.rd_merge.proofs.Looks.{add_none, ends, gone_next, inner_next, named_next, nothing_itself, nothing_more}
-use Rattle.rd_merge.proofs.Marked.{run_small, unmarked}
+use Rattle.rd_merge.proofs.Marked.{page_small, unmarked}
 
 module _ (touched : BoxKey → Bool) (keys : KeyRange) (quiet : (k : BoxKey) → IsAmong keys k → touched k ≡ false) where
   stays : (l : item.Leaf) → IsAmong keys l.owner → is_untouched touched l ≡ true
@@ -60,14 +60,14 @@ module _ (touched : BoxKey → Bool) (keys : KeyRange) (quiet : (k : BoxKey) →
   none_goes (leaf m rest) a = rw (stays m.leaf a.0) (none_goes rest a.1)
   none_goes (group g inner rest) a = rw (has_entry inner a.1) (rw (none_goes inner a.2) (none_goes rest a.3))
 
-  module _ {A : Type 0} (names : List EntryKey) (runs : List Bool) (are : AreRunsMarked names runs) (unnamed : (k : BoxKey) → IsAmong keys k → get_or runs (run_mark k) false ≡ false) where
+  module _ {A : Type 0} (names : List EntryKey) (pages : List Bool) (are : ArePagesMarked names pages) (unnamed : (k : BoxKey) → IsAmong keys k → get_or pages (page_mark k) false ≡ false) where
     quiet_gone : (x : Entry A) (i : ℕ) (now : List ℕ) → AreNamed keys (kept_entries (x ∷ [])) → now ≡ now ++ gone_at touched i x
     quiet_gone (kept.Leaf m) i now a = add_none now (gone_at {A = A} touched i (kept.Leaf m)) (rw (stays m.leaf a.0) refl)
     quiet_gone (kept.Group g) i now a = add_none now (gone_at {A = A} touched i (kept.Group g)) (rw (some_stays g.inner.entries a.2 a.1) refl)
 
     quiet_found : (x : Entry A) (i : ℕ) (now : List (Option ℕ)) → AreNamed keys (kept_entries (x ∷ [])) → now ≡ noted (place_of same_entry names (name_of x)) i now
-    quiet_found (kept.Leaf m) i now a = ap (λ o. noted o i now) (sym (unmarked run_mark 512 run_small names runs are (name_of {A = A} (kept.Leaf m)) (unnamed m.leaf.owner a.0)))
-    quiet_found (kept.Group g) i now a = ap (λ o. noted o i now) (sym (unmarked run_mark 512 run_small names runs are (name_of {A = A} (kept.Group g)) (unnamed g.key a.0)))
+    quiet_found (kept.Leaf m) i now a = ap (λ o. noted o i now) (sym (unmarked page_mark 512 page_small names pages are (name_of {A = A} (kept.Leaf m)) (unnamed m.leaf.owner a.0)))
+    quiet_found (kept.Group g) i now a = ap (λ o. noted o i now) (sym (unmarked page_mark 512 page_small names pages are (name_of {A = A} (kept.Group g)) (unnamed g.key a.0)))
 
     quiet_inner : (x : Entry A) (i : ℕ) (now : List ℕ) → AreNamed keys (kept_entries (x ∷ [])) → now ≡ now ++ inner_at touched names i x
     quiet_inner (kept.Leaf m) i now a = add_none now [] refl
@@ -85,14 +85,14 @@ module _ (touched : BoxKey → Bool) (keys : KeyRange) (quiet : (k : BoxKey) →
     }
 
     -- nor of the first so many of them
-    pub quiet_block : (es : List (Entry A)) (start n : ℕ) → spec.Once names → spec.Once (kept_names (kept_entries es)) → start + n ≤ length es → AreNamed keys (kept_entries (take n (drop start es)))
+    pub quiet_chunk : (es : List (Entry A)) (start n : ℕ) → spec.Once names → spec.Once (kept_names (kept_entries es)) → start + n ≤ length es → AreNamed keys (kept_entries (take n (drop start es)))
         → (m : ℕ) → m ≤ n → NothingNoted touched es names start (start + m)
-    quiet_block es start n o ok l a zero h = subst (λ (i : ℕ). NothingNoted touched es names start i) (let e : start ≡ start + 0 = omega arith in e) (nothing_itself touched es names start)
-    quiet_block es start n o ok l a (suc m) h =
+    quiet_chunk es start n o ok l a zero h = subst (λ (i : ℕ). NothingNoted touched es names start i) (let e : start ≡ start + 0 = omega arith in e) (nothing_itself touched es names start)
+    quiet_chunk es start n o ok l a (suc m) h =
         let some = read_some es (start + m) (omega (arith, l, h)) in
         let there : some.0 ≡ get_or (take n (drop start es)) m some.0 = some.1 ∙ sym (get_or-drop start es m some.0) ∙ sym (get_or-take n (drop start es) m some.0 (omega (arith, h))) in
         let d = length-drop start es in
         let t = length-take-le n (drop start es) (omega (arith, d, l)) in
-        nothing_more touched es names start (start + m) (start + suc m) (quiet_block es start n o ok l a m (omega (arith, h)))
+        nothing_more touched es names start (start + m) (start + suc m) (quiet_chunk es start n o ok l a m (omega (arith, h)))
         (quiet_one es (start + m) some.0 o ok (omega (arith, l, h)) some.1 (named_at keys (take n (drop start es)) a m some.0 (omega (arith, t, h)) there))
         (omega arith)

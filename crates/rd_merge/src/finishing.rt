@@ -1,19 +1,19 @@
 //! The second half of a merge: entries are put at their places in the kept list, and nothing takes memory.
 ghost use Rattle.std.specs.Prelude.{◌≡◌, ◌≤◌, ◌+◌, ◌∷◌, [], vec_len, vec_capacity};
 ghost use Rattle.rd_list.specs.Entries.{◌▷◌};
-ghost use Rattle.rd_list.specs.Blocks.{Covers, IsAt};
+ghost use Rattle.rd_list.specs.Chunks.{Covers, IsAt};
 ghost use Rattle.rd_list.specs.KeptView.{kept_entries};
 ghost use Rattle.rd_merge.specs.Plans.{IsGroupPlace, IsNamed, PlacesFit, StepsFit, filled, grouped_as, left_for, list_for, made_count, old_list, stepped, wrapper_for};
 ghost use Rattle.rd_merge.specs.PlanView.{steps_seen};
 ghost use Rattle.rd_merge.specs.Internal.Moving.{ChangesAt, IsSameBut, left_after};
 ghost use Rattle.rd_merge.specs.Internal.Untaken.{untaken};
 
-use crate::blocking::{clear, in_line_blocks, put_in_block, put_item_in_block};
+use crate::chunking::{clear, in_line_chunks, put_in_chunk, put_item_in_chunk};
 use crate::moving::in_line;
 use crate::opening::{next_item, open, push_next};
 use crate::plan::{Plan, Step};
 use crate::taking::NewEntries;
-use rd_list::{Block, Entry, FIRST, Group, Kept, NewList, Seek, renew_blocks};
+use rd_list::{Chunk, ChunkCursor, Entry, FIRST_CHUNK, Group, Kept, NewList, renew_chunks};
 use std::sync::ledger::Ledger;
 
 /// The plan, filled from the two lists: new entries are put at their places, and the rest stays where it is unless the plan has a line.
@@ -31,40 +31,40 @@ pub fn finish<A: Ledger>(kept: Kept<A>, new: NewList<A>, plan: Plan<A>) -> Kept<
         aside,
         room,
         parts,
-        mut blocks,
+        mut chunks,
     } = plan;
     let mut entries = kept.entries;
-    let mut had = kept.blocks;
-    let mut seek = FIRST;
+    let mut had = kept.chunks;
+    let mut seek = FIRST_CHUNK;
     let mut fresh = NewEntries::new(alloc, new);
     for step in steps {
         seek = finish_step(&mut had, seek, &mut entries, &mut made, &mut fresh, step);
     }
-    let had = in_line_blocks(had, &entries, &made, patch.line(), parts);
+    let had = in_line_chunks(had, &entries, &made, patch.line(), parts);
     let entries = in_line(alloc, entries, made, patch.line(), aside, room);
-    renew_blocks(&mut blocks, &entries, &had);
+    renew_chunks(&mut chunks, &entries, &had);
     Kept {
         entries,
         graph: kept.graph.apply(patch),
-        blocks,
+        chunks,
     }
 }
 
 /// One step: an entry is put at its place, or on top of the ones that are made.
 #[cycle(finishing)]
 fn finish_step<A: Ledger>(
-    blocks: &mut Vec<Block>,
-    last: Seek,
+    chunks: &mut Vec<Chunk>,
+    last: ChunkCursor,
     entries: &mut Vec<Entry<A>>,
     made: &mut Vec<Entry<A>>,
     fresh: &mut NewEntries<A>,
     step: Step<A>,
-) -> Seek
+) -> ChunkCursor
     requires fits { StepsFit (vec_len entries.old) (steps_seen (step ∷ []))
         (kept_entries entries.old.items ▷ kept_entries made.old.items) (untaken fresh.old) }
     requires room { vec_len made.old + made_count (steps_seen (step ∷ [])) ≤ vec_capacity made.old }
-    requires at { IsAt blocks.old.items last.at last.start }
-    requires covers { Covers blocks.old.items entries.old.items }
+    requires at { IsAt chunks.old.items last.at last.start }
+    requires covers { Covers chunks.old.items entries.old.items }
     ensures stepped { kept_entries entries.new.items ▷ kept_entries made.new.items
         ≡ stepped (steps_seen (step ∷ []))
         (kept_entries entries.old.items ▷ kept_entries made.old.items) (untaken fresh.old) }
@@ -73,8 +73,8 @@ fn finish_step<A: Ledger>(
     ensures entries { vec_len entries.new ≡ vec_len entries.old }
     ensures made { vec_len made.new ≡ vec_len made.old + made_count (steps_seen (step ∷ [])) }
     ensures room { vec_capacity made.old ≤ vec_capacity made.new }
-    ensures at { IsAt blocks.new.items result.at result.start }
-    ensures covers { Covers blocks.new.items entries.new.items }
+    ensures at { IsAt chunks.new.items result.at result.start }
+    ensures covers { Covers chunks.new.items entries.new.items }
 {
     match step {
         Step::Leaf(None) => {
@@ -83,12 +83,12 @@ fn finish_step<A: Ledger>(
         }
         Step::Leaf(Some(place)) => {
             let item = next_item(fresh);
-            put_item_in_block(blocks, last, entries, place, item)
+            put_item_in_chunk(chunks, last, entries, place, item)
         }
         Step::Group { old, is_new, plan } => {
-            let seek = clear::<A>(blocks, last, old);
+            let seek = clear::<A>(chunks, last, old);
             let entry = finish_group(entries, fresh, old, is_new, Box::into_inner(plan));
-            put_in_block(blocks, seek, entries, made, old, entry)
+            put_in_chunk(chunks, seek, entries, made, old, entry)
         }
     }
 }

@@ -2,7 +2,7 @@
 ghost use Rattle.std.specs.Prelude.{◌≡◌, ◌<◌, ◌≤◌, ◌+◌, ◌&&◌, not, false, true, if◌then◌else◌, [], ◌∷◌, ◌++◌, drop, length, map, take, None, IfOk, IfSome, OnOk};
 ghost use Rattle.rd_graph.specs.Names.{place_of, same_entry};
 ghost use Rattle.rd_graph.specs.Orders.{Once};
-ghost use Rattle.rd_list.specs.Blocks.{Covers, Tells};
+ghost use Rattle.rd_list.specs.Chunks.{Covers, Tells};
 ghost use Rattle.rd_list.specs.Entries.{is_empty};
 ghost use Rattle.rd_list.specs.EntryNames.{kept_leaves};
 ghost use Rattle.rd_list.specs.KeptView.{kept_entries};
@@ -17,14 +17,14 @@ use crate::marks::{Marks, are_unnamed};
 use crate::passing::{Leaves, Pass, stands_still};
 use crate::sought::Finder;
 use rd_keys::EntryKey;
-use rd_list::{Block, Entry};
+use rd_list::{Chunk, Entry};
 use std::alloc::{AllocError, Global};
 use std::sync::ledger::Ledger;
 
 /// Places in a kept level: of the entries that go, of each name of the new level, and of the groups to go into although the new level does
 /// not name them. And the number of the name that may be found next, after the last one that was.
 #[derive(Drop)]
-pub(crate) struct Looked {
+pub(crate) struct LevelDiff {
     pub(crate) gone: Vec<usize>,
     pub(crate) found: Vec<Option<usize>>,
     pub(crate) inner: Vec<usize>,
@@ -34,7 +34,7 @@ pub(crate) struct Looked {
 /// What is noted in a pass, and what finds the names that are sought.
 #[derive(Drop)]
 struct Notes {
-    looked: Looked,
+    looked: LevelDiff,
     finder: Finder,
 }
 
@@ -111,7 +111,7 @@ fn push_if(places: &mut Vec<usize>, is_wanted: bool, place: usize) -> Result<(),
 }
 
 /// Nothing is found as yet.
-fn nothing(alloc: Global, names: &[EntryKey]) -> Result<Looked, AllocError>
+fn nothing(alloc: Global, names: &[EntryKey]) -> Result<LevelDiff, AllocError>
     ensures gone { IfOk result (λ l. l.gone.items ≡ []) }
     ensures found { IfOk result (λ l. l.found.items ≡ map (λ k. None) names.now) }
     ensures inner { IfOk result (λ l. l.inner.items ≡ []) }
@@ -120,7 +120,7 @@ fn nothing(alloc: Global, names: &[EntryKey]) -> Result<Looked, AllocError>
     for _ in names {
         found.push(None)?;
     }
-    Ok(Looked {
+    Ok(LevelDiff {
         gone: Vec::new(alloc),
         found,
         inner: Vec::new(alloc),
@@ -133,7 +133,7 @@ impl<A: Ledger, T: Touches> Pass<'_, A, T> {
     #[inline(always)]
     fn at(
         &self,
-        looked: &mut Looked,
+        looked: &mut LevelDiff,
         finder: &mut Finder,
         place: usize,
         entry: &Entry<A>,
@@ -223,21 +223,21 @@ impl<A: Ledger, T: Touches> Pass<'_, A, T> {
         self.between(notes, Leaves::Unknown, from, end)
     }
 
-    /// The same of the entries of a block, which is passed as a whole where nothing is noted of it.
+    /// The same of the entries of a chunk, which is passed as a whole where nothing is noted of it.
     #[inline(always)]
-    fn in_block(&self, notes: &mut Notes, block: &Block, start: usize) -> Result<(), AllocError>
+    fn in_chunk(&self, notes: &mut Notes, chunk: &Chunk, start: usize) -> Result<(), AllocError>
         requires pass { IsPass self.now }
-        requires end { start + block.now.count ≤ length self.now.entries.now }
-        requires told { block.now.is_open ≡ false
-            → Tells block.now (take block.now.count (drop start self.now.entries.now)) }
+        requires end { start + chunk.now.count ≤ length self.now.entries.now }
+        requires told { chunk.now.is_open ≡ false
+            → Tells chunk.now (take chunk.now.count (drop start self.now.entries.now)) }
         requires noted { IsNoted (T.is_touched self.now.tree.now) self.now start notes.old }
-        ensures { OnOk result (IsNoted (T.is_touched self.now.tree.now) self.now (start + block.now.count) notes.new) }
+        ensures { OnOk result (IsNoted (T.is_touched self.now.tree.now) self.now (start + chunk.now.count) notes.new) }
     {
-        let end = start + block.count;
-        if !stands_still(block, self.tree) {
+        let end = start + chunk.count;
+        if !stands_still(chunk, self.tree) {
             return self.anywhere(notes, start, end);
         }
-        if are_unnamed(&self.marks.runs, block.told.keys) {
+        if are_unnamed(&self.marks.pages, chunk.told.keys) {
             return Ok(());
         }
         self.between(notes, Leaves::Untouched, start, end)
@@ -249,13 +249,13 @@ impl<A: Ledger, T: Touches> Pass<'_, A, T> {
 pub(crate) fn look<A: Ledger, T: Touches>(
     alloc: Global,
     entries: &[Entry<A>],
-    blocks: &[Block],
+    chunks: &[Chunk],
     names: &[EntryKey],
     tree: &T,
-) -> Result<Looked, AllocError>
+) -> Result<LevelDiff, AllocError>
     requires names { Once names.now }
     requires entries { Once (kept_names (kept_entries entries.now)) }
-    requires covers { Covers blocks.now entries.now }
+    requires covers { Covers chunks.now entries.now }
     ensures { IfOk result (λ l. IsLooked (T.is_touched tree.now) (kept_entries entries.now) names.now
         l.gone.items l.found.items l.inner.items) }
 {
@@ -276,9 +276,9 @@ pub(crate) fn look<A: Ledger, T: Touches>(
         finder: Finder::new(alloc),
     };
     let mut place = 0;
-    for block in blocks {
-        pass.in_block(&mut notes, block, place)?;
-        place += block.count;
+    for chunk in chunks {
+        pass.in_chunk(&mut notes, chunk, place)?;
+        place += chunk.count;
     }
     pass.anywhere(&mut notes, place, entries.len())?;
     Ok(notes.looked)

@@ -2,16 +2,16 @@
 ghost use Rattle.std.specs.Prelude.{◌≡◌, ℕ, ◌<◌, ◌≤◌, ◌%◌, length, IfOk, IsTrue, false, slice_index_or};
 ghost use Rattle.rd_keys.specs.Keys.{BoxKey as Box};
 ghost use Rattle.rd_keys.specs.Ranges.{IsAmong};
-ghost use Rattle.rd_merge.specs.Internal.Marks.{AreMarked, AreRunsMarked, box_mark, box_marks, box_of, run_mark};
+ghost use Rattle.rd_merge.specs.Internal.Marks.{AreMarked, ArePagesMarked, box_mark, box_marks, box_of, page_mark};
 
 use rd_keys::{BoxKey, EntryKey, KeyRange};
 use std::alloc::{AllocError, Global};
 
 /// How many marks of 64 slots there are.
-const RUNS: usize = 512;
+const PAGES: usize = 512;
 
 /// Over how many times 64 slots a range may go that is looked at.
-const MOST_RUNS: u32 = 64;
+const MOST_PAGES: u32 = 64;
 
 /// Marks of boxes by their slots, of which there are more for many names and a long level, and marks of 64 slots each. Boxes may share
 /// a mark.
@@ -19,7 +19,7 @@ const MOST_RUNS: u32 = 64;
 pub(crate) struct Marks {
     pub(crate) is_wide: bool,
     pub(crate) marks: Vec<bool>,
-    pub(crate) runs: Vec<bool>,
+    pub(crate) pages: Vec<bool>,
 }
 
 /// How many marks there are.
@@ -41,11 +41,11 @@ fn mark_of(is_wide: bool, owner: BoxKey) -> usize
 
 /// Where the 64 slots of a box have their mark.
 #[inline(always)]
-fn run_of(owner: BoxKey) -> usize
-    ensures value { result ≡ run_mark owner }
+fn page_of(owner: BoxKey) -> usize
+    ensures value { result ≡ page_mark owner }
     ensures within { result < 512 }
 {
-    (owner.slot() / 64) as usize % RUNS
+    (owner.slot() / 64) as usize % PAGES
 }
 
 /// The box of a name.
@@ -62,21 +62,21 @@ impl Marks {
     /// The marks of the boxes of these names, many or few.
     pub(crate) fn new(alloc: Global, is_wide: bool, names: &[EntryKey]) -> Result<Marks, AllocError>
         ensures boxes { IfOk result (λ m. AreMarked m.is_wide names.now m.marks.items) }
-        ensures runs { IfOk result (λ m. AreRunsMarked names.now m.runs.items) }
+        ensures pages { IfOk result (λ m. ArePagesMarked names.now m.pages.items) }
     {
         let mut marks = vec![in alloc; false; mark_count(is_wide)]?;
-        let mut runs = vec![in alloc; false; RUNS]?;
+        let mut pages = vec![in alloc; false; PAGES]?;
         for name in names {
             let owner = box_of(*name);
             let mark = mark_of(is_wide, owner);
-            let run = run_of(owner);
+            let page = page_of(owner);
             marks[mark] = true;
-            runs[run] = true;
+            pages[page] = true;
         }
         Ok(Marks {
             is_wide,
             marks,
-            runs,
+            pages,
         })
     }
 
@@ -91,29 +91,29 @@ impl Marks {
 }
 
 /// Is the mark of none of these 64 slots set, from the first of them up to the last?
-fn are_unset(runs: &[bool], first: u32, last: u32) -> bool
-    requires size { length runs.now ≡ 512 }
-    ensures { IsTrue result → (n : ℕ) → first ≤ n → n ≤ last → slice_index_or runs.now (n % 512) false ≡ false }
+fn are_unset(pages: &[bool], first: u32, last: u32) -> bool
+    requires size { length pages.now ≡ 512 }
+    ensures { IsTrue result → (n : ℕ) → first ≤ n → n ≤ last → slice_index_or pages.now (n % 512) false ≡ false }
 {
-    let mut run = first;
-    while run < last {
-        if runs[run as usize % RUNS] {
+    let mut page = first;
+    while page < last {
+        if pages[page as usize % PAGES] {
             return false;
         }
-        run += 1;
+        page += 1;
     }
-    !runs[last as usize % RUNS]
+    !pages[last as usize % PAGES]
 }
 
 /// Is the box of no name among these keys? Where it is not said, nothing is known.
-pub(crate) fn are_unnamed(runs: &[bool], keys: KeyRange) -> bool
-    requires { length runs.now ≡ 512 }
-    ensures { IsTrue result → (k : Box) → IsAmong keys k → slice_index_or runs.now (run_mark k) false ≡ false }
+pub(crate) fn are_unnamed(pages: &[bool], keys: KeyRange) -> bool
+    requires { length pages.now ≡ 512 }
+    ensures { IsTrue result → (k : Box) → IsAmong keys k → slice_index_or pages.now (page_mark k) false ≡ false }
 {
     let first = keys.first_slot / 64;
     let last = keys.last_slot / 64;
-    if last < first || last - first >= MOST_RUNS {
+    if last < first || last - first >= MOST_PAGES {
         return false;
     }
-    are_unset(runs, first, last)
+    are_unset(pages, first, last)
 }

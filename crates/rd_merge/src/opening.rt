@@ -30,7 +30,7 @@ struct NewGroup<A: Ledger> {
 
 /// What is said of a group, and what it is made of: the list that was kept in it and the new one.
 #[derive(Drop)]
-pub(crate) struct Opened<A: Ledger> {
+pub(crate) struct GroupMerge<A: Ledger> {
     pub(crate) key: BoxKey,
     pub(crate) opacity: u8,
     pub(crate) blend: Blend,
@@ -126,7 +126,7 @@ pub(crate) fn open<A: Ledger>(
     fresh: &mut NewEntries<A>,
     old: Option<usize>,
     is_new: bool,
-) -> Opened<A>
+) -> GroupMerge<A>
     requires group { IsGroupPlace old (kept_entries entries.old.items) }
     requires named { IsNamed is_new old (untaken fresh.old) }
     ensures named { wrapper_for is_new old (kept_entries entries.old.items) (untaken fresh.old)
@@ -146,7 +146,7 @@ pub(crate) fn open<A: Ledger>(
             blend,
             inner,
         } = next_group(fresh);
-        return Opened {
+        return GroupMerge {
             key,
             opacity,
             blend,
@@ -162,7 +162,7 @@ pub(crate) fn open<A: Ledger>(
             blend,
             inner,
         } = next_group(fresh);
-        return Opened {
+        return GroupMerge {
             key,
             opacity,
             blend,
@@ -170,7 +170,7 @@ pub(crate) fn open<A: Ledger>(
             new: inner,
         };
     }
-    Opened {
+    GroupMerge {
         key: group.key,
         opacity: group.opacity,
         blend: group.blend,

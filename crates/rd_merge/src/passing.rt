@@ -1,4 +1,4 @@
-//! A pass over the entries of a kept level. Those of which nothing is noted are passed over, and blocks of them.
+//! A pass over the entries of a kept level. Those of which nothing is noted are passed over, and chunks of them.
 ghost use Rattle.std.specs.Prelude.{◌≡◌, ◌<◌, ◌≤◌, ◌+◌, IsTrue, false, not, true, length};
 ghost use Rattle.rd_keys.specs.Keys.{BoxKey as Box};
 ghost use Rattle.rd_keys.specs.Ranges.{IsAmong};
@@ -10,7 +10,7 @@ ghost use Rattle.rd_merge.specs.declared.passing.Leaves.TheVariants as known;
 use crate::going::Touches;
 use crate::marks::Marks;
 use rd_keys::{BoxKey, EntryKey};
-use rd_list::{Block, Entry};
+use rd_list::{Chunk, Entry};
 use std::sync::ledger::Ledger;
 
 /// What is known of the boxes of leaves: that none of them is touched, or nothing.
@@ -128,11 +128,11 @@ impl<A: Ledger, T: Touches> Pass<'_, A, T> {
     }
 }
 
-/// Is it a block of which something is said, and none of the boxes of its entries touched?
+/// Is it a chunk of which something is said, and none of the boxes of its entries touched?
 #[inline(always)]
-pub(crate) fn stands_still<T: Touches>(block: &Block, tree: &T) -> bool
-    ensures open { IsTrue result → block.now.is_open ≡ false }
-    ensures untouched { IsTrue result → (k : Box) → IsAmong block.now.told.keys k → T.is_touched tree.now k ≡ false }
+pub(crate) fn stands_still<T: Touches>(chunk: &Chunk, tree: &T) -> bool
+    ensures open { IsTrue result → chunk.now.is_open ≡ false }
+    ensures untouched { IsTrue result → (k : Box) → IsAmong chunk.now.told.keys k → T.is_touched tree.now k ≡ false }
 {
-    !block.is_open && tree.are_quiet(block.told.keys)
+    !chunk.is_open && tree.none_touched(chunk.told.keys)
 }

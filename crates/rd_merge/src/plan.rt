@@ -2,13 +2,13 @@
 ghost use Rattle.std.specs.Prelude.{◌≡◌};
 
 use rd_graph::Patch;
-use rd_list::{Block, Entry};
+use rd_list::{Chunk, Entry};
 use std::alloc::Global;
 use std::marker::Model;
 use std::sync::ledger::Ledger;
 
 /// What a merge does at a level: the patch of its graph, what is put where, and room for the entries that are made, for those that are
-/// set aside and for the line, and for what blocks say of the line and then of the result.
+/// set aside and for the line, and for what chunks say of the line and then of the result.
 #[derive(Drop)]
 #[cycle(plan)]
 pub struct Plan<A: Ledger> {
@@ -18,8 +18,8 @@ pub struct Plan<A: Ledger> {
     pub(crate) made: Vec<Entry<A>>,
     pub(crate) aside: Vec<Entry<A>>,
     pub(crate) room: Vec<Entry<A>>,
-    pub(crate) parts: Vec<Block>,
-    pub(crate) blocks: Vec<Block>,
+    pub(crate) parts: Vec<Chunk>,
+    pub(crate) chunks: Vec<Chunk>,
 }
 
 /// The next new leaf goes to a place of the level, or is made. Or there is something to do in a group: at a place of the level, or it is made; the next
@@ -52,7 +52,7 @@ impl<A: Ledger> Model for Plan<A> {
 
     ghost view = { λ p. record { patch = p.patch; steps = steps_seen p.steps.items } };
 
-    ghost invariant = { λ p. (vec_len p.made ≡ 0) × (made_count (steps_seen p.steps.items) ≤ vec_capacity p.made) × HasLineRoom (line_of p.patch) p.room × (p.parts.items ≡ []) × (p.blocks.items ≡ []) };
+    ghost invariant = { λ p. (vec_len p.made ≡ 0) × (made_count (steps_seen p.steps.items) ≤ vec_capacity p.made) × HasLineRoom (line_of p.patch) p.room × (p.parts.items ≡ []) × (p.chunks.items ≡ []) };
 
     ghost size = { λ p. list_size p.steps };
 

@@ -17,7 +17,7 @@ use crate::going::Touches;
 use crate::looking::look;
 use crate::plan::{Plan, Step};
 use rd_graph::{Patch, count_aside, count_of};
-use rd_list::{Block, Entry, Kept, NewEntry, NewList, new_keys};
+use rd_list::{Chunk, Entry, Kept, NewEntry, NewList, new_keys};
 use std::alloc::{AllocError, Global};
 use std::sync::ledger::Ledger;
 
@@ -66,8 +66,8 @@ fn run_count(patch: &Patch) -> usize {
     }
 }
 
-/// Room for what so many blocks say of the entries of a line, if there is one.
-fn part_room(alloc: Global, patch: &Patch, had: usize) -> Result<Vec<Block>, AllocError>
+/// Room for what so many chunks say of the entries of a line, if there is one.
+fn part_room(alloc: Global, patch: &Patch, had: usize) -> Result<Vec<Chunk>, AllocError>
     ensures { IfOk result (λ v. v.items ≡ []) }
 {
     match patch.line() {
@@ -76,15 +76,15 @@ fn part_room(alloc: Global, patch: &Patch, had: usize) -> Result<Vec<Block>, All
     }
 }
 
-/// Room for the blocks of the result: those that were there, two more for each run of a line, one for each sixteen of so many steps, and
+/// Room for the chunks of the result: those that were there, two more for each run of a line, one for each sixteen of so many steps, and
 /// two for each of so many groups.
-fn block_room(
+fn chunk_room(
     alloc: Global,
     patch: &Patch,
     had: usize,
     steps: usize,
     groups: usize,
-) -> Result<Vec<Block>, AllocError>
+) -> Result<Vec<Chunk>, AllocError>
     ensures { IfOk result (λ v. v.items ≡ []) }
 {
     let pairs = run_count(patch).saturating_add(groups).saturating_add(1);
@@ -110,7 +110,7 @@ fn plan_level<A: Ledger, T: Touches>(
     ensures { IfOk result (IsPlan (T.is_touched tree.now) kept.now new.now) }
 {
     let names = new_keys(alloc, new)?;
-    let looked = look(alloc, &kept.entries, &kept.blocks, &names, tree)?;
+    let looked = look(alloc, &kept.entries, &kept.chunks, &names, tree)?;
     let patch = kept
         .graph
         .patch(alloc, &looked.gone, &names, &looked.found)?;
@@ -121,9 +121,9 @@ fn plan_level<A: Ledger, T: Touches>(
     let made = Vec::with_capacity(alloc, names.len())?;
     let aside = aside_room(alloc, &patch)?;
     let room = line_room(alloc, &patch)?;
-    let parts = part_room(alloc, &patch, kept.blocks.len())?;
+    let parts = part_room(alloc, &patch, kept.chunks.len())?;
     let groups = planned.groups.saturating_add(looked.inner.len());
-    let blocks = block_room(alloc, &patch, kept.blocks.len(), steps.len(), groups)?;
+    let chunks = chunk_room(alloc, &patch, kept.chunks.len(), steps.len(), groups)?;
     Ok(Plan {
         alloc,
         patch,
@@ -132,7 +132,7 @@ fn plan_level<A: Ledger, T: Touches>(
         aside,
         room,
         parts,
-        blocks,
+        chunks,
     })
 }
 

@@ -14,7 +14,7 @@ impl<B: Ledger> Touches for Tree<B> {
         self.touched(key)
     }
 
-    fn are_quiet(&self, keys: KeyRange) -> bool {
-        self.are_quiet(keys)
+    fn none_touched(&self, keys: KeyRange) -> bool {
+        self.none_touched(keys)
     }
 }

@@ -1,4 +1,4 @@
--- Leaves beside a block, and leaves alone in a group.
+-- Leaves beside a rectangle, and leaves alone in a group.
 use Rattle.std.proofs.Common.{◌≡◌, ℕ, ℤ, pos, ◌+◌, ◌-◌, ◌<◌, ◌≤◌, Bool, true, false, ◌&&◌, cond, nat_lt, nat_le, refl, sym, ap, ◌∙◌, arith}
 use Rattle.std.specs.Prelude.{int_le, int_lt}
 use Rattle.std.proofs.lemmas.Bool.{leb-true, ltb-true}
@@ -14,15 +14,15 @@ use Rattle.rd_list.specs.Entries.{Entries, nil, leaf}
 use Rattle.rd_list.specs.Lists.{composed}
 use Rattle.rd_paint.specs.Pictures.{Picture}
 use Rattle.rd_paint.specs.declared.corner.Corner.{Corner}
-use Rattle.rd_paint.specs.Internal.Blocks.{IsBlockChanged, group_over, over_leaf}
-use Rattle.rd_paint.proofs.Changing.{block_same, laid_nil}
+use Rattle.rd_paint.specs.Internal.Rects.{IsRectChanged, group_over, over_leaf}
+use Rattle.rd_paint.proofs.Changing.{rect_same, laid_nil}
 use Rattle.rd_paint.proofs.Depths.{over_clear}
 use Rattle.rd_paint.proofs.SpanTests.{and_left, and_right, span_test}
 
--- a block that a leaf covers no pixel of
+-- a rectangle that a leaf covers no pixel of
 pub uncovered : (o : Corner) (q : Premultiplied) (l : Leaf) (s : Span) (y0 y1 a b : ℕ) (c : Picture) → s.x0 ≡ pos a → s.x1 ≡ pos b
-    → ((k row : ℕ) → k < b - a → y0 ≤ row → row < y1 → covers l (pos (a + k)) (pos row) ≡ false) → IsBlockChanged o (over_leaf q l) s y0 y1 c c
-uncovered o q l s y0 y1 a b c ea eb none = block_same o (λ x y p. p) (over_leaf q l) s y0 y1 c c (λ x row p t. off x row p (and_left (nat_le y0 row && nat_lt row y1) (in_span s (pos x)) t) (and_right (nat_le y0 row && nat_lt row y1) (in_span s (pos x)) t)) (laid_nil o nil s y0 y1 c refl)
+    → ((k row : ℕ) → k < b - a → y0 ≤ row → row < y1 → covers l (pos (a + k)) (pos row) ≡ false) → IsRectChanged o (over_leaf q l) s y0 y1 c c
+uncovered o q l s y0 y1 a b c ea eb none = rect_same o (λ x y p. p) (over_leaf q l) s y0 y1 c c (λ x row p t. off x row p (and_left (nat_le y0 row && nat_lt row y1) (in_span s (pos x)) t) (and_right (nat_le y0 row && nat_lt row y1) (in_span s (pos x)) t)) (laid_nil o nil s y0 y1 c refl)
   where
     off : (x row : ℕ) (p : Premultiplied) → (nat_le y0 row && nat_lt row y1) ≡ true → in_span s (pos x) ≡ true → p ≡ over_leaf q l x row p
     off x row p r i =
@@ -39,12 +39,12 @@ alone : (t : Bool) (q p : Premultiplied) (opacity : ℕ) → cond t (laid_over (
 alone true q p opacity = ap (λ z. laid_over (scaled z opacity) p) (sym (over_clear q))
 alone false q p opacity = sym (nothing_blended Normal opacity p)
 
--- such a leaf laid over a block, where the group is of normal mode
+-- such a leaf laid over a rectangle, where the group is of normal mode
 pub leaf_alone : (o : Corner) (l : Leaf) (q z : Premultiplied) (opacity : ℕ) (es : Entries Wrapper Leaf) (s : Span) (y0 y1 : ℕ) (old new : Picture) → es ≡ leaf l nil → q ≡ scaled z opacity
     → ((x y : ℤ) (d : Premultiplied) → composed x y d (leaf l nil) ≡ cond (covers l x y) (laid_over z d) d)
-    → IsBlockChanged o (over_leaf q l) s y0 y1 old new → IsBlockChanged o (group_over Normal opacity es) s y0 y1 old new
+    → IsRectChanged o (over_leaf q l) s y0 y1 old new → IsRectChanged o (group_over Normal opacity es) s y0 y1 old new
 leaf_alone o l q z opacity es s y0 y1 old new e c own h =
-    block_same o (over_leaf q l) (group_over Normal opacity es) s y0 y1 old new
+    rect_same o (over_leaf q l) (group_over Normal opacity es) s y0 y1 old new
     (λ x row p t.
     ap (λ w. cond (covers l (pos x) (pos row)) (laid_over w p) p) c ∙ alone (covers l (pos x) (pos row)) z p opacity
     ∙ ap (λ w. laid_over (scaled w opacity) p) (sym (own (pos x) (pos row) clear) ∙ ap (composed (pos x) (pos row) clear) (sym e))) h

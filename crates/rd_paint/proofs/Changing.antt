@@ -1,4 +1,4 @@
--- Blocks of pixels that change, a row or a list after another.
+-- Rectangles of pixels that change, a row or a list after another.
 use Rattle.std.proofs.Common.{◌≡◌, ℕ, suc, ℤ, pos, ◌+◌, ◌-◌, ◌*◌, ◌+ℤ◌, ◌<◌, ◌≤◌, ◌≤ℤ◌, ◌<ℤ◌, Bool, true, false, not, ◌&&◌, ◌||◌, ◌⊎◌, inl, inr, cond, nat_eq, nat_lt, nat_le, List, [], ◌∷◌, take, drop, length, get_or, replicate, Option, Some, None, refl, sym, ap, ◌∙◌, arith}
 use Rattle.std.specs.Prelude.{int_le, int_lt}
 use Rattle.std.specs.Int.{int_max, int_min}
@@ -18,7 +18,7 @@ use Rattle.rd_paint.specs.Pictures.{Picture, pixel_at, span_of}
 use Rattle.rd_paint.specs.declared.corner.Corner.{Corner}
 use Rattle.rd_paint.specs.Lending.{HasSpan}
 use Rattle.rd_paint.specs.Internal.Bands.{IsBandPainted}
-use Rattle.rd_paint.specs.Internal.Blocks.{in_block, on_canvas, IsBlockChanged, IsBlockLaid, IsRunPainted, over_around, over_leaf}
+use Rattle.rd_paint.specs.Internal.Rects.{in_rect, on_canvas, IsRectChanged, IsRectLaid, IsRunPainted, over_around, over_leaf}
 use Rattle.rd_paint.specs.Internal.Runs.{each_from, each_at}
 use Rattle.rd_paint.proofs.Pieces.{seen_covers}
 use Rattle.rd_paint.proofs.Places.{get_or-each_at, length-each_from}
@@ -67,21 +67,21 @@ shifted l t a y n x row h k =
     up_to : (l a n x : ℕ) → l ≤ a → nat_lt x (a - l + n) ≡ nat_lt (l + x) (a + n)
     up_to l a n x h = grind arith
 
--- a row of a block
+-- a row of a rectangle
 pub row_changed : (o : Corner) (f : Change) (s : Span) (y a b : ℕ) (ps : List Premultiplied) (old new : Picture) → s.x0 ≡ pos a → s.x1 ≡ pos b → o.left ≤ a → a ≤ b → o.top ≤ y → length ps ≡ b - a
-    → ((k : ℕ) → k < length ps → get_or ps k clear ≡ f (a + k) y (on_canvas old (a - o.left + k) (y - o.top))) → HasSpan old (y - o.top) (a - o.left) ps new → IsBlockChanged o f s y (y + 1) old new
+    → ((k : ℕ) → k < length ps → get_or ps k clear ≡ f (a + k) y (on_canvas old (a - o.left + k) (y - o.top))) → HasSpan old (y - o.top) (a - o.left) ps new → IsRectChanged o f s y (y + 1) old new
 row_changed o f s y a b ps old new ea eb left order top len px h = record { width = h.width; height = h.height; pixels = at }
   where
     wide : a + length ps ≡ b
     wide = omega (arith, len)
 
-    in_list : (x row : ℕ) → (nat_eq row y && nat_le a x && nat_lt x (a + length ps)) ≡ in_block s y (y + 1) x row
+    in_list : (x row : ℕ) → (nat_eq row y && nat_le a x && nat_lt x (a + length ps)) ≡ in_rect s y (y + 1) x row
     in_list x row =
         sym (and_assoc (nat_eq row y) (nat_le a x) (nat_lt x (a + length ps)))
         ∙ ap (λ t. nat_eq row y && t) (ap (λ n. nat_le a x && nat_lt x n) wide ∙ span_test a b x ∙ ap (λ z. int_le z (pos x) && int_lt (pos x) (pos b)) (sym ea) ∙ ap (λ z. int_le s.x0 (pos x) && int_lt (pos x) z) (sym eb))
         ∙ ap (λ t. t && in_span s (pos x)) (one_row row y)
 
-    test : (x row : ℕ) → (nat_eq row (y - o.top) && nat_le (a - o.left) x && nat_lt x (a - o.left + length ps)) ≡ in_block s y (y + 1) (o.left + x) (o.top + row)
+    test : (x row : ℕ) → (nat_eq row (y - o.top) && nat_le (a - o.left) x && nat_lt x (a - o.left + length ps)) ≡ in_rect s y (y + 1) (o.left + x) (o.top + row)
     test x row = shifted o.left o.top a y (length ps) x row left top ∙ in_list (o.left + x) (o.top + row)
 
     value : (x row : ℕ) → (nat_eq row (y - o.top) && nat_le (a - o.left) x && nat_lt x (a - o.left + length ps)) ≡ true → get_or ps (x - (a - o.left)) clear ≡ f (o.left + x) (o.top + row) (on_canvas old x row)
@@ -97,7 +97,7 @@ row_changed o f s y a b ps old new ea eb left order top len px h = record { widt
         ∙ ap (λ n. f (o.left + x) n (on_canvas old x (y - o.top))) ey ∙ ap (λ n. f (o.left + x) (o.top + row) (on_canvas old x n)) (sym r)
 
     at : (x row : ℕ) → x < old.width → row < old.height
-        → on_canvas new x row ≡ cond (in_block s y (y + 1) (o.left + x) (o.top + row)) (f (o.left + x) (o.top + row) (on_canvas old x row)) (on_canvas old x row)
+        → on_canvas new x row ≡ cond (in_rect s y (y + 1) (o.left + x) (o.top + row)) (f (o.left + x) (o.top + row) (on_canvas old x row)) (on_canvas old x row)
     at x row p q =
         span_value old new (y - o.top) (a - o.left) ps x row h p q
         ∙ cond_same (nat_eq row (y - o.top) && nat_le (a - o.left) x && nat_lt x (a - o.left + length ps)) (get_or ps (x - (a - o.left)) clear) (f (o.left + x) (o.top + row) (on_canvas old x row)) (on_canvas old x row) (value x row)
@@ -111,7 +111,7 @@ span_pixel c y a b k h =
 -- a row whose pixels were changed by their places
 pub row_by : (o : Corner) (f : Change) (s : Span) (y a b : ℕ) (g : ℕ → Premultiplied → Premultiplied) (out ps : List Premultiplied) (old new : Picture) → s.x0 ≡ pos a → s.x1 ≡ pos b → o.left ≤ a → a ≤ b → o.top ≤ y
     → out ≡ span_of old (y - o.top) (a - o.left) (b - o.left) → length out ≡ b - a → ps ≡ each_at g out → ((k : ℕ) (p : Premultiplied) → k < b - a → g k p ≡ f (a + k) y p) → HasSpan old (y - o.top) (a - o.left) ps new
-    → IsBlockChanged o f s y (y + 1) old new
+    → IsRectChanged o f s y (y + 1) old new
 row_by o f s y a b g out ps old new ea eb left order top eo len ep same h =
     let long : length ps ≡ b - a = ap length ep ∙ length-each_from 0 g out ∙ len in
     row_changed o f s y a b ps old new ea eb left order top long
@@ -122,8 +122,8 @@ replicate_each q i [] = refl
 replicate_each q i (p ∷ ps) = ap (λ t. q ∷ t) (replicate_each q (suc i) ps)
 
 -- no row yet, and rows after others
-pub block_off : (o : Corner) (f : Change) (s : Span) (y0 y1 : ℕ) (c : Picture) → (y1 ≤ y0) ⊎ (s.x1 ≤ℤ s.x0) → IsBlockChanged o f s y0 y1 c c
-block_off o f s y0 y1 c h = record { width = refl; height = refl; pixels = λ x row p q. rw (off (o.left + x) (o.top + row) h) refl }
+pub rect_off : (o : Corner) (f : Change) (s : Span) (y0 y1 : ℕ) (c : Picture) → (y1 ≤ y0) ⊎ (s.x1 ≤ℤ s.x0) → IsRectChanged o f s y0 y1 c c
+rect_off o f s y0 y1 c h = record { width = refl; height = refl; pixels = λ x row p q. rw (off (o.left + x) (o.top + row) h) refl }
   where
     no_rows : (row : ℕ) → y1 ≤ y0 → (nat_le y0 row && nat_lt row y1) ≡ false
     no_rows row h = grind arith
@@ -135,52 +135,52 @@ block_off o f s y0 y1 c h = record { width = refl; height = refl; pixels = λ x 
     right_false true = refl
     right_false false = refl
 
-    off : (x row : ℕ) → (y1 ≤ y0) ⊎ (s.x1 ≤ℤ s.x0) → in_block s y0 y1 x row ≡ false
+    off : (x row : ℕ) → (y1 ≤ y0) ⊎ (s.x1 ≤ℤ s.x0) → in_rect s y0 y1 x row ≡ false
     off x row (inl h) = rw (no_rows row h) refl
     off x row (inr h) = rw (no_columns x h) (right_false (nat_le y0 row && nat_lt row y1))
 
-pub block_more : (o : Corner) (f : Change) (s : Span) (y0 y1 y2 : ℕ) (old mid new : Picture) → y0 ≤ y1 → y1 ≤ y2 → IsBlockChanged o f s y0 y1 old mid → IsBlockChanged o f s y1 y2 mid new → IsBlockChanged o f s y0 y2 old new
-block_more o f s y0 y1 y2 old mid new h k a b = record {
+pub rect_more : (o : Corner) (f : Change) (s : Span) (y0 y1 y2 : ℕ) (old mid new : Picture) → y0 ≤ y1 → y1 ≤ y2 → IsRectChanged o f s y0 y1 old mid → IsRectChanged o f s y1 y2 mid new → IsRectChanged o f s y0 y2 old new
+rect_more o f s y0 y1 y2 old mid new h k a b = record {
   width = b.width ∙ a.width;
   height = b.height ∙ a.height;
   pixels = λ x row p q.
       b.pixels x row (omega (arith, a.width, p)) (omega (arith, a.height, q))
-      ∙ ap (λ v. cond (in_block s y1 y2 (o.left + x) (o.top + row)) (f (o.left + x) (o.top + row) v) v) (a.pixels x row p q)
+      ∙ ap (λ v. cond (in_rect s y1 y2 (o.left + x) (o.top + row)) (f (o.left + x) (o.top + row) v) v) (a.pixels x row p q)
       ∙ by_row (o.left + x) (o.top + row) (f (o.left + x) (o.top + row)) (on_canvas old x row) (cases_lt (o.top + row) y1);
 }
   where
     by_row : (x row : ℕ) (g : Premultiplied → Premultiplied) (o : Premultiplied) → (row < y1) ⊎ (y1 ≤ row)
-        → (let v = cond (in_block s y0 y1 x row) (g o) o in cond (in_block s y1 y2 x row) (g v) v) ≡ cond (in_block s y0 y2 x row) (g o) o
+        → (let v = cond (in_rect s y0 y1 x row) (g o) o in cond (in_rect s y1 y2 x row) (g v) v) ≡ cond (in_rect s y0 y2 x row) (g o) o
     by_row x row g o (inl l) = rw (lt-ltb row y1 l, lt-leb y1 row l, lt-ltb row y2 (let m : row < y2 = omega arith in m)) refl
     by_row x row g o (inr l) = rw (le-ltb row y1 l, le-leb y1 row l, le-leb y0 row (let m : y0 ≤ row = omega arith in m)) refl
 
 -- one change after another, and the same change
-pub block_then : (o : Corner) (f g : Change) (s : Span) (y0 y1 : ℕ) (old mid new : Picture) → IsBlockChanged o f s y0 y1 old mid → IsBlockChanged o g s y0 y1 mid new → IsBlockChanged o (λ x y p. g x y (f x y p)) s y0 y1 old new
-block_then o f g s y0 y1 old mid new a b = record {
+pub rect_then : (o : Corner) (f g : Change) (s : Span) (y0 y1 : ℕ) (old mid new : Picture) → IsRectChanged o f s y0 y1 old mid → IsRectChanged o g s y0 y1 mid new → IsRectChanged o (λ x y p. g x y (f x y p)) s y0 y1 old new
+rect_then o f g s y0 y1 old mid new a b = record {
   width = b.width ∙ a.width;
   height = b.height ∙ a.height;
   pixels = λ x row p q.
       b.pixels x row (omega (arith, a.width, p)) (omega (arith, a.height, q))
-      ∙ ap (λ v. cond (in_block s y0 y1 (o.left + x) (o.top + row)) (g (o.left + x) (o.top + row) v) v) (a.pixels x row p q)
-      ∙ both (in_block s y0 y1 (o.left + x) (o.top + row)) (f (o.left + x) (o.top + row)) (g (o.left + x) (o.top + row)) (on_canvas old x row);
+      ∙ ap (λ v. cond (in_rect s y0 y1 (o.left + x) (o.top + row)) (g (o.left + x) (o.top + row) v) v) (a.pixels x row p q)
+      ∙ both (in_rect s y0 y1 (o.left + x) (o.top + row)) (f (o.left + x) (o.top + row)) (g (o.left + x) (o.top + row)) (on_canvas old x row);
 }
   where
     both : (t : Bool) (f g : Premultiplied → Premultiplied) (o : Premultiplied) → (let v = cond t (f o) o in cond t (g v) v) ≡ cond t (g (f o)) o
     both true f g o = refl
     both false f g o = refl
 
-pub block_same : (o : Corner) (f g : Change) (s : Span) (y0 y1 : ℕ) (old new : Picture) → ((x row : ℕ) (p : Premultiplied) → in_block s y0 y1 x row ≡ true → f x row p ≡ g x row p) → IsBlockChanged o f s y0 y1 old new → IsBlockChanged o g s y0 y1 old new
-block_same o f g s y0 y1 old new e a = record {
+pub rect_same : (o : Corner) (f g : Change) (s : Span) (y0 y1 : ℕ) (old new : Picture) → ((x row : ℕ) (p : Premultiplied) → in_rect s y0 y1 x row ≡ true → f x row p ≡ g x row p) → IsRectChanged o f s y0 y1 old new → IsRectChanged o g s y0 y1 old new
+rect_same o f g s y0 y1 old new e a = record {
   width = a.width;
   height = a.height;
   pixels = λ x row p q.
       a.pixels x row p q
-      ∙ cond_same (in_block s y0 y1 (o.left + x) (o.top + row)) (f (o.left + x) (o.top + row) (on_canvas old x row)) (g (o.left + x) (o.top + row) (on_canvas old x row)) (on_canvas old x row) (e (o.left + x) (o.top + row) (on_canvas old x row));
+      ∙ cond_same (in_rect s y0 y1 (o.left + x) (o.top + row)) (f (o.left + x) (o.top + row) (on_canvas old x row)) (g (o.left + x) (o.top + row) (on_canvas old x row)) (on_canvas old x row) (e (o.left + x) (o.top + row) (on_canvas old x row));
 }
 
 -- the columns of a span that are on the canvas
-pub block_cut : (o : Corner) (f : Change) (s part : Span) (y0 y1 : ℕ) (old new : Picture) → ((x : ℕ) → x < old.width → in_span part (pos (o.left + x)) ≡ in_span s (pos (o.left + x))) → IsBlockChanged o f part y0 y1 old new → IsBlockChanged o f s y0 y1 old new
-block_cut o f s part y0 y1 old new e a = record {
+pub rect_cut : (o : Corner) (f : Change) (s part : Span) (y0 y1 : ℕ) (old new : Picture) → ((x : ℕ) → x < old.width → in_span part (pos (o.left + x)) ≡ in_span s (pos (o.left + x))) → IsRectChanged o f part y0 y1 old new → IsRectChanged o f s y0 y1 old new
+rect_cut o f s part y0 y1 old new e a = record {
   width = a.width;
   height = a.height;
   pixels = λ x row p q.
@@ -206,17 +206,17 @@ columns_cut o s part columns n w e ec ew x h =
         up_to v l n x h = grind (arith, ints, clamps)
 
 -- one list laid after another
-pub laid_then : (o : Corner) (one rest left : Entries Wrapper Leaf) (s : Span) (y0 y1 : ℕ) (old mid new : Picture) → left ≡ one ▷ rest → IsBlockLaid o one s y0 y1 old mid → IsBlockLaid o rest s y0 y1 mid new → IsBlockLaid o left s y0 y1 old new
+pub laid_then : (o : Corner) (one rest left : Entries Wrapper Leaf) (s : Span) (y0 y1 : ℕ) (old mid new : Picture) → left ≡ one ▷ rest → IsRectLaid o one s y0 y1 old mid → IsRectLaid o rest s y0 y1 mid new → IsRectLaid o left s y0 y1 old new
 laid_then o one rest left s y0 y1 old mid new e a b =
-    block_same o (λ x y p. composed (pos x) (pos y) (composed (pos x) (pos y) p one) rest) (λ x y p. composed (pos x) (pos y) p left) s y0 y1 old new
+    rect_same o (λ x y p. composed (pos x) (pos y) (composed (pos x) (pos y) p one) rest) (λ x y p. composed (pos x) (pos y) p left) s y0 y1 old new
     (λ x row p t. sym (ap (composed (pos x) (pos row) p) e ∙ composed-join (pos x) (pos row) p one rest))
-    (block_then o (λ x y p. composed (pos x) (pos y) p one) (λ x y p. composed (pos x) (pos y) p rest) s y0 y1 old mid new a b)
+    (rect_then o (λ x y p. composed (pos x) (pos y) p one) (λ x y p. composed (pos x) (pos y) p rest) s y0 y1 old mid new a b)
 
-pub laid_as : (o : Corner) (es fs : Entries Wrapper Leaf) (s : Span) (y0 y1 : ℕ) (old new : Picture) → es ≡ fs → IsBlockLaid o es s y0 y1 old new → IsBlockLaid o fs s y0 y1 old new
-laid_as o es fs s y0 y1 old new e a = block_same o (λ x y p. composed (pos x) (pos y) p es) (λ x y p. composed (pos x) (pos y) p fs) s y0 y1 old new (λ x row p t. ap (composed (pos x) (pos row) p) e) a
+pub laid_as : (o : Corner) (es fs : Entries Wrapper Leaf) (s : Span) (y0 y1 : ℕ) (old new : Picture) → es ≡ fs → IsRectLaid o es s y0 y1 old new → IsRectLaid o fs s y0 y1 old new
+laid_as o es fs s y0 y1 old new e a = rect_same o (λ x y p. composed (pos x) (pos y) p es) (λ x y p. composed (pos x) (pos y) p fs) s y0 y1 old new (λ x row p t. ap (composed (pos x) (pos row) p) e) a
 
-pub laid_nil : (o : Corner) (es : Entries Wrapper Leaf) (s : Span) (y0 y1 : ℕ) (c : Picture) → es ≡ nil → IsBlockLaid o es s y0 y1 c c
-laid_nil o es s y0 y1 c e = record { width = refl; height = refl; pixels = λ x row p q. rw e (sym (same (in_block s y0 y1 (o.left + x) (o.top + row)) (on_canvas c x row))) }
+pub laid_nil : (o : Corner) (es : Entries Wrapper Leaf) (s : Span) (y0 y1 : ℕ) (c : Picture) → es ≡ nil → IsRectLaid o es s y0 y1 c c
+laid_nil o es s y0 y1 c e = record { width = refl; height = refl; pixels = λ x row p q. rw e (sym (same (in_rect s y0 y1 (o.left + x) (o.top + row)) (on_canvas c x row))) }
   where
     same : (t : Bool) (p : Premultiplied) → cond t p p ≡ p
     same true p = refl
@@ -250,13 +250,13 @@ part_is s part c a b l r ea eb el er h places x =
         let e : a + (x - a) ≡ x = omega arith in
         shifted u ∙ sym (places (x - a) (omega arith)) ∙ ap (λ n. in_span c (pos n)) e ∙ rw (le-leb a x u, lt-ltb x b v) refl
 
--- a leaf where it may be seen of a block
+-- a leaf where it may be seen of a rectangle
 pub leaf_laid : (o : Corner) (l : Leaf) (q : Premultiplied) (s part columns rows : Span) (y0 y1 a b left to top end : ℕ) (old new : Picture) → IsWithin l.visible l.shape.outer
     → s.x0 ≡ pos a → s.x1 ≡ pos b → part.x0 ≡ pos (a + left) → part.x1 ≡ pos (a + to) → to ≤ b - a → end ≤ y1 - y0
     → columns ≡ record { x0 = l.visible.x; x1 = right l.visible } → rows ≡ record { x0 = l.visible.y; x1 = bottom l.visible }
     → ((k : ℕ) → k < b - a → in_span columns (pos (a + k)) ≡ (nat_le left k && nat_lt k to))
     → ((k : ℕ) → k < y1 - y0 → in_span rows (pos (y0 + k)) ≡ (nat_le top k && nat_lt k end))
-    → IsBlockChanged o (over_around q l.shape.inner) part (y0 + top) (y0 + end) old new → IsBlockChanged o (over_leaf q l) s y0 y1 old new
+    → IsRectChanged o (over_around q l.shape.inner) part (y0 + top) (y0 + end) old new → IsRectChanged o (over_leaf q l) s y0 y1 old new
 leaf_laid o l q s part columns rows y0 y1 a b left to top end old new w ea eb el er ht he ec ew across down h = record { width = h.width; height = h.height; pixels = λ x row p k. h.pixels x row p k ∙ seen (o.left + x) (o.top + row) (on_canvas old x row) }
   where
     run : (y0 y1 : ℕ) → Span
@@ -280,19 +280,19 @@ leaf_laid o l q s part columns rows y0 y1 a b left to top end old new w ea eb el
     by_parts true false false u n f o = refl
     by_parts false v i u n f o = refl
 
-    seen : (x row : ℕ) (v : Premultiplied) → cond (in_block part (y0 + top) (y0 + end) x row) (over_around q l.shape.inner x row v) v ≡ cond (in_block s y0 y1 x row) (over_leaf q l x row v) v
+    seen : (x row : ℕ) (v : Premultiplied) → cond (in_rect part (y0 + top) (y0 + end) x row) (over_around q l.shape.inner x row v) v ≡ cond (in_rect s y0 y1 x row) (over_leaf q l x row v) v
     seen x row v =
         ap (λ t. cond (t && in_span part (pos x)) (over_around q l.shape.inner x row v) v) (of_rows row)
         ∙ ap (λ t. cond (((nat_le y0 row && nat_lt row y1) && is_among l.visible.y l.visible.h (pos row)) && t) (over_around q l.shape.inner x row v) v) (of_columns x)
         ∙ by_parts (nat_le y0 row && nat_lt row y1) (is_among l.visible.y l.visible.h (pos row)) (in_span s (pos x)) (is_among l.visible.x l.visible.w (pos x)) (not (holds_pixel l.shape.inner (pos x) (pos row))) (laid_over q v) v
-        ∙ ap (λ t. cond (in_block s y0 y1 x row) (cond t (laid_over q v) v) v) (sym (seen_covers l (pos x) (pos row) w))
+        ∙ ap (λ t. cond (in_rect s y0 y1 x row) (cond t (laid_over q v) v) v) (sym (seen_covers l (pos x) (pos row) w))
 
 -- where a list was laid over what does not show
-pub block_hidden : (o : Corner) (rest whole : Entries Wrapper Leaf) (s : Span) (y0 y1 a b : ℕ) (old new : Picture) → s.x0 ≡ pos a → s.x1 ≡ pos b
+pub rect_hidden : (o : Corner) (rest whole : Entries Wrapper Leaf) (s : Span) (y0 y1 a b : ℕ) (old new : Picture) → s.x0 ≡ pos a → s.x1 ≡ pos b
     → ((k : ℕ) (y : ℤ) (d e : Premultiplied) → k < b - a → pos y0 ≤ℤ y → y <ℤ pos y1 → composed (pos a +ℤ pos k) y d rest ≡ composed (pos a +ℤ pos k) y e whole)
-    → IsBlockLaid o rest s y0 y1 old new → IsBlockChanged o (λ x y p. pixel whole (pos x) (pos y)) s y0 y1 old new
-block_hidden o rest whole s y0 y1 a b old new ea eb hides h =
-    block_same o (λ x y p. composed (pos x) (pos y) p rest) (λ x y p. pixel whole (pos x) (pos y)) s y0 y1 old new
+    → IsRectLaid o rest s y0 y1 old new → IsRectChanged o (λ x y p. pixel whole (pos x) (pos y)) s y0 y1 old new
+rect_hidden o rest whole s y0 y1 a b old new ea eb hides h =
+    rect_same o (λ x y p. composed (pos x) (pos y) p rest) (λ x y p. pixel whole (pos x) (pos y)) s y0 y1 old new
     (λ x row p t.
     let r = and_left (nat_le y0 row && nat_lt row y1) (in_span s (pos x)) t in
     let i = span_test a b x ∙ ap (λ z. int_le z (pos x) && int_lt (pos x) (pos b)) (sym ea) ∙ ap (λ z. int_le s.x0 (pos x) && int_lt (pos x) z) (sym eb) ∙ and_right (nat_le y0 row && nat_lt row y1) (in_span s (pos x)) t in
@@ -305,13 +305,13 @@ block_hidden o rest whole s y0 y1 a b old new ea eb hides h =
 
 -- one span more of a run of rows
 pub run_more : (o : Corner) (list : Entries Wrapper Leaf) (ss : List Span) (i : ℕ) (s : Span) (y0 y1 : ℕ) (old mid new : Picture) → i < length ss → s ≡ get_or ss i s
-    → IsRunPainted o list (take i ss) y0 y1 old mid → IsBlockChanged o (λ x y p. pixel list (pos x) (pos y)) s y0 y1 mid new → IsRunPainted o list (take (i + 1) ss) y0 y1 old new
+    → IsRunPainted o list (take i ss) y0 y1 old mid → IsRectChanged o (λ x y p. pixel list (pos x) (pos y)) s y0 y1 mid new → IsRunPainted o list (take (i + 1) ss) y0 y1 old new
 run_more o list ss i s y0 y1 old mid new h e a b = record {
   width = b.width ∙ a.width;
   height = b.height ∙ a.height;
   pixels = λ x row p q.
       b.pixels x row (omega (arith, a.width, p)) (omega (arith, a.height, q))
-      ∙ ap (λ v. cond (in_block s y0 y1 (o.left + x) (o.top + row)) (pixel list (pos (o.left + x)) (pos (o.top + row))) v) (a.pixels x row p q)
+      ∙ ap (λ v. cond (in_rect s y0 y1 (o.left + x) (o.top + row)) (pixel list (pos (o.left + x)) (pos (o.top + row))) v) (a.pixels x row p q)
       ∙ more (o.left + x) (o.top + row) (on_canvas old x row);
 }
   where
@@ -322,7 +322,7 @@ run_more o list ss i s y0 y1 old mid new h e a b = record {
     either true false false p o = refl
     either false u v p o = refl
 
-    more : (x row : ℕ) (v : Premultiplied) → cond (in_block s y0 y1 x row) (pixel list (pos x) (pos row)) (cond ((nat_le y0 row && nat_lt row y1) && in_spans (take i ss) (pos x)) (pixel list (pos x) (pos row)) v)
+    more : (x row : ℕ) (v : Premultiplied) → cond (in_rect s y0 y1 x row) (pixel list (pos x) (pos row)) (cond ((nat_le y0 row && nat_lt row y1) && in_spans (take i ss) (pos x)) (pixel list (pos x) (pos row)) v)
         ≡ cond ((nat_le y0 row && nat_lt row y1) && in_spans (take (i + 1) ss) (pos x)) (pixel list (pos x) (pos row)) v
     more x row v =
         either (nat_le y0 row && nat_lt row y1) (in_spans (take i ss) (pos x)) (in_span s (pos x)) (pixel list (pos x) (pos row)) v

@@ -9,7 +9,7 @@ pub mod Choosing
 pub mod Showing
 pub mod Transparent
 pub mod Passing
-pub mod OffBlocks
+pub mod OffChunks
 pub mod Hiding
 pub mod Banding
 pub mod Framing

@@ -2,8 +2,8 @@
 use Rattle.std.proofs.Common.{◌≡◌, ℕ, pos, ◌+◌, ◌<◌, ◌≤◌, ◌≤ℤ◌, arith, sym, subst}
 use Rattle.rd_paint.specs.Pictures.{Picture}
 use Rattle.rd_paint.specs.declared.strip.Strip.{Strip}
-use Rattle.rd_paint.specs.declared.strip.PixelBlock.{PixelBlock}
-use Rattle.rd_paint.specs.Internal.Strips.{IsBlockOn, IsStripOn, IsWithinLimits}
+use Rattle.rd_paint.specs.declared.strip.PixelRect.{PixelRect}
+use Rattle.rd_paint.specs.Internal.Strips.{IsRectOn, IsStripOn, IsWithinLimits}
 
 module _ (old new : Picture) where
   pub strip_still : (s : Strip) → new.width ≡ old.width → new.height ≡ old.height → IsStripOn old s → IsStripOn new s
@@ -14,8 +14,8 @@ module _ (old new : Picture) where
     on = subst (λ (n : ℕ). s.y1 ≤ s.corner.top + n) (sym h) o.on;
   }
 
-  pub block_still : (b : PixelBlock) → new.width ≡ old.width → new.height ≡ old.height → IsBlockOn old b → IsBlockOn new b
-  block_still b w h o = record {
+  pub rect_still : (b : PixelRect) → new.width ≡ old.width → new.height ≡ old.height → IsRectOn old b → IsRectOn new b
+  rect_still b w h o = record {
     strip = strip_still b.strip w h o.strip;
     from = o.from;
     order = o.order;

@@ -3,5 +3,5 @@ pub mod Runs
 pub mod Bands
 pub mod Picks
 pub mod Frames
-pub mod Blocks
+pub mod Rects
 pub mod Strips

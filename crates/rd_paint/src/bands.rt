@@ -3,19 +3,18 @@
 ghost use Rattle.std.specs.Prelude.{◌≡◌, ℕ, pos, ◌+◌, ◌-◌, ◌*◌, ◌^◌, ◌≤◌, ◌<◌, ◌≤ℤ◌, IsTrue, IsFalse, IfSome, length, take, vec_capacity};
 ghost use Rattle.std.specs.Int.{int_max, int_min};
 ghost use Rattle.rd_geom.specs.Areas.{spans_at};
-ghost use Rattle.rd_list.specs.Blocks.{Covers};
+ghost use Rattle.rd_list.specs.Chunks.{Covers};
 ghost use Rattle.rd_list.specs.Displayed.{shown};
 ghost use Rattle.rd_list.specs.EntryNames.{kept_leaves};
 ghost use Rattle.rd_list.specs.KeptView.{kept_entries};
 ghost use Rattle.rd_list.specs.Lists.{pixel};
 ghost use Rattle.rd_list.specs.Views.{levels};
 ghost use Rattle.rd_paint.specs.Internal.Bands.{IsBandPainted, IsPainted};
-ghost use Rattle.rd_paint.specs.Internal.Blocks.{IsBlockChanged, IsRunPainted};
+ghost use Rattle.rd_paint.specs.Internal.Rects.{IsRectChanged, IsRunPainted};
 ghost use Rattle.rd_paint.specs.Internal.Picks.{InAreaWithin, SameWhere, picked};
-ghost use Rattle.rd_paint.specs.Internal.Strips.{IsBlockOn, IsStripOn, IsWithinLimits};
+ghost use Rattle.rd_paint.specs.Internal.Strips.{IsRectOn, IsStripOn, IsWithinLimits};
 ghost use Rattle.rd_paint.specs.Parts.{entry_count, entries_from};
 
-use crate::blocks::{lay_picks_in, whiten};
 use crate::buffers::{ROOMS, fill_room, open_for, upper};
 use crate::canvas::Canvas;
 use crate::corner::Corner;
@@ -24,40 +23,41 @@ use crate::frame::{frame_of, meets_part};
 use crate::gathering::gather;
 use crate::narrowing::narrow;
 use crate::picks::Pick;
-use crate::strip::{Band, PixelBlock, Strip};
+use crate::rects::{lay_picks_in, whiten};
+use crate::strip::{Band, PixelRect, Strip};
 use rd_area::Area;
 use rd_geom::{Px, Span};
-use rd_list::{Block, Entry, Kept};
+use rd_list::{Chunk, Entry, Kept};
 use std::sync::ledger::Ledger;
 
-/// Paints the entries that picks name, on white, in the pixels of the block. It begins with the topmost opaque leaf that covers all of
+/// Paints the entries that picks name, on white, in the pixels of the rectangle. It begins with the topmost opaque leaf that covers all of
 /// them.
-fn paint_block<A: Ledger>(
+fn paint_rect<A: Ledger>(
     canvas: &mut Canvas,
-    block: PixelBlock,
+    rect: PixelRect,
     entries: &[Entry<A>],
     picks: &[Pick],
     rows: &mut [Px],
 )
-    requires on { IsBlockOn canvas.old block }
+    requires on { IsRectOn canvas.old rect }
     requires rows { canvas.old.width * (levels (picked picks.now (shown entries.now)) - 1) ≤ length rows.old }
-    ensures { IsBlockChanged block.strip.corner (λ x y p. pixel (picked picks.now (shown entries.now)) (pos x) (pos y))
-        block.span block.strip.y0 block.strip.y1 canvas.old canvas.new }
+    ensures { IsRectChanged rect.strip.corner (λ x y p. pixel (picked picks.now (shown entries.now)) (pos x) (pos y))
+        rect.span rect.strip.y0 rect.strip.y1 canvas.old canvas.new }
 {
-    let span = block.span;
+    let span = rect.span;
     let count = (span.x1 - span.x0) as usize;
     match cover(
         entries,
         picks,
-        block.strip.y0 as i32,
-        block.strip.y1 as i32,
+        rect.strip.y0 as i32,
+        rect.strip.y1 as i32,
         span.x0,
         count,
     ) {
-        Some(i) => lay_picks_in(canvas, block, entries, &picks[i..], rows),
+        Some(i) => lay_picks_in(canvas, rect, entries, &picks[i..], rows),
         None => {
-            whiten(canvas, block);
-            lay_picks_in(canvas, block, entries, picks, rows);
+            whiten(canvas, rect);
+            lay_picks_in(canvas, rect, entries, picks, rows);
         }
     }
 }
@@ -75,24 +75,24 @@ fn cut(span: Span, columns: Span) -> Span
 /// Paints the same, of the columns of the span that are on the canvas.
 fn paint_span_in<A: Ledger>(
     canvas: &mut Canvas,
-    block: PixelBlock,
+    rect: PixelRect,
     entries: &[Entry<A>],
     picks: &[Pick],
     rows: &mut [Px],
 )
-    requires on { IsStripOn canvas.old block.strip }
+    requires on { IsStripOn canvas.old rect.strip }
     requires rows { canvas.old.width * (levels (picked picks.now (shown entries.now)) - 1) ≤ length rows.old }
-    ensures { IsBlockChanged block.strip.corner (λ x y p. pixel (picked picks.now (shown entries.now)) (pos x) (pos y))
-        block.span block.strip.y0 block.strip.y1 canvas.old canvas.new }
+    ensures { IsRectChanged rect.strip.corner (λ x y p. pixel (picked picks.now (shown entries.now)) (pos x) (pos y))
+        rect.span rect.strip.y0 rect.strip.y1 canvas.old canvas.new }
 {
     let width = canvas.size().w as usize;
-    let part = cut(block.span, block.strip.corner.columns(width));
+    let part = cut(rect.span, rect.strip.corner.columns(width));
     if part.x0 < part.x1 {
-        let inside = PixelBlock {
-            strip: block.strip,
+        let inside = PixelRect {
+            strip: rect.strip,
             span: part,
         };
-        paint_block(canvas, inside, entries, picks, rows);
+        paint_rect(canvas, inside, entries, picks, rows);
     }
 }
 
@@ -110,8 +110,8 @@ fn paint_run<A: Ledger>(
     ensures { IsRunPainted strip.corner (picked picks.now (shown entries.now)) spans.now strip.y0 strip.y1 canvas.old canvas.new }
 {
     for span in spans {
-        let block = PixelBlock { strip, span: *span };
-        paint_span_in(canvas, block, entries, picks, rows);
+        let rect = PixelRect { strip, span: *span };
+        paint_span_in(canvas, rect, entries, picks, rows);
     }
 }
 
@@ -262,14 +262,14 @@ const FIRST_PICKS: usize = 1_024;
 /// takes. All of it is where the picks are many; in room for their bands too.
 fn gather_all<A: Ledger>(
     entries: &[Entry<A>],
-    blocks: &[Block],
+    chunks: &[Chunk],
     area: &Area,
     columns: Span,
     rows: Span,
     room: &mut Vec<Pick>,
 ) -> Option<usize>
     requires few { length room.old.items < 2 ^ 32 }
-    requires covers { Covers blocks.now entries.now }
+    requires covers { Covers chunks.now entries.now }
     ensures few { length room.new.items < 2 ^ 32 }
     ensures within { IfSome result (λ n. n ≤ length room.new.items) }
     ensures same { IfSome result (λ n. SameWhere (InAreaWithin area.now columns rows)
@@ -278,13 +278,13 @@ fn gather_all<A: Ledger>(
         ≤ levels (shown entries.now)) }
 {
     fill_room(room, FIRST_PICKS);
-    if let Some(count) = gather(entries, blocks, area, columns, rows, room) {
+    if let Some(count) = gather(entries, chunks, area, columns, rows, room) {
         fill_room(room, count * ROOMS);
         return Some(count);
     }
     let most = room.capacity();
     fill_room(room, most);
-    gather(entries, blocks, area, columns, rows, room)
+    gather(entries, chunks, area, columns, rows, room)
 }
 
 /// Paints all rows of the entries of a level. False where the room is too small for picks of all entries that may show: then
@@ -293,7 +293,7 @@ fn paint_all<A: Ledger>(
     canvas: &mut Canvas,
     corner: Corner,
     entries: &[Entry<A>],
-    blocks: &[Block],
+    chunks: &[Chunk],
     area: &Area,
     rows: &mut Vec<Px>,
     room: &mut Vec<Pick>,
@@ -301,7 +301,7 @@ fn paint_all<A: Ledger>(
     requires limits { IsWithinLimits canvas.old corner }
     requires rows { canvas.old.width * (levels (kept_entries entries.now) - 1) ≤ vec_capacity rows.old }
     requires few { length room.old.items < 2 ^ 32 }
-    requires covers { Covers blocks.now entries.now }
+    requires covers { Covers chunks.now entries.now }
     ensures few { length room.new.items < 2 ^ 32 }
     ensures rows { vec_capacity rows.old ≤ vec_capacity rows.new }
     ensures painted { IsTrue result → IsPainted corner (shown entries.now) area.now canvas.old canvas.new }
@@ -312,7 +312,7 @@ fn paint_all<A: Ledger>(
     let frame = frame_of(area, whole);
     let columns = frame.columns();
     let lines = frame.rows();
-    let Some(count) = gather_all(entries, blocks, area, columns, lines, room) else {
+    let Some(count) = gather_all(entries, chunks, area, columns, lines, room) else {
         return false;
     };
     let (own, rest) = room.split_at_mut(count);
@@ -326,7 +326,7 @@ fn paint_all<A: Ledger>(
     true
 }
 
-/// The same of the entries of a kept list from place `from` on. Its blocks serve where those are all.
+/// The same of the entries of a kept list from place `from` on. Its chunks serve where those are all.
 pub(crate) fn paint_kept<A: Ledger>(
     canvas: &mut Canvas,
     corner: Corner,
@@ -351,7 +351,7 @@ pub(crate) fn paint_kept<A: Ledger>(
             canvas,
             corner,
             &list.entries,
-            &list.blocks,
+            &list.chunks,
             area,
             rows,
             room,

@@ -1,7 +1,7 @@
 //! Picks of all entries of a list that may show in an area.
 
 ghost use Rattle.std.specs.Prelude.{◌^◌, ◌≤◌, ◌<◌, ◌∷◌, [], IfSome, length, take};
-ghost use Rattle.rd_list.specs.Blocks.{Covers};
+ghost use Rattle.rd_list.specs.Chunks.{Covers};
 ghost use Rattle.rd_list.specs.Displayed.{shown};
 ghost use Rattle.rd_list.specs.Entries as list;
 ghost use Rattle.rd_list.specs.EntryNames.{kept_leaves};
@@ -14,22 +14,22 @@ use crate::skipping::{Sight, next_within};
 use rd_area::Area;
 use rd_geom::Span;
 use rd_item::Item;
-use rd_list::{Block, Entry, FIRST, Kept};
+use rd_list::{Chunk, Entry, FIRST_CHUNK, Kept};
 use std::sync::ledger::Ledger;
 
 /// Writes picks of the entries that may show in the area, as far as it is in these columns of these rows, and says how
-/// many; None where there is too little room. A block or a leaf outside of them costs no more than to see that.
+/// many; None where there is too little room. A chunk or a leaf outside of them costs no more than to see that.
 #[cycle(gathering)]
 pub(crate) fn gather<A: Ledger>(
     entries: &[Entry<A>],
-    blocks: &[Block],
+    chunks: &[Chunk],
     area: &Area,
     columns: Span,
     rows: Span,
     room: &mut [Pick],
 ) -> Option<usize>
     requires few { length room.old < 2 ^ 32 }
-    requires covers { Covers blocks.now entries.now }
+    requires covers { Covers chunks.now entries.now }
     ensures within { IfSome result (λ n. n ≤ length room.old) }
     ensures same { IfSome result (λ n. SameWhere (InAreaWithin area.now columns rows)
         (picked (take n room.new) (shown entries.now)) (shown entries.now)) }
@@ -37,17 +37,17 @@ pub(crate) fn gather<A: Ledger>(
         ≤ levels (shown entries.now)) }
 {
     let mut count = 0;
-    let mut seek = FIRST;
+    let mut seek = FIRST_CHUNK;
     let sight = Sight {
         area,
         columns,
         rows,
     };
-    let mut i = next_within(entries, blocks, sight, &mut seek, 0);
+    let mut i = next_within(entries, chunks, sight, &mut seek, 0);
     while i < entries.len() {
         let more = gather_one(&entries[i], i, area, columns, rows, &mut room[count..])?;
         count += more;
-        i = next_within(entries, blocks, sight, &mut seek, i + 1);
+        i = next_within(entries, chunks, sight, &mut seek, i + 1);
     }
     Some(count)
 }
@@ -120,7 +120,7 @@ fn gather_group<A: Ledger>(
     }
     let inside = gather(
         &inner.entries,
-        &inner.blocks,
+        &inner.chunks,
         area,
         columns,
         rows,

@@ -8,7 +8,6 @@
 
 mod areas;
 mod bands;
-mod blocks;
 mod buffers;
 mod canvas;
 mod chosen;
@@ -20,6 +19,7 @@ mod narrowing;
 mod picks;
 mod plain;
 mod reaching;
+mod rects;
 mod runs;
 mod skipping;
 mod spans;

@@ -1,8 +1,8 @@
-//! Entries that show nothing in an area are passed over: blocks of them whose hull is off it, leaves, and groups of no opacity.
+//! Entries that show nothing in an area are passed over: chunks of them whose hull is off it, leaves, and groups of no opacity.
 
 ghost use Rattle.std.specs.Prelude.{◌≡◌, ℤ, ◌+◌, ◌≤◌, ◌∷◌, [], IsTrue, false, length, take, drop};
 ghost use Rattle.rd_geom.specs.Plane.{holds_pixel};
-ghost use Rattle.rd_list.specs.Blocks.{Covers, IsAt, Tells};
+ghost use Rattle.rd_list.specs.Chunks.{Covers, IsAt, Tells};
 ghost use Rattle.rd_list.specs.Displayed.{shown};
 ghost use Rattle.rd_list.specs.Entries as list;
 ghost use Rattle.rd_paint.specs.Internal.Picks.{InAreaWithin, InSpans, SameWhere, ServesWhere};
@@ -10,7 +10,7 @@ ghost use Rattle.rd_paint.specs.Internal.Picks.{InAreaWithin, InSpans, SameWhere
 use rd_area::Area;
 use rd_geom::{Rect, Span};
 use rd_item::Item;
-use rd_list::{Block, Entry, Seek};
+use rd_list::{Chunk, ChunkCursor, Entry};
 use std::sync::ledger::Ledger;
 
 /// What of an area is in some columns of some rows.
@@ -106,78 +106,78 @@ fn next_before<A: Ledger>(
     i
 }
 
-/// May no entry of the block show in the area, as far as it is in these columns of these rows?
+/// May no entry of the chunk show in the area, as far as it is in these columns of these rows?
 #[inline(always)]
-fn is_off(block: &Block, area: &Area, columns: Span, rows: Span) -> bool
-    ensures open { IsTrue result → block.now.is_open ≡ false }
+fn is_off(chunk: &Chunk, area: &Area, columns: Span, rows: Span) -> bool
+    ensures open { IsTrue result → chunk.now.is_open ≡ false }
     ensures off { IsTrue result → (x y : ℤ) → InAreaWithin area.now columns rows x y
-        → holds_pixel block.now.told.hull x y ≡ false }
+        → holds_pixel chunk.now.told.hull x y ≡ false }
 {
-    if block.is_open {
+    if chunk.is_open {
         return false;
     }
-    if misses(block.told.hull, columns, rows) {
+    if misses(chunk.told.hull, columns, rows) {
         return true;
     }
-    !area.meets(block.told.hull)
+    !area.meets(chunk.told.hull)
 }
 
-/// The same before the end of a block, which is passed as a whole where no entry of it may show in the area.
-fn next_in_block<A: Ledger>(
+/// The same before the end of a chunk, which is passed as a whole where no entry of it may show in the area.
+fn next_in_chunk<A: Ledger>(
     entries: &[Entry<A>],
-    block: &Block,
+    chunk: &Chunk,
     start: usize,
     sight: Sight<'_>,
     from: usize,
 ) -> usize
     requires from { from ≤ length entries.now }
-    requires end { start + block.now.count ≤ length entries.now }
-    requires told { block.now.is_open ≡ false → Tells block.now (take block.now.count (drop start entries.now)) }
+    requires end { start + chunk.now.count ≤ length entries.now }
+    requires told { chunk.now.is_open ≡ false → Tells chunk.now (take chunk.now.count (drop start entries.now)) }
     ensures from { from ≤ result }
     ensures within { result ≤ length entries.now }
     ensures same { ServesWhere (InAreaWithin sight.entry.area.now sight.entry.columns sight.entry.rows)
         (shown (drop result entries.now)) (shown (drop from entries.now)) }
 {
-    let end = start + block.count;
+    let end = start + chunk.count;
     if from >= end {
         return from;
     }
-    if from == start && is_off(block, sight.area, sight.columns, sight.rows) {
+    if from == start && is_off(chunk, sight.area, sight.columns, sight.rows) {
         return end;
     }
     next_before(entries, from, end, sight.columns, sight.rows)
 }
 
 /// The place of the next entry that may show in the area, as far as it is in these columns of these rows, or how many entries
-/// there are. Its block is sought from the one of the last.
+/// there are. Its chunk is sought from the one of the last.
 #[inline(always)]
 pub(crate) fn next_within<A: Ledger>(
     entries: &[Entry<A>],
-    blocks: &[Block],
+    chunks: &[Chunk],
     sight: Sight<'_>,
-    seek: &mut Seek,
+    seek: &mut ChunkCursor,
     from: usize,
 ) -> usize
     requires from { from ≤ length entries.now }
-    requires covers { Covers blocks.now entries.now }
-    requires at { IsAt blocks.now seek.old.at seek.old.start }
+    requires covers { Covers chunks.now entries.now }
+    requires at { IsAt chunks.now seek.old.at seek.old.start }
     ensures within { result ≤ length entries.now }
     ensures from { from ≤ result }
-    ensures at { IsAt blocks.now seek.new.at seek.new.start }
+    ensures at { IsAt chunks.now seek.new.at seek.new.start }
     ensures same { ServesWhere (InAreaWithin sight.entry.area.now sight.entry.columns sight.entry.rows)
         (shown (drop result entries.now)) (shown (drop from entries.now)) }
 {
     let mut i = from;
     let mut now = *seek;
-    while now.at < blocks.len() {
-        let block = &blocks[now.at];
-        let end = now.start + block.count;
-        i = next_in_block(entries, block, now.start, sight, i);
+    while now.at < chunks.len() {
+        let chunk = &chunks[now.at];
+        let end = now.start + chunk.count;
+        i = next_in_chunk(entries, chunk, now.start, sight, i);
         if i < end {
             *seek = now;
             return i;
         }
-        now = Seek {
+        now = ChunkCursor {
             at: now.at + 1,
             start: end,
         };

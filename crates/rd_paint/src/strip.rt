@@ -1,4 +1,4 @@
-//! Rows of a list that a canvas shows, and blocks of pixels in them.
+//! Rows of a list that a canvas shows, and rectangles of pixels in them.
 
 use crate::corner::Corner;
 use rd_area::Area;
@@ -12,9 +12,9 @@ pub(crate) struct Strip {
     pub(crate) y1: usize,
 }
 
-/// A block of pixels: the columns of a span in the rows of a strip.
+/// A rectangle of pixels: the columns of a span in the rows of a strip.
 #[derive(Clone, Copy)]
-pub(crate) struct PixelBlock {
+pub(crate) struct PixelRect {
     pub(crate) strip: Strip,
     pub(crate) span: Span,
 }

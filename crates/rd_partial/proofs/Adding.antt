@@ -7,7 +7,7 @@ use Rattle.rd_geom.specs.Areas.{Region, in_area}
 use Rattle.rd_geom.proofs.Pixels.{common_pixels}
 use Rattle.rd_keys.specs.declared.entry.Part.TheVariants.{Back, Border, Content, Outline}
 use Rattle.rd_stack.specs.Paths.{BoxData}
-use Rattle.rd_partial.specs.Internal.Standing.{Standing, leaf_in}
+use Rattle.rd_partial.specs.Internal.Inherited.{Inherited, leaf_in}
 use Rattle.rd_partial.specs.Internal.Touched.{Joins, leaf_shows, box_shows}
 
 abbrev Test : Type 0
@@ -65,7 +65,7 @@ or_right false false true d = refl
 or_right false false false d = refl
 
 -- the four parts of a box
-pub joins_box : (s : Standing) (b : BoxData) (a a1 a2 a3 a4 : Region) → Joins (leaf_shows (leaf_in s b Back)) a a1 → Joins (leaf_shows (leaf_in s b Border)) a1 a2 → Joins (leaf_shows (leaf_in s b Content)) a2 a3 → Joins (leaf_shows (leaf_in s b Outline)) a3 a4
+pub joins_box : (s : Inherited) (b : BoxData) (a a1 a2 a3 a4 : Region) → Joins (leaf_shows (leaf_in s b Back)) a a1 → Joins (leaf_shows (leaf_in s b Border)) a1 a2 → Joins (leaf_shows (leaf_in s b Content)) a2 a3 → Joins (leaf_shows (leaf_in s b Outline)) a3 a4
     → Joins (box_shows s b) a a4
 joins_box s b a a1 a2 a3 a4 h1 h2 h3 h4 =
     let t1 = leaf_shows (leaf_in s b Back) in

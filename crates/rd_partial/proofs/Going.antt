@@ -9,7 +9,7 @@ use Rattle.rd_tree.specs.Contexts.{blends_in}
 use Rattle.rd_tree.specs.Shown.{Shown, shown}
 use Rattle.rd_stack.proofs.Walk.Going as going
 use Rattle.rd_stack.specs.Paths.{BoxData}
-use Rattle.rd_partial.specs.Internal.Looked.{Onward}
+use Rattle.rd_partial.specs.Internal.BoxLook.{Onward}
 use Rattle.rd_partial.specs.Looks.{hull_at}
 
 hull_told : (root : BoxKey) (f : BoxForest) (k : BoxKey) (v : Shown) (d : Item) (below rest : BoxForest) → starting_at same_key k f ≡ tree k d below rest → Some v ≡ shown root (starting_at same_key k f) → v.hull ≡ hull_at d below

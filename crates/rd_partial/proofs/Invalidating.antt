@@ -18,8 +18,8 @@ use Rattle.rd_partial.specs.Looks.{looks_in, looks_bound, holds_touched}
 use Rattle.rd_stack.specs.Fresh.{drawn_list}
 use Rattle.rd_partial.specs.Invalid.{any_shows}
 use Rattle.rd_partial.specs.Internal.Counting.{looks_below}
-use Rattle.rd_partial.specs.Internal.Looked.{Onward}
-use Rattle.rd_partial.specs.Internal.Standing.{Standing, at_root}
+use Rattle.rd_partial.specs.Internal.BoxLook.{Onward}
+use Rattle.rd_partial.specs.Internal.Inherited.{Inherited, at_root}
 use Rattle.rd_partial.specs.Internal.Touched.{Joins, touched_shows, leads_to_touched}
 use Rattle.rd_partial.proofs.Marked.{fresh_shows}
 use Rattle.rd_partial.proofs.Visits.{visits_bound, looks}
@@ -71,7 +71,7 @@ both false true false = refl
 both false false true = refl
 both false false false = refl
 
-pub invalid_is : (t : Document) → IsRooted t → IsApart same_key t.boxes → (k : BoxKey) → k ≡ t.root → (s : Standing) → s ≡ at_root (canvas_of t.canvas) → (list : Entries Wrapper Leaf) (a b c : Region) → a.size ≡ t.canvas → ((x y : ℤ) → in_area a x y ≡ false)
+pub invalid_is : (t : Document) → IsRooted t → IsApart same_key t.boxes → (k : BoxKey) → k ≡ t.root → (s : Inherited) → s ≡ at_root (canvas_of t.canvas) → (list : Entries Wrapper Leaf) (a b c : Region) → a.size ≡ t.canvas → ((x y : ℤ) → in_area a x y ≡ false)
     → Joins (any_shows t list) a b → Joins (touched_shows s (from_some same_key (Some k) t.boxes)) b c → (x y : ℤ) → in_area c x y ≡ (holds_pixel (canvas_of t.canvas) x y && (any_shows t list x y || any_shows t (drawn_list t) x y))
 invalid_is t r a k e s begun list none one two size off h i x y =
     i.pixels x y

@@ -14,23 +14,23 @@ use Rattle.rd_tree.specs.declared.node.Item.{Item}
 use Rattle.rd_tree.specs.Hulls.{extent, hull_in}
 use Rattle.rd_stack.specs.Paths.{BoxData}
 use Rattle.rd_stack.specs.Fresh.{box_data}
-use Rattle.rd_partial.specs.Internal.Pass.{box_bands, is_one, order_of}
-use Rattle.rd_partial.specs.Internal.Standing.{Standing}
-use Rattle.rd_partial.specs.Internal.Bands.{Bands, no_bands, ◌⊕◌}
-use Rattle.rd_partial.specs.Internal.Standing.{below}
+use Rattle.rd_partial.specs.Internal.Pass.{box_lists, is_one, order_of}
+use Rattle.rd_partial.specs.Internal.Inherited.{Inherited}
+use Rattle.rd_partial.specs.Internal.ContextLists.{ContextLists, no_lists, ◌⊕◌}
+use Rattle.rd_partial.specs.Internal.Inherited.{below}
 use Rattle.rd_partial.specs.Internal.Given.{gives}
 use Rattle.rd_partial.specs.Internal.Work.{passes, cost, boxed, own_cost}
 use Rattle.rd_partial.specs.Internal.Counting.{visits, given}
-use Rattle.rd_partial.specs.Internal.Looked.{Onward}
+use Rattle.rd_partial.specs.Internal.BoxLook.{Onward}
 use Rattle.rd_partial.proofs.Pass.Pruned.{GiveNone, pass-none, no_box}
 use Rattle.rd_partial.proofs.Pass.Reach.{give_none, none_of, hull_left, hull_right}
 use Rattle.rd_partial.specs.Looks.{hull_at}
 
-none_given : (wants : Rectangle → Bool) (n : ℕ) (s : Standing) (f : BoxForest) → GiveNone below (gives wants n) s f → given below (gives wants n) s f ≡ 0
+none_given : (wants : Rectangle → Bool) (n : ℕ) (s : Inherited) (f : BoxForest) → GiveNone below (gives wants n) s f → given below (gives wants n) s f ≡ 0
 none_given wants n s empty h = refl
 none_given wants n s (tree k d ch nx) h = rw (h.0 Back, h.0 Border, h.0 Content, h.0 Outline, none_given wants n (below s (box_data k d)) ch h.1, none_given wants n s nx h.2) (omega arith)
 
-pub plus_assoc : (a b c : Bands Made) → (a ⊕ b) ⊕ c ≡ a ⊕ (b ⊕ c)
+pub plus_assoc : (a b c : ContextLists Made) → (a ⊕ b) ⊕ c ≡ a ⊕ (b ⊕ c)
 plus_assoc a b c =
     rw (
       append_assoc a.negatives b.negatives c.negatives,
@@ -43,12 +43,12 @@ plus_assoc a b c =
       join_assoc a.outlines b.outlines c.outlines,
     ) refl
 
-pub plus_none : (a : Bands Made) → a ⊕ no_bands ≡ a
+pub plus_none : (a : ContextLists Made) → a ⊕ no_lists ≡ a
 plus_none a =
     rw (append-nil a.negatives, append-nil a.positives, join-nil a.backgrounds, join-nil a.floats, join-nil a.line, join-nil a.contents, join-nil a.zeros, join-nil a.outlines) refl
 
-module _ (wants : Rectangle → Bool) (n : ℕ) (s : Standing) where
-  pub passes_empty : passes wants n s empty ≡ no_bands
+module _ (wants : Rectangle → Bool) (n : ℕ) (s : Inherited) where
+  pub passes_empty : passes wants n s empty ≡ no_lists
   unfolding passes
   passes_empty = refl
 
@@ -56,14 +56,14 @@ module _ (wants : Rectangle → Bool) (n : ℕ) (s : Standing) where
   unfolding cost
   cost_empty = refl
 
-  pub passes_of_none : (o : Option BoxKey) (f : BoxForest) → o ≡ None → passes wants n s (from_some same_key o f) ≡ no_bands
+  pub passes_of_none : (o : Option BoxKey) (f : BoxForest) → o ≡ None → passes wants n s (from_some same_key o f) ≡ no_lists
   passes_of_none o f e = ap (λ z. passes wants n s (from_some same_key z f)) e ∙ passes_empty
 
   pub cost_of_none : (o : Option BoxKey) (f : BoxForest) → o ≡ None → cost wants n s (from_some same_key o f) ≡ 0
   cost_of_none o f e = ap (λ z. cost wants n s (from_some same_key z f)) e ∙ cost_empty
 
   -- where there are none, nothing is dropped
-  pub passes_none : (o : Option BoxKey) (f : BoxForest) (a : Bands Made) → o ≡ None → a ≡ a ⊕ passes wants n s (from_some same_key o f)
+  pub passes_none : (o : Option BoxKey) (f : BoxForest) (a : ContextLists Made) → o ≡ None → a ≡ a ⊕ passes wants n s (from_some same_key o f)
   passes_none o f a e = sym (ap (λ z. a ⊕ passes wants n s (from_some same_key z f)) e ∙ ap (λ z. a ⊕ z) passes_empty ∙ plus_none a)
 
   pub cost_none_below : (o : Option BoxKey) (f : BoxForest) (made : ℕ) → o ≡ None → made ≡ made + cost wants n s (from_some same_key o f)
@@ -94,12 +94,12 @@ module _ (wants : Rectangle → Bool) (n : ℕ) (s : Standing) where
           tt,
         )
 
-    pub boxed_none : (grows : (a b : Rectangle) → IsWithin a b → IsTrue (wants a) → IsTrue (wants b)) → s.root ≡ false → wants hull ≡ false → (grouped : Bool) → boxed wants n s here grouped (passes wants n (below s here) (from_some same_key c f)) ≡ no_bands
+    pub boxed_none : (grows : (a b : Rectangle) → IsWithin a b → IsTrue (wants a) → IsTrue (wants b)) → s.root ≡ false → wants hull ≡ false → (grouped : Bool) → boxed wants n s here grouped (passes wants n (below s here) (from_some same_key c f)) ≡ no_lists
     unfolding passes
     boxed_none grows r h grouped =
         let x = none_there grows r h in
         rw (w.data_is, w.child)
-        (ap (λ z. box_bands below (gives wants n) s (box_data k w.item) grouped (order_of below (gives wants n) false s (box_data k w.item) z) z) (pass-none below (gives wants n) (below s (box_data k w.item)) w.below x.1)
+        (ap (λ z. box_lists below (gives wants n) s (box_data k w.item) grouped (order_of below (gives wants n) false s (box_data k w.item) z) z) (pass-none below (gives wants n) (below s (box_data k w.item)) w.below x.1)
         ∙ no_box below (gives wants n) s (box_data k w.item) grouped x.0)
 
     pub cost_none : (grows : (a b : Rectangle) → IsWithin a b → IsTrue (wants a) → IsTrue (wants b)) → s.root ≡ false → wants hull ≡ false → own_cost wants n s here + cost wants n (below s here) (from_some same_key c f) ≡ 0
@@ -109,20 +109,20 @@ module _ (wants : Rectangle → Bool) (n : ℕ) (s : Standing) where
         rw (w.data_is, w.child, x.0 Back, x.0 Border, x.0 Content, x.0 Outline, none_given wants n (below s (box_data k w.item)) w.below x.1) (omega arith)
 
 -- what the loop over siblings keeps
-pub record Kept (wants : Rectangle → Bool) (n : ℕ) (s : Standing) (f first next : BoxForest) (before now : Bands Made) (made0 made looks0 looks : ℕ) : Type 0 where
+pub record Kept (wants : Rectangle → Bool) (n : ℕ) (s : Inherited) (f first next : BoxForest) (before now : ContextLists Made) (made0 made looks0 looks : ℕ) : Type 0 where
   pub fewer : size next ≤ size first
   pub list : now ⊕ passes wants n s next ≡ before ⊕ passes wants n s first
   pub made_is : made + cost wants n s next ≡ made0 + cost wants n s first
   pub looks_is : looks + visits wants next ≤ looks0 + visits wants first
 
-module _ (wants : Rectangle → Bool) (n : ℕ) (s : Standing) (f first : BoxForest) (k : BoxKey) (here : BoxData) (c nx : Option BoxKey) (hull : Rectangle) (w : Onward f k here c nx hull) (before now : Bands Made) (made0 made looks0 looks : ℕ) where
-  abbrev inner : Bands Made
+module _ (wants : Rectangle → Bool) (n : ℕ) (s : Inherited) (f first : BoxForest) (k : BoxKey) (here : BoxData) (c nx : Option BoxKey) (hull : Rectangle) (w : Onward f k here c nx hull) (before now : ContextLists Made) (made0 made looks0 looks : ℕ) where
+  abbrev inner : ContextLists Made
   inner = passes wants n (below s here) (from_some same_key c f)
 
   abbrev one : Bool
   one = is_one false (blends_in (from_some same_key c f)) here
 
-  pub kept_one : (o : Option BoxKey) (then : Bands Made) (made2 looks1 looks2 : ℕ) → o ≡ Some k → Kept wants n s f first (from_some same_key o f) before now made0 made looks0 looks → wants hull ≡ true
+  pub kept_one : (o : Option BoxKey) (then : ContextLists Made) (made2 looks1 looks2 : ℕ) → o ≡ Some k → Kept wants n s f first (from_some same_key o f) before now made0 made looks0 looks → wants hull ≡ true
       → then ≡ now ⊕ boxed wants n s here one inner → made2 ≡ made + (own_cost wants n s here + cost wants n (below s here) (from_some same_key c f)) → looks1 ≡ looks + 1 → looks2 ≤ looks1 + visits wants (from_some same_key c f)
       → Kept wants n s f first (from_some same_key nx f) before then made0 made2 looks0 looks2
   kept_one o then made2 looks1 looks2 e i h t m l v =
@@ -153,14 +153,14 @@ module _ (wants : Rectangle → Bool) (n : ℕ) (s : Standing) (f first : BoxFor
         looks_is = omega (arith, vm, j.looks_is, l);
       }
 
-pub kept_end : (wants : Rectangle → Bool) (n : ℕ) (s : Standing) (f first next : BoxForest) (before now : Bands Made) (made0 made looks0 looks : ℕ) → next ≡ empty → Kept wants n s f first next before now made0 made looks0 looks
+pub kept_end : (wants : Rectangle → Bool) (n : ℕ) (s : Inherited) (f first next : BoxForest) (before now : ContextLists Made) (made0 made looks0 looks : ℕ) → next ≡ empty → Kept wants n s f first next before now made0 made looks0 looks
     → (now ≡ before ⊕ passes wants n s first) × (made ≡ made0 + cost wants n s first) × (looks ≤ looks0 + visits wants first)
 kept_end wants n s f first next before now made0 made looks0 looks e i =
     let j : Kept wants n s f first empty before now made0 made looks0 looks = subst (λ x. Kept wants n s f first x before now made0 made looks0 looks) e i in
     let ce = cost_empty wants n s in
     (sym (plus_none now) ∙ ap (λ z. now ⊕ z) (sym (passes_empty wants n s)) ∙ j.list, omega (arith, j.made_is, ce), omega (arith, j.looks_is))
 
-pub kept_most : (wants : Rectangle → Bool) (n : ℕ) (s : Standing) (f first : BoxForest) (k : BoxKey) (here : BoxData) (c nx : Option BoxKey) (hull : Rectangle) (w : Onward f k here c nx hull) (before now : Bands Made) (made0 made looks0 looks : ℕ) (o : Option BoxKey) (made2 : ℕ)
+pub kept_most : (wants : Rectangle → Bool) (n : ℕ) (s : Inherited) (f first : BoxForest) (k : BoxKey) (here : BoxData) (c nx : Option BoxKey) (hull : Rectangle) (w : Onward f k here c nx hull) (before now : ContextLists Made) (made0 made looks0 looks : ℕ) (o : Option BoxKey) (made2 : ℕ)
     → o ≡ Some k → Kept wants n s f first (from_some same_key o f) before now made0 made looks0 looks → made2 ≤ made + (own_cost wants n s here + cost wants n (below s here) (from_some same_key c f)) → made2 ≤ made0 + cost wants n s first
 kept_most wants n s f first k here c nx hull w before now made0 made looks0 looks o made2 e i m =
     let j : Kept wants n s f first (starting_at same_key k f) before now made0 made looks0 looks = subst (λ x. Kept wants n s f first (from_some same_key x f) before now made0 made looks0 looks) e i in

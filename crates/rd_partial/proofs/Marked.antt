@@ -26,7 +26,7 @@ use Rattle.rd_partial.specs.Invalid.{shows_touched, any_shows}
 use Rattle.rd_partial.specs.Internal.Counting.{leaves_in, given_of, given}
 use Rattle.rd_partial.specs.Internal.Pass.{whole, is_one}
 use Rattle.rd_partial.specs.Internal.Picking.{picked, made_if}
-use Rattle.rd_partial.specs.Internal.Standing.{Standing, standing_below, at_root, below, clip_in, leaf_in}
+use Rattle.rd_partial.specs.Internal.Inherited.{Inherited, standing_below, at_root, below, clip_in, leaf_in}
 use Rattle.rd_partial.specs.Internal.Touched.{leaf_shows, box_shows, touched_shows}
 use Rattle.rd_partial.proofs.Pass.Count.{count-root}
 use Rattle.rd_partial.proofs.Pass.Fields.{enter, give}
@@ -116,7 +116,7 @@ module _ (canvas : Rectangle) (T : BoxKey → Bool) (x y : ℤ) where
         | false ↦ and_false (T b.key)
       ]
 
-  abbrev stood : List BoxData → Standing
+  abbrev stood : List BoxData → Inherited
   stood above = standing_below canvas above
 
   abbrev part_shows : List BoxData → BoxData → Part → Bool

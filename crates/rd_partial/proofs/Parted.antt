@@ -1,4 +1,4 @@
--- What a kept list shows, block by block.
+-- What a kept list shows, chunk by chunk.
 use Rattle.std.proofs.Common.{◌≡◌, refl, ap, ◌∙◌, sym, false, ◌||◌, ℤ, ℕ, ◌+◌, List, ◌++◌, take, drop}
 use Rattle.std.proofs.lemmas.List.{take-append-drop}
 use Rattle.rd_geom.specs.Areas.{Region}
@@ -7,7 +7,7 @@ use Rattle.rd_keys.specs.Keys.{BoxKey}
 use Rattle.rd_keys.specs.Ranges.{IsAmong}
 use Rattle.rd_keys.specs.declared.entry.EntryKey.{EntryKey}
 use Rattle.rd_keys.specs.declared.range.KeyRange.{KeyRange}
-use Rattle.rd_list.specs.Blocks.{AreNamed}
+use Rattle.rd_list.specs.Chunks.{AreNamed}
 use Rattle.rd_list.specs.Wrappers.{Wrapper}
 use Rattle.rd_list.specs.Entries.{Entries, nil, leaf, group, flat}
 use Rattle.rd_list.specs.Kept.{Ordered}
@@ -43,12 +43,12 @@ module _ (t : Document) where
         (λ x y. sym (ap (λ z. any_shows t (kept_leaves z) x y) (ap kept_entries e ∙ kept-append xs ys) ∙ shows-join t (kept_entries xs) (kept_entries ys) x y))
         (joins_then (any_shows t (kept_leaves (kept_entries xs))) (any_shows t (kept_leaves (kept_entries ys))) a b c j k)
 
-    -- the entries of a block more
-    pub block_more : (es : List (Entry A)) (p n : ℕ) (a b c : Region) → Joins (any_shows t (kept_leaves (kept_entries (take p es)))) a b → Joins (any_shows t (kept_leaves (kept_entries (take n (drop p es))))) b c
+    -- the entries of a chunk more
+    pub chunk_more : (es : List (Entry A)) (p n : ℕ) (a b c : Region) → Joins (any_shows t (kept_leaves (kept_entries (take p es)))) a b → Joins (any_shows t (kept_leaves (kept_entries (take n (drop p es))))) b c
         → Joins (any_shows t (kept_leaves (kept_entries (take (p + n) es)))) a c
-    block_more es p n a b c j k = two_parts (take p es) (take n (drop p es)) (take (p + n) es) a b c (take_on es p n) j k
+    chunk_more es p n a b c j k = two_parts (take p es) (take n (drop p es)) (take (p + n) es) a b c (take_on es p n) j k
 
-    -- those past the last block
+    -- those past the last chunk
     pub rest_more : (es : List (Entry A)) (p : ℕ) (a b c : Region) → Joins (any_shows t (kept_leaves (kept_entries (take p es)))) a b → Joins (any_shows t (kept_leaves (kept_entries (drop p es)))) b c
         → Joins (any_shows t (kept_leaves (kept_entries es))) a c
     rest_more es p a b c j k = two_parts (take p es) (drop p es) es a b c (sym (take-append-drop p es)) j k

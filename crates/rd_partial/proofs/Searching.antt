@@ -18,12 +18,12 @@ use Rattle.rd_tree.proofs.Nodes.Looking.{from_child, from_next}
 use Rattle.rd_stack.specs.Paths.{BoxData}
 use Rattle.rd_stack.specs.Fresh.{box_data}
 use Rattle.rd_partial.specs.Looks.{hull_at}
-use Rattle.rd_partial.specs.Internal.Bands.{Bands, ◌⊕◌}
+use Rattle.rd_partial.specs.Internal.ContextLists.{ContextLists, ◌⊕◌}
 use Rattle.rd_partial.specs.Internal.Counting.{looks_below, visits}
-use Rattle.rd_partial.specs.declared.look.Looked.{Looked}
-use Rattle.rd_partial.specs.Internal.Looked.{Onward, here_of, looked_of}
+use Rattle.rd_partial.specs.declared.look.BoxLook.{BoxLook}
+use Rattle.rd_partial.specs.Internal.BoxLook.{Onward, here_of, looked_of}
 use Rattle.rd_partial.specs.Internal.Pass.{is_one}
-use Rattle.rd_partial.specs.Internal.Standing.{Standing, below}
+use Rattle.rd_partial.specs.Internal.Inherited.{Inherited, below}
 use Rattle.rd_partial.specs.Internal.Touched.{touched_shows, marks_from, leads_to_touched}
 use Rattle.rd_partial.specs.Internal.Work.{blends_from, passes}
 use Rattle.rd_partial.specs.Internal.Seeking.{PassesMarks, PassesWanted, IsNextMarked, IsNextNear}
@@ -210,7 +210,7 @@ sought_near wants frame t first looks grows framed apart live =
     (from_some same_key first t.boxes) first looks refl live (wanted_begin wants t first looks)
 
 -- A view of the next box with a mark,
-pub next_marked_is : (t : Document) (first : Option BoxKey) (v : BoxView) (w : Looked) (looks0 looks : ℕ) → IsApart same_key t.boxes → AllNear t.boxes
+pub next_marked_is : (t : Document) (first : Option BoxKey) (v : BoxView) (w : BoxLook) (looks0 looks : ℕ) → IsApart same_key t.boxes → AllNear t.boxes
     → w ≡ looked_of v → Found (λ o l. PassesMarks t first o looks0 l) t.root t.boxes (told v) looks → IsNextMarked t first w looks0 looks
 next_marked_is t first v w looks0 looks apart fits e f = subst (λ z. IsNextMarked t first z looks0 looks) (sym e) (record {
   key = f.key;
@@ -223,7 +223,7 @@ next_marked_is t first v w looks0 looks apart fits e f = subst (λ z. IsNextMark
 })
 
 -- and of the next one that is near.
-pub next_near_is : (wants : Rectangle → Bool) (t : Document) (first : Option BoxKey) (v : BoxView) (w : Looked) (looks0 looks : ℕ) → IsApart same_key t.boxes
+pub next_near_is : (wants : Rectangle → Bool) (t : Document) (first : Option BoxKey) (v : BoxView) (w : BoxLook) (looks0 looks : ℕ) → IsApart same_key t.boxes
     → AllNear t.boxes → w ≡ looked_of v → Found (λ o l. PassesWanted wants t first o looks0 l) t.root t.boxes (told v) looks
     → IsNextNear wants t first w looks0 looks
 next_near_is wants t first v w looks0 looks apart fits e f = subst (λ z. IsNextNear wants t first z looks0 looks) (sym e) (record {
@@ -237,7 +237,7 @@ next_near_is wants t first v w looks0 looks apart fits e f = subst (λ z. IsNext
 })
 
 -- A look that is near, and the search from it on.
-pub near_on : (wants : Rectangle → Bool) (t : Document) (first at : Option BoxKey) (v : Looked) (looks0 looks looks1 : ℕ)
+pub near_on : (wants : Rectangle → Bool) (t : Document) (first at : Option BoxKey) (v : BoxLook) (looks0 looks looks1 : ℕ)
     → ((a b : Rectangle) → IsWithin a b → IsTrue (wants a) → IsTrue (wants b)) → wants v.hull ≡ false → PassesWanted wants t first at looks0 looks
     → IsNextNear wants t at v looks looks1 → PassesWanted wants t first v.next_sibling looks0 looks1
 near_on wants t first at v looks0 looks looks1 grows off p n =
@@ -246,7 +246,7 @@ near_on wants t first at v looks0 looks looks1 grows off p n =
     v.next_sibling v.hull n.told off n.before))
 
 -- The walk to touched boxes keeps what it has added.
-pub added_over : (s : Standing) (t : Document) (first : BoxForest) (at to : Option BoxKey) (before now : Region) (looks0 looks looks1 : ℕ)
+pub added_over : (s : Inherited) (t : Document) (first : BoxForest) (at to : Option BoxKey) (before now : Region) (looks0 looks looks1 : ℕ)
     → Added s first (from_some same_key at t.boxes) before now looks0 looks → PassesMarks t at to looks looks1
     → Added s first (from_some same_key to t.boxes) before now looks0 looks1
 added_over s t first at to before now looks0 looks looks1 j p = record {
@@ -256,7 +256,7 @@ added_over s t first at to before now looks0 looks looks1 j p = record {
 }
 
 -- The pass keeps what it has dropped.
-pub kept_over : (wants : Rectangle → Bool) (n : ℕ) (s : Standing) (t : Document) (first : BoxForest) (at to : Option BoxKey) (before now : Bands Made)
+pub kept_over : (wants : Rectangle → Bool) (n : ℕ) (s : Inherited) (t : Document) (first : BoxForest) (at to : Option BoxKey) (before now : ContextLists Made)
     (made0 made looks0 looks looks1 : ℕ) → s.root ≡ false → Kept wants n s t.boxes first (from_some same_key at t.boxes) before now made0 made looks0 looks
     → PassesWanted wants t at to looks looks1 → Kept wants n s t.boxes first (from_some same_key to t.boxes) before now made0 made looks0 looks1
 kept_over wants n s t first at to before now made0 made looks0 looks looks1 r j p = record {

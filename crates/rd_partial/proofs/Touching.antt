@@ -10,10 +10,10 @@ use Rattle.rd_tree.specs.Shown.{Shown, shown}
 use Rattle.rd_tree.proofs.Summaries.Sums.{any_touched-is}
 use Rattle.rd_stack.specs.Fresh.{box_data}
 use Rattle.rd_partial.specs.Internal.Counting.{looks_below}
-use Rattle.rd_partial.specs.Internal.Looked.{Onward, here_of}
-use Rattle.rd_partial.specs.Internal.Standing.{Standing, below}
+use Rattle.rd_partial.specs.Internal.BoxLook.{Onward, here_of}
+use Rattle.rd_partial.specs.Internal.Inherited.{Inherited, below}
 use Rattle.rd_partial.specs.Internal.Touched.{Joins, HasMarks, box_shows, touched_shows, own_shows, shows_below, branch_shows, leads_to_touched, marks_from, looks_under}
-use Rattle.rd_partial.specs.declared.look.Looked.{Looked}
+use Rattle.rd_partial.specs.declared.look.BoxLook.{BoxLook}
 use Rattle.rd_partial.proofs.Adding.{joins_then, joins_same, joins_none}
 
 -- a look tells the marks
@@ -26,7 +26,7 @@ either true b h = cc
 either false b h = (refl, h)
 
 -- where no box is touched nothing shows
-pub none_shows : (s : Standing) (f : BoxForest) (x y : ℤ) → any_touched f ≡ false → touched_shows s f x y ≡ false
+pub none_shows : (s : Inherited) (f : BoxForest) (x y : ℤ) → any_touched f ≡ false → touched_shows s f x y ≡ false
 none_shows s empty x y h = refl
 none_shows s (tree k d ch nx) x y h =
     let e = either d.touched (any_touched ch || any_touched nx) h in
@@ -42,12 +42,12 @@ pub no_marks : (f : BoxForest) → any_touched f ≡ false → touched_in f ≡ 
 no_marks f h = let e : nat_lt 0 (touched_in f) ≡ false = sym (any_touched-is f) ∙ h in grind arith
 
 -- what the loop over siblings keeps
-pub record Added (s : Standing) (first next : BoxForest) (before now : Region) (looks0 looks : ℕ) : Type 0 where
+pub record Added (s : Inherited) (first next : BoxForest) (before now : Region) (looks0 looks : ℕ) : Type 0 where
   pub fewer : size next ≤ size first
   pub then : (c : Region) → Joins (touched_shows s next) now c → Joins (touched_shows s first) before c
   pub looks_is : looks + looks_below leads_to_touched next ≤ looks0 + looks_below leads_to_touched first
 
-module _ (s : Standing) (t : Document) (k : BoxKey) (v : Looked) (w : Onward t.boxes k (here_of v) v.first_child v.next_sibling v.hull) (m : HasMarks (starting_at same_key k t.boxes) v.touched v.touched_below) where
+module _ (s : Inherited) (t : Document) (k : BoxKey) (v : BoxLook) (w : Onward t.boxes k (here_of v) v.first_child v.next_sibling v.hull) (m : HasMarks (starting_at same_key k t.boxes) v.touched v.touched_below) where
   marks : (v.touched ≡ w.item.touched) × (v.touched_below ≡ touched_in w.below)
   marks = subst (λ z. HasMarks z v.touched v.touched_below) w.is m
 
@@ -129,7 +129,7 @@ module _ (s : Standing) (t : Document) (k : BoxKey) (v : Looked) (w : Onward t.b
       let sm = size_more in
       omega (arith, sm, j.fewer)
 
-pub added_begin : (s : Standing) (first : BoxForest) (a : Region) (looks : ℕ) → Added s first first a a looks looks
+pub added_begin : (s : Inherited) (first : BoxForest) (a : Region) (looks : ℕ) → Added s first first a a looks looks
 added_begin s first a looks = record { fewer = omega arith; then = λ c h. h; looks_is = omega arith }
 
 -- no mark is left
@@ -137,7 +137,7 @@ pub none_left : (left marks : ℕ) → left ≡ marks → left ≤ 0 → marks �
 none_left left marks e z = omega (arith, e, z)
 
 -- once no mark is left, all is added
-pub added_end : (s : Standing) (first next : BoxForest) (before now : Region) (looks0 looks : ℕ) → touched_in next ≡ 0 → Added s first next before now looks0 looks
+pub added_end : (s : Inherited) (first next : BoxForest) (before now : Region) (looks0 looks : ℕ) → touched_in next ≡ 0 → Added s first next before now looks0 looks
     → Joins (touched_shows s first) before now × (looks ≤ looks0 + looks_below leads_to_touched first)
 added_end s first next before now looks0 looks e i =
     let off : any_touched next ≡ false = any_touched-is next ∙ ap (nat_lt 0) e in

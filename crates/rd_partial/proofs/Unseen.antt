@@ -15,9 +15,9 @@ use Rattle.rd_stack.specs.Paths.{BoxData}
 use Rattle.rd_stack.specs.Fresh.{box_data}
 use Rattle.rd_stack.specs.Parts.{is_seen, takes_hits, shown, shape_of}
 use Rattle.rd_partial.specs.Looks.{hull_at}
-use Rattle.rd_partial.specs.Internal.Standing.{Standing, below, clip_in, leaf_in}
+use Rattle.rd_partial.specs.Internal.Inherited.{Inherited, below, clip_in, leaf_in}
 use Rattle.rd_partial.specs.Internal.Touched.{IsTold, branch_shows, box_shows, leaf_shows, touched_shows}
-use Rattle.rd_partial.specs.declared.look.Looked.{Looked}
+use Rattle.rd_partial.specs.declared.look.BoxLook.{BoxLook}
 use Rattle.rd_partial.proofs.Pass.Reach.{OuterIn, outer_in, hull_left, hull_right, within_first, within_through}
 use Rattle.rd_partial.proofs.Touching.{branch_is}
 
@@ -36,7 +36,7 @@ module _ (H : Rectangle) (x y : ℤ) (off : holds_pixel H x y ≡ false) where
         | false ↦ not_in (meet s.0.outer clip) (within_through (meet s.0.outer clip) s.0.outer H (within_first s.0.outer clip) h)
       ]
 
-  module _ (s : Standing) (b : BoxData) (root : s.root ≡ false) (held : IsWithin (outset b.rect b.style.outline_width) H) where
+  module _ (s : Inherited) (b : BoxData) (root : s.root ≡ false) (held : IsWithin (outset b.rect b.style.outline_width) H) where
     off_part : (part : Part) → leaf_shows (leaf_in s b part) x y ≡ false
     off_part part = elim (is_seen b.style.visibility) as (λ t. leaf_shows (cond t (shown (clip_in s b.style) b part (shape_of s.canvas s.root b part)) None) x y ≡ false) [
       | true ↦ off_shown (clip_in s b.style) b part (shape_of s.canvas s.root b part) (outer_in H s b root held part)
@@ -50,7 +50,7 @@ module _ (H : Rectangle) (x y : ℤ) (off : holds_pixel H x y ≡ false) where
   no_pixel true = refl
   no_pixel false = refl
 
-  off_forest : (s : Standing) (f : BoxForest) → s.root ≡ false → IsWithin (hull_in f) H → touched_shows s f x y ≡ false
+  off_forest : (s : Inherited) (f : BoxForest) → s.root ≡ false → IsWithin (hull_in f) H → touched_shows s f x y ≡ false
   off_forest s empty r h = refl
   off_forest s (tree k d ch nx) r h =
       let one = hull_of (extent d) (hull_in ch) in
@@ -69,7 +69,7 @@ off_canvas canvas r x y m c = elim (cases (holds_pixel r x y)) [
 ]
 
 -- of a box whose hull is off the canvas, and of those below it
-pub branch_off : (s : Standing) (t : Document) (v : Looked) → IsTold t v → s.root ≡ false → meets s.canvas v.hull ≡ false → (x y : ℤ) → holds_pixel s.canvas x y ≡ true
+pub branch_off : (s : Inherited) (t : Document) (v : BoxLook) → IsTold t v → s.root ≡ false → meets s.canvas v.hull ≡ false → (x y : ℤ) → holds_pixel s.canvas x y ≡ true
     → branch_shows s v t x y ≡ false
 branch_off s t v w r m x y c =
     let d = w.told.item in

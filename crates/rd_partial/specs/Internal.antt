@@ -1,11 +1,11 @@
 -- What private contracts, invariants and proofs say. No public clause cites it, so a reader need not read it.
-pub mod Bands
+pub mod ContextLists
 pub mod Pass
 pub mod Picking
 pub mod Counting
-pub mod Standing
+pub mod Inherited
 pub mod Given
-pub mod Looked
+pub mod BoxLook
 pub mod Held
 pub mod Work
 pub mod Visited

@@ -35,7 +35,7 @@ impl<'a, B: Ledger, W: Wanted> Pass<'a, B, W> {
         figure: &Figure,
         made: &mut Steps<A>,
     ) -> Result<(), NoMemory>
-        requires shape { shape_of at.now.standing.now.canvas at.now.standing.now.root at.now.here.now figure.now.part ≡ Some (figure.now.shape, figure.now.color) }
+        requires shape { shape_of at.now.inherited.now.canvas at.now.inherited.now.root at.now.here.now figure.now.part ≡ Some (figure.now.shape, figure.now.color) }
         ensures list { OnOk result (laid_out out.new ≡ laid_out out.old
             ▷ part_at (W.wants self.now.wanted.now) self.now.number at.now figure.now.part) }
         ensures made { OnOk result (made.new ≡ made.old + leaves_in (part_at (W.wants self.now.wanted.now) self.now.number at.now figure.now.part)) }
@@ -44,7 +44,7 @@ impl<'a, B: Ledger, W: Wanted> Pass<'a, B, W> {
         if !is_seen(at.here) {
             return Ok(());
         }
-        let visible = meet(figure.shape.outer, at.standing.clip(at.here));
+        let visible = meet(figure.shape.outer, at.inherited.clip(at.here));
         if visible.is_empty() {
             return Ok(());
         }
@@ -68,7 +68,7 @@ impl<'a, B: Ledger, W: Wanted> Pass<'a, B, W> {
     /// Puts the item of the background of a box on top, where it shows and is wanted.
     #[inline(always)]
     #[tactic(auto, using(crate::proofs::Pass::Joining::joins))]
-    pub(crate) fn give_back<A: Ledger>(
+    pub(crate) fn give_background<A: Ledger>(
         &self,
         out: &mut Pieces<A>,
         at: &Visit<'_>,
@@ -82,7 +82,7 @@ impl<'a, B: Ledger, W: Wanted> Pass<'a, B, W> {
     {
         let figure = Figure {
             part: Part::Back,
-            shape: at.standing.back(at.here),
+            shape: at.inherited.back(at.here),
             color: at.here.style().background,
         };
         self.show(out, at, &figure, made)

@@ -6,15 +6,15 @@
 //! Breaks: another area or other items break `rd_engine`, and the machine of `rd_run`, which says the same area.
 #![tactic(auto)]
 
-mod bands;
 mod built;
 mod give;
+mod inherited;
 pub mod laws;
 mod listed;
+mod lists;
 mod look;
 mod order;
 mod seeking;
-mod standing;
 mod touched;
 mod visit;
 mod walk;

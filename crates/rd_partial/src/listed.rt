@@ -2,7 +2,7 @@
 ghost use Rattle.std.specs.Prelude.{◌≡◌, ◌∷◌, [], IsTrue, OnOk, false};
 ghost use Rattle.rd_keys.specs.Keys.{BoxKey as Box};
 ghost use Rattle.rd_keys.specs.Ranges.{IsAmong};
-ghost use Rattle.rd_list.specs.Blocks.{Covers, Tells};
+ghost use Rattle.rd_list.specs.Chunks.{Covers, Tells};
 ghost use Rattle.rd_list.specs.EntryNames.{kept_leaves};
 ghost use Rattle.rd_list.specs.KeptView.{kept_entries};
 ghost use Rattle.rd_tree.specs.Document.{is_touched};
@@ -11,7 +11,7 @@ ghost use Rattle.rd_partial.specs.Internal.Touched.{Joins};
 
 use rd_area::Area;
 use rd_geom::NoMemory;
-use rd_list::{Block, Entry, Kept};
+use rd_list::{Chunk, Entry, Kept};
 use rd_tree::Tree;
 use std::sync::ledger::Ledger;
 
@@ -24,52 +24,52 @@ pub(crate) fn add_list<A: Ledger, B: Ledger>(
 ) -> Result<(), NoMemory>
     ensures { OnOk result (Joins (any_shows tree.now (kept_leaves list.now.entries)) area.old area.new) }
 {
-    add_level(tree, area, &list.blocks, &list.entries)
+    add_level(tree, area, &list.chunks, &list.entries)
 }
 
-/// The same of a level, block by block.
+/// The same of a level, chunk by chunk.
 #[cycle(listing)]
 fn add_level<A: Ledger, B: Ledger>(
     tree: &Tree<B>,
     area: &mut Area,
-    blocks: &[Block],
+    chunks: &[Chunk],
     entries: &[Entry<A>],
 ) -> Result<(), NoMemory>
-    requires { Covers blocks.now entries.now }
+    requires { Covers chunks.now entries.now }
     ensures { OnOk result (Joins (any_shows tree.now (kept_leaves (kept_entries entries.now))) area.old area.new) }
 {
     let mut place = 0;
-    for block in blocks {
-        let end = place + block.count;
-        add_block(tree, area, block, &entries[place..end])?;
+    for chunk in chunks {
+        let end = place + chunk.count;
+        add_chunk(tree, area, chunk, &entries[place..end])?;
         place = end;
     }
     add_entries(tree, area, &entries[place..])?;
     Ok(())
 }
 
-/// Is no box of the block touched?
+/// Is no box of the chunk touched?
 #[inline(always)]
-fn is_quiet<B: Ledger>(tree: &Tree<B>, block: &Block) -> bool
-    ensures open { IsTrue result → block.now.is_open ≡ false }
-    ensures untouched { IsTrue result → (k : Box) → IsAmong block.now.told.keys k
+fn is_quiet<B: Ledger>(tree: &Tree<B>, chunk: &Chunk) -> bool
+    ensures open { IsTrue result → chunk.now.is_open ≡ false }
+    ensures untouched { IsTrue result → (k : Box) → IsAmong chunk.now.told.keys k
         → is_touched k tree.now.boxes ≡ false }
 {
-    !block.is_open && tree.are_quiet(block.told.keys)
+    !chunk.is_open && tree.none_touched(chunk.told.keys)
 }
 
-/// The same of the entries of a block, which is passed over where no box of it is touched.
+/// The same of the entries of a chunk, which is passed over where no box of it is touched.
 #[cycle(listing)]
-fn add_block<A: Ledger, B: Ledger>(
+fn add_chunk<A: Ledger, B: Ledger>(
     tree: &Tree<B>,
     area: &mut Area,
-    block: &Block,
+    chunk: &Chunk,
     entries: &[Entry<A>],
 ) -> Result<(), NoMemory>
-    requires { block.now.is_open ≡ false → Tells block.now entries.now }
+    requires { chunk.now.is_open ≡ false → Tells chunk.now entries.now }
     ensures { OnOk result (Joins (any_shows tree.now (kept_leaves (kept_entries entries.now))) area.old area.new) }
 {
-    if is_quiet(tree, block) {
+    if is_quiet(tree, chunk) {
         return Ok(());
     }
     add_entries(tree, area, entries)

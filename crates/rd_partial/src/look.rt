@@ -4,7 +4,7 @@ ghost use Rattle.rd_keys.specs.Keys.{same_key};
 ghost use Rattle.rd_stack.specs.Paths.{OutlineFits};
 ghost use Rattle.rd_tree.specs.Document.{IsRooted};
 ghost use Rattle.rd_tree.specs.Forest.{empty, starting_at, IsApart};
-ghost use Rattle.rd_partial.specs.Internal.Looked.{Onward, here_of, looked_of};
+ghost use Rattle.rd_partial.specs.Internal.BoxLook.{Onward, here_of, looked_of};
 ghost use Rattle.rd_partial.specs.Internal.Touched.{HasMarks};
 ghost use Rattle.rd_tree.specs.Drawn.{drawn};
 
@@ -18,7 +18,7 @@ use std::sync::ledger::Ledger;
 /// What a walk needs of a box: the box, where to go on, what all below it may cover, what was touched, and whether a
 /// blended layer is below it. Its style is lent, so that nothing is copied of a box that is only passed.
 #[derive(Drop)]
-pub struct Looked<'a> {
+pub struct BoxLook<'a> {
     key: BoxKey,
     rect: Rect,
     style: &'a Style,
@@ -30,7 +30,7 @@ pub struct Looked<'a> {
     pub blend_below: bool,
 }
 
-impl<'a> Looked<'a> {
+impl<'a> BoxLook<'a> {
     /// The box.
     #[inline(always)]
     pub fn here(&self) -> BoxData
@@ -51,10 +51,10 @@ impl<'a> Looked<'a> {
 
 /// What a walk needs of what a look gave.
 #[inline(always)]
-pub(crate) fn looked_of(view: BoxView<'_>) -> Looked<'_>
+pub(crate) fn looked_of(view: BoxView<'_>) -> BoxLook<'_>
     ensures { result ≡ looked_of view.entry }
 {
-    Looked {
+    BoxLook {
         key: view.key,
         rect: view.at,
         style: view.style,
@@ -82,7 +82,7 @@ pub fn look_at<'a, B: Ledger>(
     tree: &'a Tree<B>,
     key: BoxKey,
     looks: &mut Steps<B>,
-) -> Option<Looked<'a>>
+) -> Option<BoxLook<'a>>
     ensures told { MatchOption result (starting_at same_key key (drawn tree.now).boxes
         ≡ empty) (λ s. Onward (drawn tree.now).boxes key (here_of s) s.first_child s.next_sibling s.hull) }
     ensures fits { IfSome result (λ s. OutlineFits (here_of s)) }

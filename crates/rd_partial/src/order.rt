@@ -4,12 +4,12 @@ ghost use Rattle.rd_style.specs.Classes as styles;
 ghost use Rattle.rd_keys.specs.declared.entry.Part.TheVariants as parts;
 ghost use Rattle.rd_list.specs.Entries.{◌▷◌, nil, each, has_leaf, flat, is_empty};
 ghost use Rattle.rd_list.specs.Nested.{laid_out};
-ghost use Rattle.rd_partial.specs.Internal.Bands.{entries_if, by_level};
+ghost use Rattle.rd_partial.specs.Internal.ContextLists.{entries_if, by_level};
 ghost use Rattle.rd_partial.specs.Internal.Pass as pass;
 ghost use Rattle.rd_partial.specs.Internal.Held.{held_stack};
 ghost use Rattle.rd_partial.specs.Internal.Visited.{part_at, back_border_at, back_border_cost_at, own_cost_at};
 
-use crate::bands::{Layers, Local, Stacked};
+use crate::lists::{FlowLists, LayerLists, LayerOrder};
 use crate::visit::{Pass, Visit};
 use crate::wanted::Wanted;
 use rd_geom::{NoMemory, Steps};
@@ -21,7 +21,7 @@ use std::sync::ledger::Ledger;
 
 /// What a box paints of itself before and in its line.
 #[derive(Drop)]
-pub struct Begun<A: Ledger> {
+pub struct OwnParts<A: Ledger> {
     pub out: Pieces<A>,
     pub line: Pieces<A>,
     pub outlines: Pieces<A>,
@@ -42,7 +42,7 @@ impl<'a, B: Ledger, W: Wanted> Pass<'a, B, W> {
         ensures made { OnOk result (made.new ≡ made.old + back_border_cost_at (W.wants self.now.wanted.now) self.now.number at.now) }
         ensures most { made.new ≤ made.old + back_border_cost_at (W.wants self.now.wanted.now) self.now.number at.now }
     {
-        self.give_back(out, at, made)?;
+        self.give_background(out, at, made)?;
         self.give_border(out, at, made)
     }
 
@@ -52,10 +52,10 @@ impl<'a, B: Ledger, W: Wanted> Pass<'a, B, W> {
         &self,
         at: &Visit<'_>,
         made: &mut Steps<A>,
-    ) -> Result<Begun<A>, NoMemory>
-        ensures out { IfOk result (λ r. laid_out r.out ≡ entries_if (styles.blocky at.now.here.now.style at.now.standing.now.root)
+    ) -> Result<OwnParts<A>, NoMemory>
+        ensures out { IfOk result (λ r. laid_out r.out ≡ entries_if (styles.blocky at.now.here.now.style at.now.inherited.now.root)
             (back_border_at (W.wants self.now.wanted.now) self.now.number at.now)) }
-        ensures line { IfOk result (λ r. laid_out r.line ≡ entries_if (not (styles.blocky at.now.here.now.style at.now.standing.now.root))
+        ensures line { IfOk result (λ r. laid_out r.line ≡ entries_if (not (styles.blocky at.now.here.now.style at.now.inherited.now.root))
             (back_border_at (W.wants self.now.wanted.now) self.now.number at.now)
             ▷ part_at (W.wants self.now.wanted.now) self.now.number at.now parts.Content) }
         ensures outlines { IfOk result (λ r. laid_out r.outlines ≡ part_at
@@ -68,14 +68,14 @@ impl<'a, B: Ledger, W: Wanted> Pass<'a, B, W> {
         let mut outlines = Pieces::empty(self.alloc);
         let mut own = Pieces::empty(self.alloc);
         self.back_border(&mut own, at, made)?;
-        if blocky(at.here.style(), at.standing.is_root()) {
+        if blocky(at.here.style(), at.inherited.is_root()) {
             out = own;
         } else {
             line = own;
         }
         self.give_content(&mut line, at, made)?;
         self.give_outline(&mut outlines, at, made)?;
-        Ok(Begun {
+        Ok(OwnParts {
             out,
             line,
             outlines,
@@ -84,7 +84,7 @@ impl<'a, B: Ledger, W: Wanted> Pass<'a, B, W> {
 }
 
 /// The lists of layers, one on top of another.
-fn join_layers<A: Ledger>(out: &mut Pieces<A>, layers: Vec<Stacked<A>>) -> Result<(), NoMemory>
+fn join_layers<A: Ledger>(out: &mut Pieces<A>, layers: Vec<LayerOrder<A>>) -> Result<(), NoMemory>
     ensures { OnOk result (laid_out out.new ≡ laid_out out.old ▷ each (λ y. y.order) (map held_stack layers.items)) }
 {
     for layer in layers {
@@ -93,14 +93,14 @@ fn join_layers<A: Ledger>(out: &mut Pieces<A>, layers: Vec<Stacked<A>>) -> Resul
     Ok(())
 }
 
-fn level_of<A: Ledger>(y: &Stacked<A>) -> i32
+fn level_of<A: Ledger>(y: &LayerOrder<A>) -> i32
     ensures { result ≡ y.now.level }
 {
     y.level
 }
 
 /// The lowest level first, and those of one level as they stood.
-fn in_order<A: Ledger>(layers: &mut Vec<Stacked<A>>) -> Result<(), NoMemory>
+fn in_order<A: Ledger>(layers: &mut Vec<LayerOrder<A>>) -> Result<(), NoMemory>
     ensures { OnOk result (map held_stack layers.new.items ≡ by_level (map held_stack layers.old.items)) }
 {
     layers.sort_by_key(level_of)?;
@@ -109,7 +109,7 @@ fn in_order<A: Ledger>(layers: &mut Vec<Stacked<A>>) -> Result<(), NoMemory>
 
 /// The lists of layers, the lowest level first and those of one level as they stood (CSS 2.2 section 9.9.1).
 #[tactic(auto, using(crate::proofs::Pass::Joining::joins))]
-fn join_by_level<A: Ledger>(out: &mut Pieces<A>, layers: Vec<Stacked<A>>) -> Result<(), NoMemory>
+fn join_by_level<A: Ledger>(out: &mut Pieces<A>, layers: Vec<LayerOrder<A>>) -> Result<(), NoMemory>
     ensures { OnOk result (laid_out out.new ≡ laid_out out.old ▷ each (λ y. y.order) (by_level
         (map held_stack layers.items))) }
 {
@@ -120,7 +120,7 @@ fn join_by_level<A: Ledger>(out: &mut Pieces<A>, layers: Vec<Stacked<A>>) -> Res
 
 /// What a box paints that is no layer and no outline, one on top of another. The outlines.
 #[tactic(auto, using(crate::proofs::Pass::Joining::joins))]
-fn join_local<A: Ledger>(out: &mut Pieces<A>, local: Local<A>) -> Result<Pieces<A>, NoMemory>
+fn join_local<A: Ledger>(out: &mut Pieces<A>, local: FlowLists<A>) -> Result<Pieces<A>, NoMemory>
     ensures list { OnOk result (laid_out out.new ≡ laid_out out.old ▷ laid_out local.backgrounds
         ▷ laid_out local.floats ▷ laid_out local.line ▷ laid_out local.contents) }
     ensures outlines { IfOk result (λ p. p ≡ local.outlines) }
@@ -136,15 +136,15 @@ fn join_local<A: Ledger>(out: &mut Pieces<A>, local: Local<A>) -> Result<Pieces<
 #[tactic(auto, using(crate::proofs::Pass::Joining::joins))]
 pub fn finish<A: Ledger>(
     out: Pieces<A>,
-    local: Local<A>,
-    layers: Layers<A>,
+    local: FlowLists<A>,
+    layers: LayerLists<A>,
 ) -> Result<Pieces<A>, NoMemory>
     ensures { IfOk result (λ p. laid_out p ≡ laid_out out ▷ each (λ y. y.order) (by_level
         (map held_stack layers.negatives.items)) ▷ laid_out local.backgrounds ▷ laid_out local.floats
         ▷ laid_out local.line ▷ laid_out local.contents ▷ laid_out layers.zeros
         ▷ each (λ y. y.order) (by_level (map held_stack layers.positives.items)) ▷ laid_out local.outlines) }
 {
-    let Layers {
+    let LayerLists {
         negatives,
         zeros,
         positives,

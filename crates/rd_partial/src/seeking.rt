@@ -6,7 +6,7 @@ ghost use Rattle.rd_stack.specs.Internal.Looks.{IsFirst};
 ghost use Rattle.rd_partial.specs.Internal.Seeking.{IsNextMarked, IsNextNear, IsNextWanted, PassesMarks, PassesWanted};
 ghost use Rattle.rd_tree.specs.Drawn.{drawn};
 
-use crate::look::{Looked, looked_of};
+use crate::look::{BoxLook, looked_of};
 use crate::wanted::Wanted;
 use rd_geom::{Rect, Steps};
 use rd_keys::BoxKey;
@@ -19,12 +19,12 @@ pub(crate) fn next_marked<'a, B: Ledger>(
     tree: &'a Tree<B>,
     first: Option<BoxKey>,
     looks: &mut Steps<B>,
-) -> Option<Looked<'a>>
+) -> Option<BoxLook<'a>>
     requires live { IsFirst first (drawn tree.now) }
     ensures { MatchOption result (PassesMarks (drawn tree.now) first None looks.old looks.new)
         (λ v. IsNextMarked (drawn tree.now) first v looks.old looks.new) }
 {
-    match tree.look_for_marked(first, looks) {
+    match tree.next_touched_sibling(first, looks) {
         Some(view) => Some(looked_of(view)),
         None => None,
     }
@@ -37,13 +37,13 @@ fn next_near<'a, B: Ledger, W: Wanted>(
     frame: &Rect,
     first: Option<BoxKey>,
     looks: &mut Steps<B>,
-) -> Option<Looked<'a>>
+) -> Option<BoxLook<'a>>
     requires frame { (r : Rectangle) → W.wants wanted.now r ≡ true → reaches frame.now r ≡ true }
     requires live { IsFirst first (drawn tree.now) }
     ensures { MatchOption result (PassesWanted (W.wants wanted.now) (drawn tree.now) first None looks.old looks.new)
         (λ v. IsNextNear (W.wants wanted.now) (drawn tree.now) first v looks.old looks.new) }
 {
-    match tree.look_on_for_hull(first, frame, looks) {
+    match tree.next_sibling_meeting(first, frame, looks) {
         Some(view) => Some(looked_of(view)),
         None => None,
     }
@@ -56,7 +56,7 @@ pub(crate) fn next_wanted<'a, B: Ledger, W: Wanted>(
     frame: &Rect,
     first: Option<BoxKey>,
     looks: &mut Steps<B>,
-) -> Option<Looked<'a>>
+) -> Option<BoxLook<'a>>
     requires frame { (r : Rectangle) → W.wants wanted.now r ≡ true → reaches frame.now r ≡ true }
     requires live { IsFirst first (drawn tree.now) }
     ensures { MatchOption result (PassesWanted (W.wants wanted.now) (drawn tree.now) first None looks.old looks.new)

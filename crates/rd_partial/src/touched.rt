@@ -8,15 +8,15 @@ ghost use Rattle.rd_stack.specs.Internal.Looks.{IsFirst};
 ghost use Rattle.rd_stack.specs.Paths.{OutlineFits};
 ghost use Rattle.rd_partial.specs.Looks.{holds_touched, looks_bound};
 ghost use Rattle.rd_partial.specs.Invalid.{is_invalid};
-ghost use Rattle.rd_partial.specs.Internal.Standing.{leaf_in};
-ghost use Rattle.rd_partial.specs.Internal.Looked.{here_of};
+ghost use Rattle.rd_partial.specs.Internal.Inherited.{leaf_in};
+ghost use Rattle.rd_partial.specs.Internal.BoxLook.{here_of};
 ghost use Rattle.rd_partial.specs.Internal.Touched.{Joins, IsTold, leaf_shows, box_shows, own_shows, branch_shows, shows_below, shows_from, marks_from, touched_looks, looks_under};
 ghost use Rattle.rd_tree.specs.Drawn.{drawn};
 
+use crate::inherited::Inherited;
 use crate::listed::add_list;
-use crate::look::{Looked, look_at, root_of};
+use crate::look::{BoxLook, look_at, root_of};
 use crate::seeking::next_marked;
-use crate::standing::Standing;
 use rd_area::Area;
 use rd_geom::{NoMemory, Steps};
 use rd_keys::{BoxKey, Part};
@@ -27,7 +27,7 @@ use std::alloc::Global;
 use std::sync::ledger::Ledger;
 
 /// Adds what may be seen of a part of a box.
-fn add_part(area: &mut Area, s: &Standing, b: &BoxData, part: Part) -> Result<(), NoMemory>
+fn add_part(area: &mut Area, s: &Inherited, b: &BoxData, part: Part) -> Result<(), NoMemory>
     ensures { OnOk result (Joins (leaf_shows (leaf_in s.now b.now part)) area.old area.new) }
 {
     match s.leaf(b, part) {
@@ -40,7 +40,7 @@ fn add_part(area: &mut Area, s: &Standing, b: &BoxData, part: Part) -> Result<()
 }
 
 /// Adds what may be seen of a box.
-fn add_box(area: &mut Area, s: &Standing, b: &BoxData) -> Result<(), NoMemory>
+fn add_box(area: &mut Area, s: &Inherited, b: &BoxData) -> Result<(), NoMemory>
     ensures { OnOk result (Joins (box_shows s.now b.now) area.old area.new) }
 {
     add_part(area, s, b, Part::Back)?;
@@ -52,7 +52,7 @@ fn add_box(area: &mut Area, s: &Standing, b: &BoxData) -> Result<(), NoMemory>
 
 /// Adds what may be seen of a box, if it is touched.
 #[inline(always)]
-fn add_if_touched(area: &mut Area, s: &Standing, looked: &Looked<'_>) -> Result<(), NoMemory>
+fn add_if_touched(area: &mut Area, s: &Inherited, looked: &BoxLook<'_>) -> Result<(), NoMemory>
     requires fits { OutlineFits (here_of looked.now) }
     ensures { OnOk result (Joins (own_shows s.now looked.now) area.old area.new) }
 {
@@ -69,8 +69,8 @@ fn add_if_touched(area: &mut Area, s: &Standing, looked: &Looked<'_>) -> Result<
 fn add_below<B: Ledger>(
     tree: &Tree<B>,
     area: &mut Area,
-    s: &Standing,
-    looked: &Looked<'_>,
+    s: &Inherited,
+    looked: &BoxLook<'_>,
     looks: &mut Steps<B>,
 ) -> Result<(), NoMemory>
     requires live { IsFirst looked.now.first_child (drawn tree.now) }
@@ -101,8 +101,8 @@ fn add_below<B: Ledger>(
 fn add_branch<B: Ledger>(
     tree: &Tree<B>,
     area: &mut Area,
-    s: &Standing,
-    looked: &Looked<'_>,
+    s: &Inherited,
+    looked: &BoxLook<'_>,
     looks: &mut Steps<B>,
 ) -> Result<(), NoMemory>
     requires below { s.now.root ≡ false }
@@ -126,7 +126,7 @@ fn add_branch<B: Ledger>(
 fn add_siblings<B: Ledger>(
     tree: &Tree<B>,
     area: &mut Area,
-    s: &Standing,
+    s: &Inherited,
     first: Option<BoxKey>,
     marks: u32,
     looks: &mut Steps<B>,
@@ -156,7 +156,7 @@ fn add_siblings<B: Ledger>(
 fn add_root<B: Ledger>(
     tree: &Tree<B>,
     area: &mut Area,
-    s: &Standing,
+    s: &Inherited,
     root: BoxKey,
     looks: &mut Steps<B>,
 ) -> Result<(), NoMemory>
@@ -191,7 +191,7 @@ pub fn touched_area<A: Ledger, B: Ledger>(
 {
     let mut area = Area::none(alloc, tree.canvas())?;
     add_list(tree, &mut area, list.list())?;
-    let s = Standing::at_root(tree.canvas());
+    let s = Inherited::at_root(tree.canvas());
     add_root(tree, &mut area, &s, root_of(tree), looks)?;
     Ok(area)
 }

@@ -1,5 +1,5 @@
 //! What a pass over a tree goes by, and what it comes to.
-use crate::standing::Standing;
+use crate::inherited::Inherited;
 use crate::wanted::Wanted;
 use rd_keys::BoxKey;
 use rd_stack::BoxData;
@@ -19,7 +19,7 @@ pub struct Pass<'a, B: Ledger, W: Wanted> {
 /// A box that a pass comes to, and what is handed down to it.
 #[derive(Clone, Copy)]
 pub struct Visit<'a> {
-    pub standing: &'a Standing,
+    pub inherited: &'a Inherited,
     pub here: &'a BoxData,
     pub first_child: Option<BoxKey>,
 
@@ -30,6 +30,6 @@ pub struct Visit<'a> {
 /// Some siblings, from one on, and what is handed down to them.
 #[derive(Clone, Copy)]
 pub struct Siblings<'a> {
-    pub standing: &'a Standing,
+    pub inherited: &'a Inherited,
     pub first: Option<BoxKey>,
 }

@@ -10,19 +10,19 @@ ghost use Rattle.rd_tree.specs.Forest.{IsApart};
 ghost use Rattle.rd_stack.specs.Fresh.{fresh_list};
 ghost use Rattle.rd_stack.specs.Internal.Looks.{IsFirst};
 ghost use Rattle.rd_partial.specs.Numbered.{numbered};
-ghost use Rattle.rd_partial.specs.Internal.Bands.{◌⊕◌};
+ghost use Rattle.rd_partial.specs.Internal.ContextLists.{◌⊕◌};
 ghost use Rattle.rd_partial.specs.Internal.Pass as pass;
 ghost use Rattle.rd_partial.specs.Internal.Held.{held};
 ghost use Rattle.rd_partial.specs.Internal.Counting.{leaves_in, root_visits};
-ghost use Rattle.rd_partial.specs.Internal.Work.{blends_from, layer_bands, layers_of, held_layers, passes_from, siblings_cost, visits_from};
+ghost use Rattle.rd_partial.specs.Internal.Work.{blends_from, layer_lists, layers_of, held_layers, passes_from, siblings_cost, visits_from};
 ghost use Rattle.rd_partial.specs.Internal.Visited.{part_at, back_border_at, own_cost_at, passes_below, cost_below, paints_at, cost_at, visits_below, tally, GivesBox};
 ghost use Rattle.rd_tree.specs.Drawn.{drawn};
 
-use crate::bands::{Layers, Local, Stacked};
+use crate::inherited::Inherited;
+use crate::lists::{FlowLists, LayerLists, LayerOrder};
 use crate::look::{look_at, root_of};
-use crate::order::{Begun, as_group, finish};
+use crate::order::{OwnParts, as_group, finish};
 use crate::seeking::next_wanted;
-use crate::standing::Standing;
 use crate::visit::{Pass, Siblings, Visit};
 use crate::wanted::Wanted;
 use rd_geom::{NoMemory, Steps};
@@ -58,7 +58,7 @@ fn empty_one<A: Ledger>(alloc: Global, spare: &mut Pieces<A>) -> Pieces<A>
 
 /// Begins the line of a block on top of the contents. The line of the box that paints it, which waits while those below the
 /// block are dropped.
-fn open_line<A: Ledger>(alloc: Global, local: &mut Local<A>) -> Pieces<A>
+fn open_line<A: Ledger>(alloc: Global, local: &mut FlowLists<A>) -> Pieces<A>
     ensures outer { result ≡ local.old.line }
     ensures backgrounds { local.new.backgrounds ≡ local.old.backgrounds }
     ensures floats { local.new.floats ≡ local.old.floats }
@@ -72,7 +72,7 @@ fn open_line<A: Ledger>(alloc: Global, local: &mut Local<A>) -> Pieces<A>
 }
 
 /// Ends the line of a block: the contents with it, and then the lines of the blocks below it.
-fn close_line<A: Ledger>(local: &mut Local<A>, outer: Pieces<A>) -> Result<(), NoMemory>
+fn close_line<A: Ledger>(local: &mut FlowLists<A>, outer: Pieces<A>) -> Result<(), NoMemory>
     ensures backgrounds { OnOk result (local.new.backgrounds ≡ local.old.backgrounds) }
     ensures floats { OnOk result (local.new.floats ≡ local.old.floats) }
     ensures line { OnOk result (local.new.line ≡ outer) }
@@ -98,11 +98,11 @@ fn has_positive_level(b: &BoxData) -> bool
     0 < level_in(b)
 }
 
-fn stacked<A: Ledger>(b: &BoxData, order: Pieces<A>) -> Stacked<A>
+fn stacked<A: Ledger>(b: &BoxData, order: Pieces<A>) -> LayerOrder<A>
     ensures level { result.level ≡ pass.level_in b.now }
     ensures order { result.order ≡ order }
 {
-    Stacked {
+    LayerOrder {
         level: level_in(b),
         order,
     }
@@ -110,9 +110,13 @@ fn stacked<A: Ledger>(b: &BoxData, order: Pieces<A>) -> Stacked<A>
 
 /// Puts a layer among those of its stacking context, if it paints anything.
 #[tactic(auto, using(crate::proofs::Pass::Joining::joins))]
-fn stack<A: Ledger>(layers: &mut Layers<A>, b: &BoxData, order: Pieces<A>) -> Result<(), NoMemory>
+fn stack<A: Ledger>(
+    layers: &mut LayerLists<A>,
+    b: &BoxData,
+    order: Pieces<A>,
+) -> Result<(), NoMemory>
     ensures { OnOk result (held_layers layers.new ≡ held_layers layers.old
-        ⊕ layer_bands (pass.level_in b.now) (laid_out order)) }
+        ⊕ layer_lists (pass.level_in b.now) (laid_out order)) }
 {
     if order.is_empty() {
         return Ok(());
@@ -138,35 +142,35 @@ impl<'a, B: Ledger, W: Wanted> Pass<'a, B, W> {
         made: &mut Steps<A>,
         looks: &mut Steps<B>,
     ) -> Result<Pieces<A>, NoMemory>
-        requires real { styles.real at.now.here.now.style at.now.standing.now.root ≡ true }
+        requires real { styles.real at.now.here.now.style at.now.inherited.now.root ≡ true }
         requires live { IsFirst at.now.first_child (drawn self.now.tree.now) }
         ensures list { IfOk result (λ p. laid_out p ≡ paints_at (W.wants self.now.wanted.now) self.now.number at.now (drawn self.now.tree.now)) }
         ensures made { OnOk result (made.new ≡ made.old + cost_at (W.wants self.now.wanted.now) self.now.number at.now (drawn self.now.tree.now)) }
         ensures most { made.new ≤ made.old + cost_at (W.wants self.now.wanted.now) self.now.number at.now (drawn self.now.tree.now) }
         ensures looks { looks.new ≤ looks.old + visits_below (W.wants self.now.wanted.now) at.now (drawn self.now.tree.now) }
     {
-        let Begun {
+        let OwnParts {
             out,
             line,
             outlines,
         } = self.begin(at, made)?;
-        let mut local = Local::begun(self.alloc, line, outlines);
-        let mut layers = Layers::none(self.alloc);
-        self.those_below(at, &mut local, &mut layers, made, looks)?;
+        let mut local = FlowLists::begun(self.alloc, line, outlines);
+        let mut layers = LayerLists::none(self.alloc);
+        self.descendants(at, &mut local, &mut layers, made, looks)?;
         let order = finish(out, local, layers)?;
         Ok(order)
     }
 
     /// All that a box paints as if it made a stacking context; the layers below it go to its own stacking context.
     #[cycle(build)]
-    fn aside<A: Ledger>(
+    fn pseudo_context<A: Ledger>(
         &self,
         at: &Visit<'_>,
-        layers: &mut Layers<A>,
+        layers: &mut LayerLists<A>,
         made: &mut Steps<A>,
         looks: &mut Steps<B>,
     ) -> Result<Pieces<A>, NoMemory>
-        requires unreal { styles.real at.now.here.now.style at.now.standing.now.root ≡ false }
+        requires unreal { styles.real at.now.here.now.style at.now.inherited.now.root ≡ false }
         requires live { IsFirst at.now.first_child (drawn self.now.tree.now) }
         ensures list { IfOk result (λ p. laid_out p ≡ paints_at (W.wants self.now.wanted.now) self.now.number at.now (drawn self.now.tree.now)) }
         ensures layers { OnOk result (held_layers layers.new ≡ held_layers layers.old
@@ -175,14 +179,14 @@ impl<'a, B: Ledger, W: Wanted> Pass<'a, B, W> {
         ensures most { made.new ≤ made.old + cost_at (W.wants self.now.wanted.now) self.now.number at.now (drawn self.now.tree.now) }
         ensures looks { looks.new ≤ looks.old + visits_below (W.wants self.now.wanted.now) at.now (drawn self.now.tree.now) }
     {
-        let Begun {
+        let OwnParts {
             out,
             line,
             outlines,
         } = self.begin(at, made)?;
-        let mut local = Local::begun(self.alloc, line, outlines);
-        self.those_below(at, &mut local, layers, made, looks)?;
-        let order = finish(out, local, Layers::none(self.alloc))?;
+        let mut local = FlowLists::begun(self.alloc, line, outlines);
+        self.descendants(at, &mut local, layers, made, looks)?;
+        let order = finish(out, local, LayerLists::none(self.alloc))?;
         Ok(order)
     }
 
@@ -192,18 +196,18 @@ impl<'a, B: Ledger, W: Wanted> Pass<'a, B, W> {
     fn float<A: Ledger>(
         &self,
         at: &Visit<'_>,
-        local: &mut Local<A>,
-        layers: &mut Layers<A>,
+        local: &mut FlowLists<A>,
+        layers: &mut LayerLists<A>,
         made: &mut Steps<A>,
         looks: &mut Steps<B>,
     ) -> Result<(), NoMemory>
         requires class { styles.class at.now.here.now.style false ≡ classes.Float }
-        requires root { at.now.standing.now.root ≡ false }
+        requires root { at.now.inherited.now.root ≡ false }
         requires live { IsFirst at.now.first_child (drawn self.now.tree.now) }
         ensures { GivesBox (W.wants self.now.wanted.now) self.now.number at.now (drawn self.now.tree.now) result
             (tally local.old layers.old made.old looks.old) (tally local.new layers.new made.new looks.new) }
     {
-        let order = self.aside(at, layers, made, looks)?;
+        let order = self.pseudo_context(at, layers, made, looks)?;
         local.floats.join(order)?;
         Ok(())
     }
@@ -214,18 +218,18 @@ impl<'a, B: Ledger, W: Wanted> Pass<'a, B, W> {
     fn atom<A: Ledger>(
         &self,
         at: &Visit<'_>,
-        local: &mut Local<A>,
-        layers: &mut Layers<A>,
+        local: &mut FlowLists<A>,
+        layers: &mut LayerLists<A>,
         made: &mut Steps<A>,
         looks: &mut Steps<B>,
     ) -> Result<(), NoMemory>
         requires class { styles.class at.now.here.now.style false ≡ classes.Atom }
-        requires root { at.now.standing.now.root ≡ false }
+        requires root { at.now.inherited.now.root ≡ false }
         requires live { IsFirst at.now.first_child (drawn self.now.tree.now) }
         ensures { GivesBox (W.wants self.now.wanted.now) self.now.number at.now (drawn self.now.tree.now) result
             (tally local.old layers.old made.old looks.old) (tally local.new layers.new made.new looks.new) }
     {
-        let order = self.aside(at, layers, made, looks)?;
+        let order = self.pseudo_context(at, layers, made, looks)?;
         local.line.join(order)?;
         Ok(())
     }
@@ -236,13 +240,13 @@ impl<'a, B: Ledger, W: Wanted> Pass<'a, B, W> {
     fn inline<A: Ledger>(
         &self,
         at: &Visit<'_>,
-        local: &mut Local<A>,
-        layers: &mut Layers<A>,
+        local: &mut FlowLists<A>,
+        layers: &mut LayerLists<A>,
         made: &mut Steps<A>,
         looks: &mut Steps<B>,
     ) -> Result<(), NoMemory>
         requires class { styles.class at.now.here.now.style false ≡ classes.Inline }
-        requires root { at.now.standing.now.root ≡ false }
+        requires root { at.now.inherited.now.root ≡ false }
         requires live { IsFirst at.now.first_child (drawn self.now.tree.now) }
         ensures { GivesBox (W.wants self.now.wanted.now) self.now.number at.now (drawn self.now.tree.now) result
             (tally local.old layers.old made.old looks.old) (tally local.new layers.new made.new looks.new) }
@@ -250,7 +254,7 @@ impl<'a, B: Ledger, W: Wanted> Pass<'a, B, W> {
         self.back_border(&mut local.line, at, made)?;
         self.give_content(&mut local.line, at, made)?;
         self.give_outline(&mut local.outlines, at, made)?;
-        self.those_below(at, local, layers, made, looks)?;
+        self.descendants(at, local, layers, made, looks)?;
         Ok(())
     }
 
@@ -259,7 +263,7 @@ impl<'a, B: Ledger, W: Wanted> Pass<'a, B, W> {
     fn block_itself<A: Ledger>(
         &self,
         at: &Visit<'_>,
-        local: &mut Local<A>,
+        local: &mut FlowLists<A>,
         made: &mut Steps<A>,
     ) -> Result<(), NoMemory>
         ensures floats { OnOk result (local.new.floats ≡ local.old.floats) }
@@ -284,13 +288,13 @@ impl<'a, B: Ledger, W: Wanted> Pass<'a, B, W> {
     fn block<A: Ledger>(
         &self,
         at: &Visit<'_>,
-        local: &mut Local<A>,
-        layers: &mut Layers<A>,
+        local: &mut FlowLists<A>,
+        layers: &mut LayerLists<A>,
         made: &mut Steps<A>,
         looks: &mut Steps<B>,
     ) -> Result<(), NoMemory>
         requires class { styles.class at.now.here.now.style false ≡ classes.Block }
-        requires root { at.now.standing.now.root ≡ false }
+        requires root { at.now.inherited.now.root ≡ false }
         requires live { IsFirst at.now.first_child (drawn self.now.tree.now) }
         ensures { GivesBox (W.wants self.now.wanted.now) self.now.number at.now (drawn self.now.tree.now) result
             (tally local.old layers.old made.old looks.old) (tally local.new layers.new made.new looks.new) }
@@ -301,7 +305,7 @@ impl<'a, B: Ledger, W: Wanted> Pass<'a, B, W> {
             None => return Ok(()),
         }
         let outer = open_line(self.alloc, local);
-        self.those_below(at, local, layers, made, looks)?;
+        self.descendants(at, local, layers, made, looks)?;
         close_line(local, outer)?;
         Ok(())
     }
@@ -311,14 +315,14 @@ impl<'a, B: Ledger, W: Wanted> Pass<'a, B, W> {
     fn real_layer<A: Ledger>(
         &self,
         at: &Visit<'_>,
-        local: &mut Local<A>,
-        layers: &mut Layers<A>,
+        local: &mut FlowLists<A>,
+        layers: &mut LayerLists<A>,
         made: &mut Steps<A>,
         looks: &mut Steps<B>,
     ) -> Result<(), NoMemory>
         requires class { styles.class at.now.here.now.style false ≡ classes.Layer }
         requires real { styles.real at.now.here.now.style false ≡ true }
-        requires root { at.now.standing.now.root ≡ false }
+        requires root { at.now.inherited.now.root ≡ false }
         requires low { at.now.blend_below ≡ blends_from at.now.first_child (drawn self.now.tree.now) }
         requires live { IsFirst at.now.first_child (drawn self.now.tree.now) }
         ensures { GivesBox (W.wants self.now.wanted.now) self.now.number at.now (drawn self.now.tree.now) result
@@ -335,20 +339,20 @@ impl<'a, B: Ledger, W: Wanted> Pass<'a, B, W> {
     fn auto_layer<A: Ledger>(
         &self,
         at: &Visit<'_>,
-        local: &mut Local<A>,
-        layers: &mut Layers<A>,
+        local: &mut FlowLists<A>,
+        layers: &mut LayerLists<A>,
         made: &mut Steps<A>,
         looks: &mut Steps<B>,
     ) -> Result<(), NoMemory>
         requires class { styles.class at.now.here.now.style false ≡ classes.Layer }
         requires unreal { styles.real at.now.here.now.style false ≡ false }
-        requires root { at.now.standing.now.root ≡ false }
+        requires root { at.now.inherited.now.root ≡ false }
         requires live { IsFirst at.now.first_child (drawn self.now.tree.now) }
         ensures { GivesBox (W.wants self.now.wanted.now) self.now.number at.now (drawn self.now.tree.now) result
             (tally local.old layers.old made.old looks.old) (tally local.new layers.new made.new looks.new) }
     {
         let outer = replace(&mut layers.zeros, Pieces::empty(self.alloc));
-        let order = self.aside(at, layers, made, looks)?;
+        let order = self.pseudo_context(at, layers, made, looks)?;
         let inner = replace(&mut layers.zeros, outer);
         layers.zeros.join(order)?;
         layers.zeros.join(inner)?;
@@ -357,15 +361,15 @@ impl<'a, B: Ledger, W: Wanted> Pass<'a, B, W> {
 
     /// Drops a box, and those below it.
     #[cycle(build)]
-    fn one<A: Ledger>(
+    fn drop_box<A: Ledger>(
         &self,
         at: &Visit<'_>,
-        local: &mut Local<A>,
-        layers: &mut Layers<A>,
+        local: &mut FlowLists<A>,
+        layers: &mut LayerLists<A>,
         made: &mut Steps<A>,
         looks: &mut Steps<B>,
     ) -> Result<(), NoMemory>
-        requires root { at.now.standing.now.root ≡ false }
+        requires root { at.now.inherited.now.root ≡ false }
         requires low { at.now.blend_below ≡ blends_from at.now.first_child (drawn self.now.tree.now) }
         requires live { IsFirst at.now.first_child (drawn self.now.tree.now) }
         ensures { GivesBox (W.wants self.now.wanted.now) self.now.number at.now (drawn self.now.tree.now) result
@@ -386,13 +390,13 @@ impl<'a, B: Ledger, W: Wanted> Pass<'a, B, W> {
     fn layer<A: Ledger>(
         &self,
         at: &Visit<'_>,
-        local: &mut Local<A>,
-        layers: &mut Layers<A>,
+        local: &mut FlowLists<A>,
+        layers: &mut LayerLists<A>,
         made: &mut Steps<A>,
         looks: &mut Steps<B>,
     ) -> Result<(), NoMemory>
         requires class { styles.class at.now.here.now.style false ≡ classes.Layer }
-        requires root { at.now.standing.now.root ≡ false }
+        requires root { at.now.inherited.now.root ≡ false }
         requires low { at.now.blend_below ≡ blends_from at.now.first_child (drawn self.now.tree.now) }
         requires live { IsFirst at.now.first_child (drawn self.now.tree.now) }
         ensures { GivesBox (W.wants self.now.wanted.now) self.now.number at.now (drawn self.now.tree.now) result
@@ -408,11 +412,11 @@ impl<'a, B: Ledger, W: Wanted> Pass<'a, B, W> {
     /// Drops those below a box, where there are any.
     #[cycle(build)]
     #[inline(always)]
-    fn those_below<A: Ledger>(
+    fn descendants<A: Ledger>(
         &self,
         at: &Visit<'_>,
-        local: &mut Local<A>,
-        layers: &mut Layers<A>,
+        local: &mut FlowLists<A>,
+        layers: &mut LayerLists<A>,
         made: &mut Steps<A>,
         looks: &mut Steps<B>,
     ) -> Result<(), NoMemory>
@@ -425,12 +429,12 @@ impl<'a, B: Ledger, W: Wanted> Pass<'a, B, W> {
     {
         match at.first_child {
             Some(_) => {
-                let inner = at.standing.below(at.here);
+                let inner = at.inherited.below(at.here);
                 let below = Siblings {
-                    standing: &inner,
+                    inherited: &inner,
                     first: at.first_child,
                 };
-                self.children(&below, local, layers, made, looks)
+                self.siblings(&below, local, layers, made, looks)
             }
             None => Ok(()),
         }
@@ -438,20 +442,20 @@ impl<'a, B: Ledger, W: Wanted> Pass<'a, B, W> {
 
     /// Drops some siblings and those below them; those of which nothing is wanted are looked at, and no box below them is.
     #[cycle(build)]
-    fn children<A: Ledger>(
+    fn siblings<A: Ledger>(
         &self,
         of: &Siblings<'_>,
-        local: &mut Local<A>,
-        layers: &mut Layers<A>,
+        local: &mut FlowLists<A>,
+        layers: &mut LayerLists<A>,
         made: &mut Steps<A>,
         looks: &mut Steps<B>,
     ) -> Result<(), NoMemory>
-        requires root { of.now.standing.now.root ≡ false }
+        requires root { of.now.inherited.now.root ≡ false }
         requires live { IsFirst of.now.first (drawn self.now.tree.now) }
         ensures list { OnOk result (held local.new layers.new ≡ held local.old layers.old
-            ⊕ passes_from (W.wants self.now.wanted.now) self.now.number of.now.standing.now of.now.first (drawn self.now.tree.now)) }
-        ensures made { OnOk result (made.new ≡ made.old + siblings_cost (W.wants self.now.wanted.now) self.now.number of.now.standing.now of.now.first (drawn self.now.tree.now)) }
-        ensures most { made.new ≤ made.old + siblings_cost (W.wants self.now.wanted.now) self.now.number of.now.standing.now of.now.first (drawn self.now.tree.now) }
+            ⊕ passes_from (W.wants self.now.wanted.now) self.now.number of.now.inherited.now of.now.first (drawn self.now.tree.now)) }
+        ensures made { OnOk result (made.new ≡ made.old + siblings_cost (W.wants self.now.wanted.now) self.now.number of.now.inherited.now of.now.first (drawn self.now.tree.now)) }
+        ensures most { made.new ≤ made.old + siblings_cost (W.wants self.now.wanted.now) self.now.number of.now.inherited.now of.now.first (drawn self.now.tree.now) }
         ensures looks { looks.new ≤ looks.old + visits_from (W.wants self.now.wanted.now) of.now.first (drawn self.now.tree.now) }
     {
         let frame = self.wanted.frame();
@@ -463,12 +467,12 @@ impl<'a, B: Ledger, W: Wanted> Pass<'a, B, W> {
             };
             let here = looked.here();
             let child = Visit {
-                standing: of.standing,
+                inherited: of.inherited,
                 here: &here,
                 first_child: looked.first_child,
                 blend_below: looked.blend_below,
             };
-            self.one(&child, local, layers, made, looks)?;
+            self.drop_box(&child, local, layers, made, looks)?;
             next = looked.next_sibling;
         }
     }
@@ -491,7 +495,7 @@ pub(crate) fn build_wanted<A: Ledger, B: Ledger, W: Wanted>(
     ensures looks { looks.new ≤ looks.old + root_visits (W.wants wanted.now) (drawn tree.now).boxes }
     ensures apart { IsApart same_key tree.now.boxes }
 {
-    let s = Standing::at_root(tree.canvas());
+    let s = Inherited::at_root(tree.canvas());
     let looked = match look_at(tree, root_of(tree), looks) {
         Some(looked) => looked,
         None => return Ok(NewList::empty(alloc)),
@@ -504,7 +508,7 @@ pub(crate) fn build_wanted<A: Ledger, B: Ledger, W: Wanted>(
         number,
     };
     let root = Visit {
-        standing: &s,
+        inherited: &s,
         here: &here,
         first_child: looked.first_child,
         blend_below: looked.blend_below,

@@ -239,7 +239,7 @@ fn kept<A: Ledger>(rt: &impl Abort, alloc: Global, list: NewList<A>) -> Kept<A> 
     Kept {
         entries,
         graph,
-        blocks: Vec::new(alloc),
+        chunks: Vec::new(alloc),
     }
 }
 

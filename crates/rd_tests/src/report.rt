@@ -123,7 +123,7 @@ fn dumped<A: Ledger, B: Ledger>(
     let inner = Kept {
         entries: vec![in alloc; Entry::Leaf(item)].expect(rt, "an entry"),
         graph: OrderGraph::empty(alloc),
-        blocks: Vec::new(alloc),
+        chunks: Vec::new(alloc),
     };
     let group = Group {
         key: tree.root(),
@@ -134,7 +134,7 @@ fn dumped<A: Ledger, B: Ledger>(
     let list = Kept {
         entries: vec![in alloc; Entry::Group(group)].expect(rt, "an entry"),
         graph: OrderGraph::empty(alloc),
-        blocks: Vec::new(alloc),
+        chunks: Vec::new(alloc),
     };
     let mut text = String::new(alloc);
     push_dump(&mut text, list.view(), tree).expect(rt, "a dump");

@@ -171,11 +171,11 @@ fn gone<B: Ledger>(rt: &impl Abort, tree: &Tree<B>, looks: &mut Steps<B>, key: B
 fn quiet_two<B: Ledger>(rt: &impl Abort, tree: &mut Tree<B>, names: &Names, key: BoxKey) {
     let keys = KeyRange::one(tree.root()).joined(KeyRange::one(key));
     tree.settle();
-    assert!(rt; tree.are_quiet(keys));
+    assert!(rt; tree.none_touched(keys));
     lay(rt, tree, &names.a, [0, 0, 10, 10]);
-    assert!(rt; !tree.are_quiet(keys));
+    assert!(rt; !tree.none_touched(keys));
     tree.settle();
-    assert!(rt; tree.are_quiet(keys));
+    assert!(rt; tree.none_touched(keys));
 }
 
 /// Two boxes come below A and go again: their keys are dead then, and stay dead where an id comes back.

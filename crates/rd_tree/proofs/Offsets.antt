@@ -10,7 +10,7 @@ use Rattle.rd_style.specs.declared.kinds.Position.{Position}
 use Rattle.rd_style.specs.declared.kinds.Position.TheVariants as position
 use Rattle.rd_style.specs.Classes.{clips, is_positioned}
 use Rattle.rd_tree.specs.declared.scroll.Scroll.{Scroll}
-use Rattle.rd_tree.specs.declared.handed.Handed.{Handed}
+use Rattle.rd_tree.specs.declared.handed.ScrollSums.{ScrollSums}
 use Rattle.rd_tree.specs.Figures.{max_scroll}
 use Rattle.rd_tree.specs.Document.{Item}
 use Rattle.rd_tree.specs.Changes.{unscrolled, with_rect}
@@ -66,7 +66,7 @@ far_own root s o h = by (clips s root)
     by true = scroll_far o h
     by false = far_none 1
 
-pub far_offset : (n : ℕ) (h : Handed) (p : Position) → IsWithin n h → IsFar n (offset_in h p)
+pub far_offset : (n : ℕ) (h : ScrollSums) (p : Position) → IsWithin n h → IsFar n (offset_in h p)
 far_offset n h position.Fixed w = far_none n
 far_offset n h position.Absolute w = w.absolute
 far_offset n h position.Relative w = w.flow
@@ -79,7 +79,7 @@ offset-of position.Absolute above = refl
 offset-of position.Relative above = refl
 offset-of position.Static above = refl
 
-abbrev hands : Scroll → Scroll → Handed
+abbrev hands : Scroll → Scroll → ScrollSums
 hands f a = record { flow = f; absolute = a }
 
 abbrev entering : Bool → Style → Scroll → Above
@@ -95,7 +95,7 @@ entered-of root s o above =
     by true = refl
     by false = refl
 
-pub entered_within : (n : ℕ) (root : Bool) (s : Style) (o : Scroll) (h : Handed) → FitsScroll o → IsWithin n h → IsWithin (1 + n) (entered root s o h)
+pub entered_within : (n : ℕ) (root : Bool) (s : Style) (o : Scroll) (h : ScrollSums) → FitsScroll o → IsWithin n h → IsWithin (1 + n) (entered root s o h)
 entered_within n root s o h f w =
     let inside : IsFar (1 + n) (plus (offset_in h s.position) (own_of root s o)) = far_plus n (offset_in h s.position) (own_of root s o) (far_offset n h s.position w) (far_own root s o f) in
     record { flow = inside; absolute = by (is_positioned s.position) inside (far_more n h.absolute w.absolute) }
@@ -112,7 +112,7 @@ far_up n a l f = record {
   down = omega (arith, ints, f.down);
 }
 
-pub within_more : (n : ℕ) (h : Handed) → n ≤ 256 → IsWithin n h → IsWithin 256 h
+pub within_more : (n : ℕ) (h : ScrollSums) → n ≤ 256 → IsWithin n h → IsWithin 256 h
 within_more n h l w = record { flow = far_up n h.flow l w.flow; absolute = far_up n h.absolute l w.absolute }
 
 pub fits_none : FitsScroll unscrolled

@@ -6,7 +6,7 @@ use Rattle.rd_keys.specs.Keys.{same_key}
 use Rattle.rd_keys.specs.Arena.{Arena}
 use Rattle.rd_keys.proofs.Keys.{same_key-sound, same_key-refl}
 use Rattle.rd_tree.specs.declared.node.Node as inner
-use Rattle.rd_tree.specs.declared.handed.Handed.{Handed}
+use Rattle.rd_tree.specs.declared.handed.ScrollSums.{ScrollSums}
 use Rattle.rd_tree.specs.declared.scroll.Scroll.{Scroll}
 use Rattle.rd_tree.specs.Forest.{empty, tree, size, has}
 use Rattle.rd_tree.specs.Document.{BoxKey, Item, BoxForest}
@@ -45,7 +45,7 @@ put_far a b k old new r e q = record {
   by j false s = refl
 
 -- A row is written that is no other live key's.
-hand_put : (a : Arena inner.Node) (old new : List Handed) (k : BoxKey) (h : Handed) → PutsHand old new k h → is_some (linked a k) ≡ true
+hand_put : (a : Arena inner.Node) (old new : List ScrollSums) (k : BoxKey) (h : ScrollSums) → PutsHand old new k h → is_some (linked a k) ≡ true
     → (j : BoxKey) → is_some (linked a j) ≡ true → hand_at new j ≡ cond (same_key k j) h (hand_at old j)
 hand_put a old new k h p v j u =
     elim (cases (j.slot == k.slot)) [
@@ -66,12 +66,12 @@ live_in a o r j u = ap is_some (stands_children same_key same_key-sound same_key
     (sym (ap (has same_key j) (seen_read a o r)) ∙ u)).1
 
 -- What these boxes need so that they can be drawn anew.
-pub record Ready (rows : List Handed) (h : Handed) (f : BoxForest) : Type 0 where
+pub record Ready (rows : List ScrollSums) (h : ScrollSums) (f : BoxForest) : Type 0 where
   pub can : CanHand h f
   pub has_rows : HasHands rows f
   pub fits : AllRedraw rows h f
 
-redraws_same : (rows now : List Handed) (h : Handed) (f : BoxForest) → ((j : BoxKey) → has same_key j f ≡ true → hand_at rows j ≡ hand_at now j) → AllRedraw rows h f → AllRedraw now h f
+redraws_same : (rows now : List ScrollSums) (h : ScrollSums) (f : BoxForest) → ((j : BoxKey) → has same_key j f ≡ true → hand_at rows j ≡ hand_at now j) → AllRedraw rows h f → AllRedraw now h f
 redraws_same rows now h empty q a = tt
 redraws_same rows now h (tree k d low rest) q a = (
   subst (λ o. CanRedraw o h d) (q k (from_left (same_key k k) (has same_key k low || has same_key k rest) (same_key-refl k))) a.0,
@@ -80,7 +80,7 @@ redraws_same rows now h (tree k d low rest) q a = (
 )
 
 -- They need no more where other rows are others'.
-ready_same : (rows now : List Handed) (h : Handed) (f : BoxForest) → ((j : BoxKey) → has same_key j f ≡ true → hand_at rows j ≡ hand_at now j) → length now ≡ length rows
+ready_same : (rows now : List ScrollSums) (h : ScrollSums) (f : BoxForest) → ((j : BoxKey) → has same_key j f ≡ true → hand_at rows j ≡ hand_at now j) → length now ≡ length rows
     → Ready rows h f → Ready now h f
 ready_same rows now h f q l r = record {
   can = r.can;
@@ -90,7 +90,7 @@ ready_same rows now h f q l r = record {
 
 -- The loop has drawn those boxes anew that are told from the first one on, and no more from this one on, and has handed it
 -- to them.
-pub record Redrawing (asked : Bool) (a0 : Arena inner.Node) (rows : List Handed) (h : Handed) (first : Option BoxKey) (a : Arena inner.Node) (now : List Handed) (at : Option BoxKey) : Type 0 where
+pub record Redrawing (asked : Bool) (a0 : Arena inner.Node) (rows : List ScrollSums) (h : ScrollSums) (first : Option BoxKey) (a : Arena inner.Node) (now : List ScrollSums) (at : Option BoxKey) : Type 0 where
   pub links : Relinks a0 a (on_each_by (λ j. has same_key j (seen_from a0 first) && not (has same_key j (seen_from a at))) (λ j. redrawn_if asked (hand_at rows j)
       (handed_to j h (seen_from a0 first))) (linked a0))
   pub read : IsRead a at
@@ -110,7 +110,7 @@ all_done : (b : Bool) → (b && not false) ≡ b
 all_done true = refl
 all_done false = refl
 
-pub redrawing_begun : (asked : Bool) (a : Arena inner.Node) (rows : List Handed) (h : Handed) (first : Option BoxKey) → IsRead a first → CanHand h (seen_from a first)
+pub redrawing_begun : (asked : Bool) (a : Arena inner.Node) (rows : List ScrollSums) (h : ScrollSums) (first : Option BoxKey) → IsRead a first → CanHand h (seen_from a first)
     → HasHands rows (seen_from a first) → AllRedraw rows h (seen_from a first) → Redrawing asked a rows h first a rows first
 redrawing_begun asked a rows h first r c q f = record {
   links = record {
@@ -129,7 +129,7 @@ redrawing_begun asked a rows h first r c q f = record {
   same_length = refl;
 }
 
-pub redrawing_done : (asked : Bool) (a0 a : Arena inner.Node) (rows now : List Handed) (h : Handed) (first : Option BoxKey) → Redrawing asked a0 rows h first a now None
+pub redrawing_done : (asked : Bool) (a0 a : Arena inner.Node) (rows now : List ScrollSums) (h : ScrollSums) (first : Option BoxKey) → Redrawing asked a0 rows h first a now None
     → Redraws asked a0 a rows h (seen_from a0 first)
 redrawing_done asked a0 a rows now h first w = record {
   links = λ j. w.links.links j ∙ ap (λ b. cond b (option_map (with_item (redrawn_if asked (hand_at rows j) (handed_to j h (seen_from a0 first)))) (linked a0 j))
@@ -140,14 +140,14 @@ redrawing_done asked a0 a rows now h first w = record {
   first = w.links.first;
 }
 
-pub handing_done : (asked : Bool) (a0 a : Arena inner.Node) (rows now : List Handed) (h : Handed) (first : Option BoxKey) → Redrawing asked a0 rows h first a now None
+pub handing_done : (asked : Bool) (a0 a : Arena inner.Node) (rows now : List ScrollSums) (h : ScrollSums) (first : Option BoxKey) → Redrawing asked a0 rows h first a now None
     → HandsDown a0 rows now h (seen_from a0 first)
 handing_done asked a0 a rows now h first w j u =
     w.hands j u ∙ ap (λ b. cond b (handed_to j h (seen_from a0 first)) (hand_at rows j))
     (ap (λ f. has same_key j (seen_from a0 first) && not (has same_key j f)) (nothing_seen a) ∙ all_done (has same_key j (seen_from a0 first)))
 
 -- Of no boxes nothing is to be done.
-pub none_redrawn : (asked : Bool) (a : Arena inner.Node) (rows : List Handed) (h : Handed) → Redraws asked a a rows h (seen_from a None)
+pub none_redrawn : (asked : Bool) (a : Arena inner.Node) (rows : List ScrollSums) (h : ScrollSums) → Redraws asked a a rows h (seen_from a None)
 none_redrawn asked a rows h = record {
   links = λ j. sym (ap (λ f. cond (has same_key j f) (option_map (with_item (redrawn_if asked (hand_at rows j) (handed_to j h f))) (linked a j)) (linked a j)) (nothing_seen a));
   same_slots = refl;
@@ -156,11 +156,11 @@ none_redrawn asked a rows h = record {
   first = refl;
 }
 
-pub none_handed : (a : Arena inner.Node) (rows : List Handed) (h : Handed) → HandsDown a rows rows h (seen_from a None)
+pub none_handed : (a : Arena inner.Node) (rows : List ScrollSums) (h : ScrollSums) → HandsDown a rows rows h (seen_from a None)
 none_handed a rows h j u = sym (ap (λ f. cond (has same_key j f) (handed_to j h f) (hand_at rows j)) (nothing_seen a))
 
 -- Boxes that have what is handed to them stay.
-pub still_redrawn : (a : Arena inner.Node) (rows : List Handed) (h : Handed) (f : BoxForest) → IsHandedDown rows h f → Redraws false a a rows h f
+pub still_redrawn : (a : Arena inner.Node) (rows : List ScrollSums) (h : ScrollSums) (f : BoxForest) → IsHandedDown rows h f → Redraws false a a rows h f
 still_redrawn a rows h f q = record {
   links = λ j. sym (by j (has same_key j f) (q j) (linked a j));
   same_slots = refl;
@@ -176,26 +176,26 @@ still_redrawn a rows h f q = record {
       ∙ ap (λ d. option_map (with_item (λ _. d)) (Some n)) (far_back (offset_in (hand_at rows j) n.item.style.position) n.item)
   by j false u o = refl
 
-pub still_handed : (a : Arena inner.Node) (rows : List Handed) (h : Handed) (f : BoxForest) → IsHandedDown rows h f → HandsDown a rows rows h f
+pub still_handed : (a : Arena inner.Node) (rows : List ScrollSums) (h : ScrollSums) (f : BoxForest) → IsHandedDown rows h f → HandsDown a rows rows h f
 still_handed a rows h f q j u = by (has same_key j f) (q j) where
   by : (b : Bool) → (b ≡ true → hand_at rows j ≡ handed_to j h f) → hand_at rows j ≡ cond b (handed_to j h f) (hand_at rows j)
   by true v = v refl
   by false v = refl
 
 -- What is known before a box is drawn anew.
-pub record Before (a : Arena inner.Node) (rows : List Handed) (h : Handed) (k : BoxKey) : Type 0 where
+pub record Before (a : Arena inner.Node) (rows : List ScrollSums) (h : ScrollSums) (k : BoxKey) : Type 0 where
   pub here : k.slot < length rows
   pub few : IsWithin 256 h
   pub scroll : ScrollFitsAt (linked a k)
   pub can : RedrawsAt (hand_at rows k) h (linked a k)
 
 -- and once it is, before those below it are.
-pub record BelowRedraw (a0 a1 : Arena inner.Node) (rows : List Handed) (h : Handed) (first x : Option BoxKey) : Type 0 where
+pub record BelowRedraw (a0 a1 : Arena inner.Node) (rows : List ScrollSums) (h : ScrollSums) (first x : Option BoxKey) : Type 0 where
   pub read : IsRead a1 x
   pub ready : Ready rows h (seen_from a1 x)
   pub smaller : size (seen_from a1 x) < size (seen_from a0 first)
 
-module _ (asked : Bool) (a0 a : Arena inner.Node) (rows now : List Handed) (h : Handed) (first : Option BoxKey) (k : BoxKey) (w : Redrawing asked a0 rows h first a now (Some k)) where
+module _ (asked : Bool) (a0 a : Arena inner.Node) (rows now : List ScrollSums) (h : ScrollSums) (first : Option BoxKey) (k : BoxKey) (w : Redrawing asked a0 rows h first a now (Some k)) where
   pub i : Here a k
   i = here a k w.read
 
@@ -266,7 +266,7 @@ module _ (asked : Bool) (a0 a : Arena inner.Node) (rows now : List Handed) (h : 
         can = subst (λ o. RedrawsAt o h (linked a k)) (sym same_here) (subst (RedrawsAt (hand_at rows k) h) (sym i.found) r.fits.0);
       }
 
-  module _ (put : List Handed) (p : PutsHand now put k h) (l1 : length put ≡ length now) (a1 : Arena inner.Node)
+  module _ (put : List ScrollSums) (p : PutsHand now put k h) (l1 : length put ≡ length now) (a1 : Arena inner.Node)
       (r0 : Relinks a a1 (edit same_key k (with_item (redrawn_if asked (hand_at now k) h)) (linked a))) (x z : Option BoxKey) (e : (x, z) ≡ child_and_sibling (linked a k)) where
     r1 : Relinks a a1 (edit same_key k (with_item (redrawn_if asked (hand_at rows k) h)) (linked a))
     r1 = subst (λ o. Relinks a a1 (edit same_key k (with_item (redrawn_if asked o h)) (linked a))) same_here r0
@@ -345,11 +345,11 @@ module _ (asked : Bool) (a0 a : Arena inner.Node) (rows now : List Handed) (h : 
         ≡ handed_to j h (tree k i.item i.below i.rest)
     near_first j u = w.later j (ap (has same_key j) i.seen ∙ u) ∙ ap (handed_to j h) i.seen
 
-    choose : {A : Type 0} (b : Bool) (f : Handed → A) (y : A) (u v : Handed) → (b ≡ true → u ≡ v) → cond b (f v) y ≡ cond b (f u) y
+    choose : {A : Type 0} (b : Bool) (f : ScrollSums → A) (y : A) (u v : ScrollSums) → (b ≡ true → u ≡ v) → cond b (f v) y ≡ cond b (f u) y
     choose true f y u v q = ap f (sym (q refl))
     choose false f y u v q = refl
 
-    pub redrawing_next : (a2 : Arena inner.Node) (last : List Handed) → Redraws asked a1 a2 put (passed_at h (linked a k)) (seen_from a1 x)
+    pub redrawing_next : (a2 : Arena inner.Node) (last : List ScrollSums) → Redraws asked a1 a2 put (passed_at h (linked a k)) (seen_from a1 x)
         → HandsDown a1 put last (passed_at h (linked a k)) (seen_from a1 x) → length last ≡ length put →
         (w2 : Redrawing asked a0 rows h first a2 last z) × (size (seen_from a2 z) < size (seen_from a (Some k)))
     redrawing_next a2 last r2 g2 l2 =

@@ -8,7 +8,7 @@ use Rattle.rd_keys.specs.Keys.{same_key}
 use Rattle.rd_keys.specs.Arena.{Arena}
 use Rattle.rd_keys.proofs.Keys.{same_key-sound, same_key-refl}
 use Rattle.rd_tree.specs.declared.node.Node as inner
-use Rattle.rd_tree.specs.declared.handed.Handed.{Handed}
+use Rattle.rd_tree.specs.declared.handed.ScrollSums.{ScrollSums}
 use Rattle.rd_tree.specs.declared.scroll.Scroll.{Scroll}
 use Rattle.rd_tree.specs.Forest.{has, children, item_of, map_where, at_box, IsApart}
 use Rattle.rd_tree.specs.Document.{Document, BoxKey, Item, BoxForest}
@@ -32,7 +32,7 @@ alone true = refl
 alone false = refl
 
 -- In one walk it comes to what it does in two.
-module _ (t : Document) (apart : IsApart same_key t.boxes) (rows : List Handed) (h : Handed) (k : BoxKey) (v : Scroll) (asked : Bool)
+module _ (t : Document) (apart : IsApart same_key t.boxes) (rows : List ScrollSums) (h : ScrollSums) (k : BoxKey) (v : Scroll) (asked : Bool)
     (o : asked ≡ option_map_or (λ d. clips d.style (same_key k t.root)) (item_of same_key k t.boxes) false) where
   abbrev low : BoxForest
   low = children same_key k t.boxes
@@ -92,7 +92,7 @@ module _ (t : Document) (apart : IsApart same_key t.boxes) (rows : List Handed) 
       (anew (with_scroll v) asked rows k h t.boxes) t.boxes (λ j d u. one j d)))
 
 -- The same of the boxes for which links stand.
-module _ {Y S : Type 0} (a : Arena inner.Node) (root k : BoxKey) (ids : HashMap (String Y) BoxKey S) (s : IsConsistent a root ids) (rows : List Handed) (h : Handed) (v : Scroll) (asked : Bool)
+module _ {Y S : Type 0} (a : Arena inner.Node) (root k : BoxKey) (ids : HashMap (String Y) BoxKey S) (s : IsConsistent a root ids) (rows : List ScrollSums) (h : ScrollSums) (v : Scroll) (asked : Bool)
     (t : Document) (e : t.boxes ≡ seen a root) (is_root : Bool) (n : is_root ≡ same_key k t.root) (o : asked ≡ option_map_or (λ d. clips d.style is_root) (item_under (linked a k)) false) where
   pub known : asked ≡ option_map_or (λ d. clips d.style (same_key k t.root)) (item_of same_key k t.boxes) false
   known =

@@ -32,7 +32,7 @@ ghost use Rattle.std.specs.Option.{option_map_or};
 mod contexts;
 
 use crate::canvas::CanvasSize;
-use crate::handed::Handed;
+use crate::handed::ScrollSums;
 use crate::held::Nodes;
 use crate::id::Id;
 use crate::limits::MAX_BOXES;
@@ -265,15 +265,15 @@ impl<B: Ledger> DrawnTree<B> {
         self.nodes.touched(key)
     }
 
-    /// Is no box under a key of the range touched? One comparison tells it of each block of 64 slots. It is said only of a range
-    /// of one generation that meets few blocks, where these held untouched boxes of that generation alone when the marks were
+    /// Is no box under a key of the range touched? One comparison tells it of each page of 64 slots. It is said only of a range
+    /// of one generation that meets few pages, where these held untouched boxes of that generation alone when the marks were
     /// last cleared, and no edit has written to them since. Where it is not said, nothing is known.
     #[inline(always)]
-    pub(crate) fn are_quiet(&self, keys: KeyRange) -> bool
+    pub(crate) fn none_touched(&self, keys: KeyRange) -> bool
         ensures { IsTrue result → (k : Box) → IsAmong keys k → is_touched k self.now.boxes
             ≡ false }
     {
-        self.nodes.are_quiet(keys)
+        self.nodes.none_touched(keys)
     }
 
     /// The depth of a box. The root is at depth 1.
@@ -341,7 +341,7 @@ impl<B: Ledger> DrawnTree<B> {
     }
 
     /// Do a box and all below it stay within the limits once they are moved by canvas pixels, by where they are laid out?
-    pub(crate) fn shift_fits(&self, rows: &[Handed], key: BoxKey, dx: i32, dy: i32) -> bool
+    pub(crate) fn shift_fits(&self, rows: &[ScrollSums], key: BoxKey, dx: i32, dy: i32) -> bool
         requires live { contains self.now key ≡ true }
         requires has_rows { HasHands rows.now self.now.boxes }
         requires fits { AllFit (laid_by rows.now self.now.boxes) }
@@ -353,7 +353,7 @@ impl<B: Ledger> DrawnTree<B> {
     }
 
     /// How far a box is scrolled to which this is handed.
-    pub(crate) fn own_offset(&self, key: BoxKey, handed: &Handed) -> Scroll
+    pub(crate) fn own_offset(&self, key: BoxKey, handed: &ScrollSums) -> Scroll
         ensures { result ≡ option_map_or (λ d. offset_in handed.now d.style.position) (item_of same_key key self.now.boxes) unscrolled }
     {
         match self.nodes.get(key) {
@@ -363,7 +363,7 @@ impl<B: Ledger> DrawnTree<B> {
     }
 
     /// What is handed to the children of a box to which this is handed.
-    pub(crate) fn pass(&self, key: BoxKey, handed: &Handed) -> Handed
+    pub(crate) fn pass(&self, key: BoxKey, handed: &ScrollSums) -> ScrollSums
         requires few { IsWithin 256 handed.now }
         requires scrolls { ScrollFits (item_of same_key key self.now.boxes) }
         ensures { result ≡ passed_from (same_key key self.now.root) handed.now (item_of same_key key self.now.boxes) }
@@ -375,7 +375,12 @@ impl<B: Ledger> DrawnTree<B> {
     }
 
     /// What is handed to the children of a box to which this is handed, once it is scrolled so far.
-    pub(crate) fn pass_scrolled(&self, key: BoxKey, handed: &Handed, scroll: Scroll) -> Handed
+    pub(crate) fn pass_scrolled(
+        &self,
+        key: BoxKey,
+        handed: &ScrollSums,
+        scroll: Scroll,
+    ) -> ScrollSums
         requires few { IsWithin 256 handed.now }
         requires scroll { FitsScroll scroll }
         ensures { result ≡ passed_from (same_key key self.now.root) handed.now (option_map (with_scroll scroll) (item_of same_key key self.now.boxes)) }
@@ -390,11 +395,11 @@ impl<B: Ledger> DrawnTree<B> {
     /// to them, and this is handed to the children of the box now. So the table has what follows from it then.
     pub(crate) fn redraw(
         &mut self,
-        rows: &mut Vec<Handed>,
+        rows: &mut Vec<ScrollSums>,
         key: BoxKey,
         old: Scroll,
         new: Scroll,
-        inside: Handed,
+        inside: ScrollSums,
     )
         requires live { contains self.old key ≡ true }
         requires has_rows { HasHands rows.old.items self.old.boxes }
@@ -438,7 +443,7 @@ impl<B: Ledger> DrawnTree<B> {
     /// Looks at some siblings, from one on, up to the first that is touched or has a touched box below it. What the look at
     /// that one gives; None where there is none. Each look is counted once.
     #[inline(always)]
-    pub(crate) fn look_for_marked(
+    pub(crate) fn next_touched_sibling(
         &self,
         first: Option<BoxKey>,
         steps: &mut Steps<B>,
@@ -470,7 +475,7 @@ impl<B: Ledger> DrawnTree<B> {
     /// Looks at some siblings, from a box that is there, if any, up to the first whose hull reaches into a rectangle. What the look
     /// at that one gives; None where there is none. Each look is counted once.
     #[inline(always)]
-    pub(crate) fn look_on_for_hull(
+    pub(crate) fn next_sibling_meeting(
         &self,
         first: Option<BoxKey>,
         rect: &Rect,
@@ -643,10 +648,10 @@ impl<B: Ledger> DrawnTree<B> {
     /// then. Where it does not clip, the table has that already, and no box below it is gone to but for the hulls.
     pub(crate) fn scroll_to(
         &mut self,
-        rows: &mut Vec<Handed>,
+        rows: &mut Vec<ScrollSums>,
         key: BoxKey,
         scroll: Scroll,
-        inside: Handed,
+        inside: ScrollSums,
     )
         requires live { contains self.old key ≡ true }
         requires has_rows { HasHands rows.old.items self.old.boxes }

@@ -1,5 +1,5 @@
 //! What walks read of all boxes. Beside each row stands one word that tells at once whether a key's box is live and untouched,
-//! and beside each block of rows one that tells so of all of them.
+//! and beside each page of rows one that tells so of all of them.
 ghost use Rattle.std.specs.Prelude.{◌≡◌, ◌<◌, ◌⊎◌, [], false, true, length, slice_set, IsTrue, OnOk};
 ghost use Rattle.rd_keys.specs.Keys.{BoxKey as Box};
 ghost use Rattle.rd_keys.specs.Ranges.{IsAmong};
@@ -17,7 +17,7 @@ pub(crate) struct Glances {
     rows: Vec<Glance>,
     /// Of each row the generation, where its box is untouched, and otherwise `NOT_QUIET`.
     words: Vec<u64>,
-    /// Of each block of rows the word that all of them have, or `NOT_QUIET`.
+    /// Of each page of rows the word that all of them have, or `NOT_QUIET`.
     shared: Vec<u64>,
 }
 
@@ -31,7 +31,7 @@ impl Model for Glances {
       rows = g.rows.items;
       room = vec_capacity g.rows;
       word_room = vec_capacity g.words;
-      block_room = vec_capacity g.shared;
+      page_room = vec_capacity g.shared;
     } };
 
     ghost invariant = { λ g. AreWords g.rows.items g.words.items g.shared.items };
@@ -87,9 +87,9 @@ impl Glances {
     }
 
     /// Is each key of a range that of its row, and its box untouched? It is said only of a range of one generation, where all
-    /// rows of the few blocks that it meets are known to share that; where it is not said, nothing is known.
+    /// rows of the few pages that it meets are known to share that; where it is not said, nothing is known.
     #[inline(always)]
-    pub(crate) fn are_quiet(&self, keys: KeyRange) -> bool
+    pub(crate) fn none_touched(&self, keys: KeyRange) -> bool
         ensures { IsTrue result → (k : Box) → IsAmong keys k → told_touched self.now.rows k
             ≡ false }
     {
@@ -125,7 +125,7 @@ impl Glances {
         self.rows[slot as usize] = glance;
     }
 
-    /// The box of a slot is touched no more, which it was. So nothing was known of its block, and nothing is.
+    /// The box of a slot is touched no more, which it was. So nothing was known of its page, and nothing is.
     #[inline(always)]
     pub(crate) fn settle(&mut self, slot: u32)
         requires here { slot < length self.old.rows }
@@ -151,7 +151,7 @@ impl Glances {
         }
     }
 
-    /// Works out anew which blocks of rows share a word, where that is not known.
+    /// Works out anew which pages of rows share a word, where that is not known.
     pub(crate) fn renew(&mut self)
         ensures { self.new.rows ≡ self.old.rows }
     {

@@ -10,7 +10,7 @@ use rd_style::{Position, Style, clips, is_positioned};
 
 /// How far boxes below those entered so far are scrolled, by what their containing block is. In canvas pixels.
 #[derive(Clone, Copy)]
-pub(crate) struct Handed {
+pub(crate) struct ScrollSums {
     /// For a box in the flow.
     pub(crate) flow: Scroll,
     /// For an absolute box. A fixed one is not scrolled.
@@ -63,19 +63,19 @@ fn is_as_far(a: Scroll, b: Scroll) -> bool
     (a.x == b.x) & (a.y == b.y)
 }
 
-impl Handed {
+impl ScrollSums {
     /// Is the same handed down?
-    fn is(&self, other: &Handed) -> bool
+    fn is(&self, other: &ScrollSums) -> bool
         ensures { IsTrue result → self.now ≡ other.now }
     {
         is_as_far(self.flow, other.flow) & is_as_far(self.absolute, other.absolute)
     }
 
     /// Before any box is entered.
-    pub(crate) fn none() -> Handed
+    pub(crate) fn none() -> ScrollSums
         ensures { result ≡ handed_of [] }
     {
-        Handed {
+        ScrollSums {
             flow: unscrolled(),
             absolute: unscrolled(),
         }
@@ -95,7 +95,7 @@ impl Handed {
     }
 
     /// What is handed to the children of a box with this style and scroll offset. At most 256 boxes are entered before it.
-    pub(crate) fn enter(&self, style: &Style, scroll: Scroll, is_root: bool) -> Handed
+    pub(crate) fn enter(&self, style: &Style, scroll: Scroll, is_root: bool) -> ScrollSums
         requires few { IsWithin 256 self.now }
         requires scroll { FitsScroll scroll }
         ensures entered { result ≡ entered is_root style.now scroll self.now }
@@ -106,7 +106,7 @@ impl Handed {
             self.offset(style.position),
             own_scroll(style, scroll, is_root),
         );
-        Handed {
+        ScrollSums {
             flow: inside,
             absolute: if is_positioned(style) {
                 inside
@@ -118,7 +118,7 @@ impl Handed {
 }
 
 /// Is a box drawn where it was, and is the same handed down from it?
-pub(crate) fn stays(old: Scroll, new: Scroll, before: &Handed, inside: &Handed) -> bool
+pub(crate) fn stays(old: Scroll, new: Scroll, before: &ScrollSums, inside: &ScrollSums) -> bool
     ensures place { IsTrue result → old ≡ new }
     ensures below { IsTrue result → before.now ≡ inside.now }
 {

@@ -2,12 +2,12 @@
 ghost use Rattle.std.specs.Prelude.{◌≡◌, ◌<◌, ◌≤◌, ◌⊎◌, length, vec_len, vec_capacity};
 ghost use Rattle.rd_tree.specs.Internal.Hands.{hand_at, PutsHand};
 
-use crate::handed::Handed;
+use crate::handed::ScrollSums;
 use rd_keys::BoxKey;
 
 /// What is handed to a box.
 #[inline(always)]
-pub(crate) fn hand_of(rows: &[Handed], key: BoxKey) -> Handed
+pub(crate) fn hand_of(rows: &[ScrollSums], key: BoxKey) -> ScrollSums
     requires { key.slot < length rows.now }
     ensures { result ≡ hand_at rows.now key }
 {
@@ -16,7 +16,7 @@ pub(crate) fn hand_of(rows: &[Handed], key: BoxKey) -> Handed
 
 /// Writes the row of a slot that has one.
 #[inline(always)]
-pub(crate) fn write(rows: &mut Vec<Handed>, key: BoxKey, handed: Handed)
+pub(crate) fn write(rows: &mut Vec<ScrollSums>, key: BoxKey, handed: ScrollSums)
     requires { key.slot < length rows.old.items }
     ensures rows { PutsHand rows.old.items rows.new.items key handed }
     ensures same_length { length rows.new.items ≡ length rows.old.items }
@@ -25,7 +25,7 @@ pub(crate) fn write(rows: &mut Vec<Handed>, key: BoxKey, handed: Handed)
 }
 
 /// Writes the row of a slot that has one, or of the next one.
-pub(crate) fn put_hand(rows: &mut Vec<Handed>, key: BoxKey, handed: Handed)
+pub(crate) fn put_hand(rows: &mut Vec<ScrollSums>, key: BoxKey, handed: ScrollSums)
     requires { (key.slot < length rows.old.items) ⊎ ((key.slot ≡ length rows.old.items)
         × (vec_len rows.old < vec_capacity rows.old)) }
     ensures rows { PutsHand rows.old.items rows.new.items key handed }

@@ -19,7 +19,7 @@ ghost use Rattle.rd_tree.specs.Touching.{settled};
 
 use crate::glance::{Glance, glance_at, none, renamed};
 use crate::glances::Glances;
-use crate::handed::Handed;
+use crate::handed::ScrollSums;
 use crate::links::walk::{Work, do_work};
 use crate::node::Node;
 use crate::reach::{Reach, rect_reach, style_reach};
@@ -131,18 +131,18 @@ impl Nodes {
         self.glances.tells_touched(key)
     }
 
-    /// Is no box under a key of a range touched? It is said only of a range of one generation, where the few blocks of 64 slots
+    /// Is no box under a key of a range touched? It is said only of a range of one generation, where the few pages of 64 slots
     /// that it meets are known to hold untouched boxes of that generation alone; where it is not said, nothing is known.
     #[inline(always)]
-    pub(crate) fn are_quiet(&self, keys: KeyRange) -> bool
+    pub(crate) fn none_touched(&self, keys: KeyRange) -> bool
         ensures { IsTrue result → (k : Box) → IsAmong keys k
             → option_map_or (λ n. n.item.touched) (value self.now k.slot k.generation) true
             ≡ false }
     {
-        self.glances.are_quiet(keys)
+        self.glances.none_touched(keys)
     }
 
-    /// Works out anew of which blocks of slots `are_quiet` can say so. No node changes.
+    /// Works out anew of which pages of slots `none_touched` can say so. No node changes.
     pub(crate) fn note_quiet(&mut self)
         ensures { self.new ≡ self.old }
     {
@@ -317,8 +317,8 @@ impl Nodes {
     pub(crate) fn redraw_one(
         &mut self,
         key: BoxKey,
-        old: &Handed,
-        new: &Handed,
+        old: &ScrollSums,
+        new: &ScrollSums,
         asked: bool,
     ) -> Onward
         requires few { IsWithin 256 new.now }

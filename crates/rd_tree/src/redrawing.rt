@@ -9,7 +9,7 @@ ghost use Rattle.rd_tree.specs.Internal.Links.{edit, with_item};
 ghost use Rattle.rd_tree.specs.Internal.Linked.{IsRead, Relinks, linked, seen_from};
 ghost use Rattle.rd_tree.specs.Internal.Redraws.{AllRedraw, CanRedraw, DrawsAt, Redraws, drawn_anew, drawn_far, rect_far, redrawn_if};
 
-use crate::handed::Handed;
+use crate::handed::ScrollSums;
 use crate::handing::{hand_of, write};
 use crate::held::Nodes;
 use crate::node::Item;
@@ -51,7 +51,7 @@ pub(crate) fn anew(r: &Rect, old: Scroll, new: Scroll) -> Rect
 
 /// Draws a box anew to which the one was handed and the other is now, and touches it where that is asked for.
 #[inline(always)]
-pub(crate) fn draw_item(item: &mut Item, old: &Handed, new: &Handed, asked: bool)
+pub(crate) fn draw_item(item: &mut Item, old: &ScrollSums, new: &ScrollSums, asked: bool)
     requires few { IsWithin 256 new.now }
     requires can { CanRedraw old.now new.now item.old }
     ensures { item.new ≡ redrawn_if asked old.now new.now item.old }
@@ -66,7 +66,7 @@ pub(crate) fn draw_item(item: &mut Item, old: &Handed, new: &Handed, asked: bool
 pub(crate) struct Onward {
     pub(crate) below: Option<BoxKey>,
     pub(crate) next: Option<BoxKey>,
-    pub(crate) inside: Handed,
+    pub(crate) inside: ScrollSums,
 }
 
 /// Where the box of a key is drawn that was scrolled so far and is so far now.
@@ -98,9 +98,9 @@ pub(crate) fn draw_at(nodes: &mut Nodes, key: BoxKey, old: Scroll, new: Scroll)
 #[inline(always)]
 fn redraw_below(
     nodes: &mut Nodes,
-    rows: &mut Vec<Handed>,
+    rows: &mut Vec<ScrollSums>,
     first: Option<BoxKey>,
-    handed: Handed,
+    handed: ScrollSums,
     asked: bool,
 )
     requires read { IsRead nodes.old first }
@@ -123,9 +123,9 @@ fn redraw_below(
 #[cycle(redrawing)]
 pub(crate) fn redraw(
     nodes: &mut Nodes,
-    rows: &mut Vec<Handed>,
+    rows: &mut Vec<ScrollSums>,
     first: Option<BoxKey>,
-    handed: Handed,
+    handed: ScrollSums,
     asked: bool,
 )
     requires read { IsRead nodes.old first }
@@ -150,9 +150,9 @@ pub(crate) fn redraw(
 /// is gone to.
 pub(crate) fn redraw_where(
     nodes: &mut Nodes,
-    rows: &mut Vec<Handed>,
+    rows: &mut Vec<ScrollSums>,
     first: Option<BoxKey>,
-    handed: Handed,
+    handed: ScrollSums,
     asked: bool,
 )
     requires read { IsRead nodes.old first }

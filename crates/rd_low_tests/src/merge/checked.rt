@@ -31,7 +31,7 @@ impl Touches for TouchedBoxes {
         is_among(&self.keys, key)
     }
 
-    fn are_quiet(&self, _keys: KeyRange) -> bool {
+    fn none_touched(&self, _keys: KeyRange) -> bool {
         false
     }
 }

@@ -233,14 +233,14 @@ fn agrees<A: Ledger>(
     has_all(&list, &model.matrix) && is_forward(&list, &model.matrix)
 }
 
-/// Is each entry in a block of which something is said?
-fn is_in_blocks<A: Ledger>(kept: &Kept<A>) -> bool {
+/// Is each entry in a chunk of which something is said?
+fn is_in_chunks<A: Ledger>(kept: &Kept<A>) -> bool {
     let mut covered: usize = 0;
-    for block in &kept.blocks {
-        if block.is_open {
+    for chunk in &kept.chunks {
+        if chunk.is_open {
             return false;
         }
-        covered = covered.wrapping_add(block.count);
+        covered = covered.wrapping_add(chunk.count);
     }
     covered == kept.entries.len()
 }
@@ -270,7 +270,7 @@ fn next<A: Ledger>(
     let kept = merged.expect(rt, "a merge that can be made");
     change(model, every, &touched.keys, &chain, at);
     assert!(rt; agrees(rt, alloc, every, &kept, model), "merge {at}");
-    assert!(rt; is_in_blocks(&kept), "blocks of merge {at}");
+    assert!(rt; is_in_chunks(&kept), "chunks of merge {at}");
     (kept, next)
 }
 

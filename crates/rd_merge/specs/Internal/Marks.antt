@@ -19,8 +19,8 @@ box_of (key.Leaf k p) = k
 box_of (key.Group k) = k
 
 -- where the 64 slots of a box have their mark, of which there are 512
-abbrev pub run_mark : BoxKey → ℕ
-run_mark k = (k.slot / 64) % 512
+abbrev pub page_mark : BoxKey → ℕ
+page_mark k = (k.slot / 64) % 512
 
 -- where the boxes of names have their marks
 abbrev pub name_marks : (BoxKey → ℕ) → List EntryKey → List ℕ
@@ -36,5 +36,5 @@ abbrev pub AreMarked : Bool → List EntryKey → List Bool → Type 0
 AreMarked wide names marks = AreMarkedBy (box_mark wide) (box_marks wide) names marks
 
 -- marks of 64 slots each
-abbrev pub AreRunsMarked : List EntryKey → List Bool → Type 0
-AreRunsMarked names marks = AreMarkedBy run_mark 512 names marks
+abbrev pub ArePagesMarked : List EntryKey → List Bool → Type 0
+ArePagesMarked names marks = AreMarkedBy page_mark 512 names marks

@@ -2,8 +2,8 @@
 use Rattle.std.specs.Prelude.{◌≡◌, ℕ, ◌-◌, ◌≤◌, ◌++◌, List, length, take, drop, slice_set, Option, Some, None}
 use Rattle.rd_item.specs.Items.{Made}
 use Rattle.rd_graph.specs.Internal.Taking.{KeepsOthers}
-use Rattle.rd_list.specs.Blocks.{Covers, CoversAll}
-use Rattle.rd_list.specs.declared.blocks.Block.{Block}
+use Rattle.rd_list.specs.Chunks.{Covers, CoversAll}
+use Rattle.rd_list.specs.declared.chunks.Chunk.{Chunk}
 use Rattle.rd_list.specs.declared.kept.Entry.{Entry}
 use Rattle.rd_list.specs.Wrappers.{Wrapper}
 use Rattle.rd_list.specs.Entries.{Entries, nil, leaf, group}
@@ -36,10 +36,10 @@ PutsAt None x old new = new ≡ old
 PutsAt (Some i) x old new = new ≡ slice_set old i x
 
 module _ {A : Type 0} where
-  -- blocks of entries, and then parts of those of the entries from one place up to another, as many as there is room for
-  abbrev pub PartsTo : List Block → List Block → List (Entry A) → ℕ → ℕ → Type 0
+  -- chunks of entries, and then parts of those of the entries from one place up to another, as many as there is room for
+  abbrev pub PartsTo : List Chunk → List Chunk → List (Entry A) → ℕ → ℕ → Type 0
   PartsTo old new es from end = (before made : List (Entry A)) → CoversAll old before → end ≤ length (es ++ made) → Covers new (before ++ take (end - from) (drop from (es ++ made)))
 
   -- all of them
-  abbrev pub PartsAll : List Block → List Block → List (Entry A) → ℕ → ℕ → Type 0
+  abbrev pub PartsAll : List Chunk → List Chunk → List (Entry A) → ℕ → ℕ → Type 0
   PartsAll old new es from end = (before made : List (Entry A)) → CoversAll old before → end ≤ length (es ++ made) → CoversAll new (before ++ take (end - from) (drop from (es ++ made)))

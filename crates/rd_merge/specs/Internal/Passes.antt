@@ -5,7 +5,7 @@ use Rattle.rd_graph.specs.Orders.{Once}
 use Rattle.rd_list.specs.KeptView.{kept_entries}
 use Rattle.rd_merge.specs.Looking.{kept_names}
 use Rattle.rd_merge.specs.Internal.Looks.{IsLookedTo}
-use Rattle.rd_merge.specs.Internal.Marks.{AreMarked, AreRunsMarked}
+use Rattle.rd_merge.specs.Internal.Marks.{AreMarked, ArePagesMarked}
 use Rattle.rd_merge.specs.Internal.Sought.{AreChained}
 use Rattle.rd_merge.specs.declared.looking.Notes.{Notes}
 use Rattle.rd_merge.specs.declared.passing.Pass.{Pass}
@@ -15,7 +15,7 @@ pub record IsPass {A T : Type 0} (p : Pass A T) : Type 0 where
   pub names_once : Once p.names.now
   pub entries_once : Once (kept_names (kept_entries p.entries.now))
   pub marked : AreMarked p.marks.now.is_wide p.names.now p.marks.now.marks.items
-  pub runs_marked : AreRunsMarked p.names.now p.marks.now.runs.items
+  pub pages_marked : ArePagesMarked p.names.now p.marks.now.pages.items
 
 -- What is to be noted of the first so many entries is.
 pub record IsNoted {A T : Type 0} (touched : BoxKey → Bool) (p : Pass A T) (n : ℕ) (notes : Notes) : Type 0 where

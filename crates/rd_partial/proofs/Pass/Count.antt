@@ -16,8 +16,8 @@ use Rattle.rd_tree.specs.Contexts.{blends_in}
 use Rattle.rd_stack.specs.Paths.{BoxData, is_class, is_plain}
 use Rattle.rd_stack.specs.Fresh.{box_data}
 use Rattle.rd_stack.proofs.Counting.Takes.{unreal}
-use Rattle.rd_partial.specs.Internal.Bands.{Bands, Stacked, ◌⊕◌, entries_if, list_if, stacked, insert_layer, by_level}
-use Rattle.rd_partial.specs.Internal.Pass.{order_of, pass, box_bands, is_one, as_group, is_of, has_negative_level, has_positive_level, has_zero_level, level_in}
+use Rattle.rd_partial.specs.Internal.ContextLists.{ContextLists, LayerOrder, ◌⊕◌, entries_if, list_if, stacked, insert_layer, by_level}
+use Rattle.rd_partial.specs.Internal.Pass.{order_of, pass, box_lists, is_one, as_group, is_of, has_negative_level, has_positive_level, has_zero_level, level_in}
 use Rattle.rd_partial.specs.Internal.Counting.{leaves_in, given_of, given}
 use Rattle.rd_partial.proofs.Pass.Levels.{none_there}
 
@@ -45,17 +45,17 @@ module _ {L : Type 0} where
       by true = length-append (flat xs) [] ∙ omega arith
       by false = refl
 
-  abbrev stack_leaves : List (Stacked L) → ℕ
+  abbrev stack_leaves : List (LayerOrder L) → ℕ
   stack_leaves [] = 0
   stack_leaves (y ∷ ys) = leaves_in y.order + stack_leaves ys
 
-  abbrev pub local_leaves : Bands L → ℕ
+  abbrev pub local_leaves : ContextLists L → ℕ
   local_leaves b = leaves_in b.backgrounds + leaves_in b.floats + leaves_in b.line + leaves_in b.contents + leaves_in b.outlines
 
-  abbrev pub layer_leaves : Bands L → ℕ
+  abbrev pub layer_leaves : ContextLists L → ℕ
   layer_leaves b = stack_leaves b.negatives + leaves_in b.zeros + stack_leaves b.positives
 
-  stack-put : (x : Stacked L) (ys : List (Stacked L)) → stack_leaves (insert_layer x ys) ≡ leaves_in x.order + stack_leaves ys
+  stack-put : (x : LayerOrder L) (ys : List (LayerOrder L)) → stack_leaves (insert_layer x ys) ≡ leaves_in x.order + stack_leaves ys
   stack-put x [] = refl
   stack-put x (y ∷ ys) =
       elim (int_lt y.level x.level) as (λ t. stack_leaves (cond t (y ∷ insert_layer x ys) (x ∷ y ∷ ys)) ≡ leaves_in x.order + (leaves_in y.order + stack_leaves ys)) [
@@ -63,22 +63,22 @@ module _ {L : Type 0} where
         | false ↦ refl
       ]
 
-  stack-by_level : (ys : List (Stacked L)) → stack_leaves (by_level ys) ≡ stack_leaves ys
+  stack-by_level : (ys : List (LayerOrder L)) → stack_leaves (by_level ys) ≡ stack_leaves ys
   stack-by_level [] = refl
   stack-by_level (y ∷ ys) = omega (arith, stack-put y (by_level ys), stack-by_level ys)
 
-  stack-each : (ys : List (Stacked L)) → leaves_in (each (λ y. y.order) ys) ≡ stack_leaves ys
+  stack-each : (ys : List (LayerOrder L)) → leaves_in (each (λ y. y.order) ys) ≡ stack_leaves ys
   stack-each [] = refl
   stack-each (y ∷ ys) = leaves-join y.order (each (λ z. z.order) ys) ∙ omega (arith, stack-each ys)
 
-  levels : (ys : List (Stacked L)) → Counts (each (λ y. y.order) (by_level ys)) (stack_leaves ys)
+  levels : (ys : List (LayerOrder L)) → Counts (each (λ y. y.order) (by_level ys)) (stack_leaves ys)
   levels ys = record { is = stack-each (by_level ys) ∙ stack-by_level ys }
 
-  stack-append : (xs ys : List (Stacked L)) → stack_leaves (xs ++ ys) ≡ stack_leaves xs + stack_leaves ys
+  stack-append : (xs ys : List (LayerOrder L)) → stack_leaves (xs ++ ys) ≡ stack_leaves xs + stack_leaves ys
   stack-append [] ys = omega arith
   stack-append (x ∷ xs) ys = omega (arith, stack-append xs ys)
 
-  stack-some : (t : Bool) (xs : List (Stacked L)) → stack_leaves (list_if t xs) ≡ cond t (stack_leaves xs) 0
+  stack-some : (t : Bool) (xs : List (LayerOrder L)) → stack_leaves (list_if t xs) ≡ cond t (stack_leaves xs) 0
   stack-some true xs = refl
   stack-some false xs = refl
 
@@ -104,7 +104,7 @@ module _ {L : Type 0} where
     root_block : (root : Bool) (b : BoxData) → root ≡ true → blocky b.style root ≡ true
     root_block root b h = rw h refl
 
-    pub count-order : (root : Bool) (s : S) (b : BoxData) (below : Bands L) → leaves_in (order_of enter give root s b below) ≡ given_of enter give s b + local_leaves below + cond (real b.style root) (layer_leaves below) 0
+    pub count-order : (root : Bool) (s : S) (b : BoxData) (below : ContextLists L) → leaves_in (order_of enter give root s b below) ≡ given_of enter give s b + local_leaves below + cond (real b.style root) (layer_leaves below) 0
     count-order root s b below =
         let part = λ (p : Part). self (give s b p) in
         let all =
@@ -152,8 +152,8 @@ module _ {L : Type 0} where
     by_class Inline true u o bk bd ct ol b f l w t xu xz xo order h s e = let k : true ≡ false = h refl in cc
     by_class Inline false u o bk bd ct ol b f l w t xu xz xo order h s e = omega (arith, e)
 
-    count-box : (s : S) (b : BoxData) (grouped : Bool) (order : Entries Wrapper L) (below : Bands L) → leaves_in order ≡ given_of enter give s b + local_leaves below + cond (real b.style false) (layer_leaves below) 0
-        → local_leaves (box_bands enter give s b grouped order below) + layer_leaves (box_bands enter give s b grouped order below) ≡ given_of enter give s b + (local_leaves below + layer_leaves below)
+    count-box : (s : S) (b : BoxData) (grouped : Bool) (order : Entries Wrapper L) (below : ContextLists L) → leaves_in order ≡ given_of enter give s b + local_leaves below + cond (real b.style false) (layer_leaves below) 0
+        → local_leaves (box_lists enter give s b grouped order below) + layer_leaves (box_lists enter give s b grouped order below) ≡ given_of enter give s b + (local_leaves below + layer_leaves below)
     count-box s b grouped order below e =
         let part = λ (p : Part). self (give s b p) in
         let back_border = over (part Back) (part Border) in
@@ -166,12 +166,12 @@ module _ {L : Type 0} where
         rw (h1.is, h2.is, h3.is, h4.is, h5.is, h6.is, layers (is_of Layer b && has_negative_level b) below.negatives, layers (is_of Layer b && has_positive_level b) below.positives)
         (by_class (class b.style false) (real b.style false) (has_negative_level b) (has_positive_level b) _ _ _ _ _ _ _ _ _ _ _ _ _ (unreal b.style) (signs (level_in b)) e)
       where
-        layers : (t : Bool) (ys : List (Stacked L)) → stack_leaves (list_if t (stacked (level_in b) (as_group grouped b order)) ++ list_if (not (real b.style false)) ys) ≡ cond t (leaves_in order) 0 + cond (not (real b.style false)) (stack_leaves ys) 0
+        layers : (t : Bool) (ys : List (LayerOrder L)) → stack_leaves (list_if t (stacked (level_in b) (as_group grouped b order)) ++ list_if (not (real b.style false)) ys) ≡ cond t (leaves_in order) 0 + cond (not (real b.style false)) (stack_leaves ys) 0
         layers t ys =
             stack-append (list_if t (stacked (level_in b) (as_group grouped b order))) (list_if (not (real b.style false)) ys)
             ∙ rw (stack-some t (stacked (level_in b) (as_group grouped b order)), stack-some (not (real b.style false)) ys, stack-one (level_in b) (as_group grouped b order), (in_group grouped b (self order)).is) refl
 
-    count-add : (x y : Bands L) → local_leaves (x ⊕ y) + layer_leaves (x ⊕ y) ≡ (local_leaves x + layer_leaves x) + (local_leaves y + layer_leaves y)
+    count-add : (x y : ContextLists L) → local_leaves (x ⊕ y) + layer_leaves (x ⊕ y) ≡ (local_leaves x + layer_leaves x) + (local_leaves y + layer_leaves y)
     count-add x y =
         rw (leaves-join x.backgrounds y.backgrounds, leaves-join x.floats y.floats, leaves-join x.line y.line, leaves-join x.contents y.contents, leaves-join x.outlines y.outlines, leaves-join x.zeros y.zeros, stack-append x.negatives y.negatives, stack-append x.positives y.positives) (omega arith)
 
@@ -182,7 +182,7 @@ module _ {L : Type 0} where
         let below = pass enter give (enter s b) ch in
         let order = order_of enter give false s b below in
         let one = is_one false (blends_in ch) b in
-        let h1 = count-add (box_bands enter give s b one order below) (pass enter give s nx) in
+        let h1 = count-add (box_lists enter give s b one order below) (pass enter give s nx) in
         let h2 = count-box s b one order below (count-order false s b below) in
         h1 ∙ together _ _ _ _ _ _ h2 (count-pass (enter s b) ch) (count-pass s nx)
       where

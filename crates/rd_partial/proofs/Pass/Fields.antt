@@ -14,8 +14,8 @@ use Rattle.rd_tree.specs.Document.{BoxForest}
 use Rattle.rd_stack.specs.Paths.{BoxData, has_class, is_class, is_none, is_plain, is_inline, is_no_context, is_inline_level}
 use Rattle.rd_stack.specs.Painting.{Painted, paint, back_border, inline_part, entry_of, is_negative, is_positive, is_zero, level_of}
 use Rattle.rd_stack.specs.Fresh.{box_data}
-use Rattle.rd_partial.specs.Internal.Bands.{Bands, Stacked, no_bands, ◌⊕◌, entries_if, list_if, stacked}
-use Rattle.rd_partial.specs.Internal.Pass.{box_bands}
+use Rattle.rd_partial.specs.Internal.ContextLists.{ContextLists, LayerOrder, no_lists, ◌⊕◌, entries_if, list_if, stacked}
+use Rattle.rd_partial.specs.Internal.Pass.{box_lists}
 use Rattle.rd_partial.proofs.Pass.Joined.{joined, joined-append, joined-one, joined-some}
 use Rattle.rd_partial.proofs.Pass.Gather.{painted_box, gathered}
 
@@ -36,14 +36,14 @@ module _ (canvas : Rectangle) where
   give above b part = paint canvas part (record { above = above; here = b })
 
   -- the pass, with all that each box paints as the ten steps over the boxes below it
-  abbrev pub passed : List BoxData → BoxForest → Bands Leaf
-  passed above empty = no_bands
+  abbrev pub passed : List BoxData → BoxForest → ContextLists Leaf
+  passed above empty = no_lists
   passed above (tree k d ch nx) =
       let b = box_data k d in
       let x = painted_box canvas above b ch in
-      box_bands enter give above b x.grouped x.order (passed (b ∷ above) ch) ⊕ passed above nx
+      box_lists enter give above b x.grouped x.order (passed (b ∷ above) ch) ⊕ passed above nx
 
-  abbrev pub stack_of : Painted → List (Stacked Leaf)
+  abbrev pub stack_of : Painted → List (LayerOrder Leaf)
   stack_of x = stacked (level_of x) (entry_of x)
 
   module _ (q : Painted → Bool) (go : BoxData → Bool) where
@@ -57,7 +57,7 @@ module _ (canvas : Rectangle) where
         (each-append g (list_if (q x) (x ∷ [])) (list_if (go b) (gathered canvas q go (b ∷ above) ch))
         ∙ rw (each-one g (q x) x, each-some g (go b) (gathered canvas q go (b ∷ above) ch)) refl)
 
-    gathered-joined : (g : Painted → List (Stacked Leaf)) (above : List BoxData) (k : _) (d : _) (ch nx : BoxForest)
+    gathered-joined : (g : Painted → List (LayerOrder Leaf)) (above : List BoxData) (k : _) (d : _) (ch nx : BoxForest)
         → joined g (gathered canvas q go above (tree k d ch nx)) ≡ (list_if (q (painted_box canvas above (box_data k d) ch)) (g (painted_box canvas above (box_data k d) ch)) ++ list_if (go (box_data k d)) (joined g (gathered canvas q go (box_data k d ∷ above) ch))) ++ joined g (gathered canvas q go above nx)
     gathered-joined g above k d ch nx =
         let b = box_data k d in

@@ -19,7 +19,7 @@ use Rattle.rd_stack.specs.Painting.{Painted, paint, inline_part, content_and_lin
 use Rattle.rd_stack.specs.Fresh.{box_data, grouping, painted}
 use Rattle.rd_stack.proofs.Counting.Paths.{between-path, is_none-path}
 use Rattle.rd_stack.proofs.Counting.InlineLines.{key_in, AreOff, in_below, in_rest, off_below}
-use Rattle.rd_partial.specs.Internal.Bands.{entries_if}
+use Rattle.rd_partial.specs.Internal.ContextLists.{entries_if}
 use Rattle.rd_partial.specs.Internal.Pass.{is_of}
 use Rattle.rd_partial.proofs.Pass.Gather.{painted_box, gathered, gathered-reached, filter-agree, filter-tree}
 use Rattle.rd_partial.proofs.Pass.Fields.{passed, line_is, gathered-each}

@@ -11,7 +11,7 @@ use Rattle.rd_stack.specs.Paths.{BoxData, BoxPath, boxes_between}
 use Rattle.rd_stack.specs.Painting.{Painted}
 use Rattle.rd_stack.specs.Fresh.{box_data, grouping, painted, painted_at}
 use Rattle.rd_stack.proofs.Counting.Paths.{between-path}
-use Rattle.rd_partial.specs.Internal.Bands.{list_if}
+use Rattle.rd_partial.specs.Internal.ContextLists.{list_if}
 
 module _ (canvas : Rectangle) where
   -- a box with all that it paints

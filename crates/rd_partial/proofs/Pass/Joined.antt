@@ -1,7 +1,7 @@
 -- Lists of lists as one.
 use Rattle.std.proofs.Common.{◌≡◌, refl, ap, ◌∙◌, sym, Bool, true, false, List, [], ◌∷◌, ◌++◌, append_assoc}
 use Rattle.std.proofs.lemmas.List.{append-nil}
-use Rattle.rd_partial.specs.Internal.Bands.{list_if}
+use Rattle.rd_partial.specs.Internal.ContextLists.{list_if}
 
 module _ {A B : Type 0} where
   -- the lists of some things, one after another

@@ -4,7 +4,7 @@ use Rattle.std.proofs.lemmas.Int.{ints}
 use Rattle.std.specs.Prelude.{int_lt}
 use Rattle.rd_list.specs.Entries.{Entries, nil, leaf, group, ◌▷◌, each, is_empty}
 use Rattle.rd_list.specs.Wrappers.{Wrapper}
-use Rattle.rd_partial.specs.Internal.Bands.{Stacked, list_if, stacked, insert_layer, by_level}
+use Rattle.rd_partial.specs.Internal.ContextLists.{LayerOrder, list_if, stacked, insert_layer, by_level}
 use Rattle.rd_stack.proofs.Walk.Sorting.{Far, Up, put, sorted, up-sorted}
 use Rattle.rd_partial.proofs.Pass.Joined.{joined}
 
@@ -20,10 +20,10 @@ none_there (leaf l xs) h = cc
 none_there (group w i xs) h = cc
 
 module _ {A M : Type 0} (lv : A → ℤ) (ord : A → Entries Wrapper M) where
-  abbrev stack_of : A → List (Stacked M)
+  abbrev stack_of : A → List (LayerOrder M)
   stack_of x = stacked (lv x) (ord x)
 
-  abbrev entry : A → Stacked M
+  abbrev entry : A → LayerOrder M
   entry x = record { level = lv x; order = ord x }
 
   higher : (m n : ℤ) (ys : List A) → int_lt m n ≡ false → Far lv m ys → Far lv n ys

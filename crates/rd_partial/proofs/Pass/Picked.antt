@@ -13,9 +13,9 @@ use Rattle.rd_tree.specs.Document.{BoxForest}
 use Rattle.rd_tree.specs.Contexts.{blends_in}
 use Rattle.rd_stack.specs.Paths.{BoxData, is_plain}
 use Rattle.rd_stack.specs.Fresh.{box_data}
-use Rattle.rd_partial.specs.Internal.Bands.{Bands, Stacked, ◌⊕◌, entries_if, list_if, stacked, by_level}
-use Rattle.rd_partial.specs.Internal.Pass.{order_of, pass, whole, box_bands, is_one, as_group, is_of, has_negative_level, has_positive_level, has_zero_level, level_in}
-use Rattle.rd_partial.specs.Internal.Picking.{picked, picked_stacks, picked_bands}
+use Rattle.rd_partial.specs.Internal.ContextLists.{ContextLists, LayerOrder, ◌⊕◌, entries_if, list_if, stacked, by_level}
+use Rattle.rd_partial.specs.Internal.Pass.{order_of, pass, whole, box_lists, is_one, as_group, is_of, has_negative_level, has_positive_level, has_zero_level, level_in}
+use Rattle.rd_partial.specs.Internal.Picking.{picked, picked_stacks, picked_lists}
 use Rattle.rd_partial.proofs.Pass.Joined.{joined}
 use Rattle.rd_partial.proofs.Pass.Levels.{levels_are, none_there}
 
@@ -106,11 +106,11 @@ module _ {L M : Type 0} (pick : L → Option M) where
   under_so : {xs : Entries Wrapper L} {us : Entries Wrapper M} → (t : Bool) → On xs us → On (entries_if t xs) (entries_if t us)
   under_so {xs = xs} t h = record { is = on-so t xs ∙ ap (entries_if t) h.is }
 
-  stacks-append : (xs ys : List (Stacked L)) → picked_stacks pick (xs ++ ys) ≡ picked_stacks pick xs ++ picked_stacks pick ys
+  stacks-append : (xs ys : List (LayerOrder L)) → picked_stacks pick (xs ++ ys) ≡ picked_stacks pick xs ++ picked_stacks pick ys
   stacks-append [] ys = refl
   stacks-append (x ∷ xs) ys = ap (λ zs. stacked x.level (on x.order) ++ zs) (stacks-append xs ys) ∙ sym (append_assoc (stacked x.level (on x.order)) (picked_stacks pick xs) (picked_stacks pick ys))
 
-  stacks-some : (t : Bool) (xs : List (Stacked L)) → picked_stacks pick (list_if t xs) ≡ list_if t (picked_stacks pick xs)
+  stacks-some : (t : Bool) (xs : List (LayerOrder L)) → picked_stacks pick (list_if t xs) ≡ list_if t (picked_stacks pick xs)
   stacks-some true xs = refl
   stacks-some false xs = refl
 
@@ -125,18 +125,18 @@ module _ {L M : Type 0} (pick : L → Option M) where
       by true e = rw (none_there order e) refl
       by false e = append_none (stacked n (on order))
 
-  on-each : (ys : List (Stacked L)) → on (each (λ y. y.order) ys) ≡ each (λ (y : Stacked L). on y.order) ys
+  on-each : (ys : List (LayerOrder L)) → on (each (λ y. y.order) ys) ≡ each (λ (y : LayerOrder L). on y.order) ys
   on-each [] = refl
   on-each (y ∷ ys) = on-join y.order (each (λ z. z.order) ys) ∙ ap (λ zs. on y.order ▷ zs) (on-each ys)
 
-  stacks-joined : (ys : List (Stacked L)) → picked_stacks pick ys ≡ joined (λ (y : Stacked L). stacked y.level (on y.order)) ys
+  stacks-joined : (ys : List (LayerOrder L)) → picked_stacks pick ys ≡ joined (λ (y : LayerOrder L). stacked y.level (on y.order)) ys
   stacks-joined [] = refl
   stacks-joined (y ∷ ys) = ap (λ zs. stacked y.level (on y.order) ++ zs) (stacks-joined ys)
 
-  on-levels : (ys : List (Stacked L)) → each (λ y. y.order) (by_level (picked_stacks pick ys)) ≡ on (each (λ y. y.order) (by_level ys))
+  on-levels : (ys : List (LayerOrder L)) → each (λ y. y.order) (by_level (picked_stacks pick ys)) ≡ on (each (λ y. y.order) (by_level ys))
   on-levels ys =
       ap (λ zs. each (λ y. y.order) (by_level zs)) (stacks-joined ys)
-      ∙ levels_are (λ (y : Stacked L). y.level) (λ (y : Stacked L). on y.order) ys
+      ∙ levels_are (λ (y : LayerOrder L). y.level) (λ (y : LayerOrder L). on y.order) ys
       ∙ sym (on-each (by_level ys))
 
   module _ {S : Type 0} (enter : S → BoxData → S) (give : S → BoxData → Part → Entries Wrapper L) where
@@ -146,10 +146,10 @@ module _ {L M : Type 0} (pick : L → Option M) where
     part : (s : S) (b : BoxData) (p : Part) → On (give s b p) (give_on s b p)
     part s b p = self (give s b p)
 
-    levels : (ys : List (Stacked L)) → On (each (λ y. y.order) (by_level ys)) (each (λ y. y.order) (by_level (picked_stacks pick ys)))
+    levels : (ys : List (LayerOrder L)) → On (each (λ y. y.order) (by_level ys)) (each (λ y. y.order) (by_level (picked_stacks pick ys)))
     levels ys = record { is = sym (on-levels ys) }
 
-    pub on-order : (root : Bool) (s : S) (b : BoxData) (below : Bands L) → On (order_of enter give root s b below) (order_of enter give_on root s b (picked_bands pick below))
+    pub on-order : (root : Bool) (s : S) (b : BoxData) (below : ContextLists L) → On (order_of enter give root s b below) (order_of enter give_on root s b (picked_lists pick below))
     on-order root s b below =
         over (under_so root (part s b Back))
         (over (under_so (blocky b.style root) (over (under_so (not root) (part s b Back)) (part s b Border)))
@@ -163,17 +163,17 @@ module _ {L M : Type 0} (pick : L → Option M) where
         (over (under_so (real b.style root) (levels below.positives))
         (over (part s b Outline) (self below.outlines)))))))))))
 
-    abbrev pub pb : Bands L → Bands M
-    pb below = picked_bands pick below
+    abbrev pub pb : ContextLists L → ContextLists M
+    pb below = picked_lists pick below
 
-    same_bands : (a b : Bands M) → a.negatives ≡ b.negatives → a.backgrounds ≡ b.backgrounds → a.floats ≡ b.floats → a.line ≡ b.line → a.contents ≡ b.contents → a.zeros ≡ b.zeros → a.positives ≡ b.positives → a.outlines ≡ b.outlines → a ≡ b
-    same_bands a b h1 h2 h3 h4 h5 h6 h7 h8 = of_parts a.negatives b.negatives a.backgrounds b.backgrounds a.floats b.floats a.line b.line a.contents b.contents a.zeros b.zeros a.positives b.positives a.outlines b.outlines h1 h2 h3 h4 h5 h6 h7 h8
+    same_lists : (a b : ContextLists M) → a.negatives ≡ b.negatives → a.backgrounds ≡ b.backgrounds → a.floats ≡ b.floats → a.line ≡ b.line → a.contents ≡ b.contents → a.zeros ≡ b.zeros → a.positives ≡ b.positives → a.outlines ≡ b.outlines → a ≡ b
+    same_lists a b h1 h2 h3 h4 h5 h6 h7 h8 = of_parts a.negatives b.negatives a.backgrounds b.backgrounds a.floats b.floats a.line b.line a.contents b.contents a.zeros b.zeros a.positives b.positives a.outlines b.outlines h1 h2 h3 h4 h5 h6 h7 h8
       where
-        of_parts : (u u2 : List (Stacked M)) (k k2 f f2 l l2 w w2 z z2 : Entries Wrapper M) (o o2 : List (Stacked M)) (t t2 : Entries Wrapper M) → u ≡ u2 → k ≡ k2 → f ≡ f2 → l ≡ l2 → w ≡ w2 → z ≡ z2 → o ≡ o2 → t ≡ t2
-            → ◌≡◌ {A = Bands M} (record { negatives = u; backgrounds = k; floats = f; line = l; contents = w; zeros = z; positives = o; outlines = t }) (record { negatives = u2; backgrounds = k2; floats = f2; line = l2; contents = w2; zeros = z2; positives = o2; outlines = t2 })
+        of_parts : (u u2 : List (LayerOrder M)) (k k2 f f2 l l2 w w2 z z2 : Entries Wrapper M) (o o2 : List (LayerOrder M)) (t t2 : Entries Wrapper M) → u ≡ u2 → k ≡ k2 → f ≡ f2 → l ≡ l2 → w ≡ w2 → z ≡ z2 → o ≡ o2 → t ≡ t2
+            → ◌≡◌ {A = ContextLists M} (record { negatives = u; backgrounds = k; floats = f; line = l; contents = w; zeros = z; positives = o; outlines = t }) (record { negatives = u2; backgrounds = k2; floats = f2; line = l2; contents = w2; zeros = z2; positives = o2; outlines = t2 })
         of_parts u u2 k k2 f f2 l l2 w w2 z z2 o o2 t t2 h1 h2 h3 h4 h5 h6 h7 h8 = rw (h1, h2, h3, h4, h5, h6, h7, h8) refl
 
-    on-box : (s : S) (b : BoxData) (grouped : Bool) (order : Entries Wrapper L) (below : Bands L) → pb (box_bands enter give s b grouped order below) ≡ box_bands enter give_on s b grouped (on order) (pb below)
+    on-box : (s : S) (b : BoxData) (grouped : Bool) (order : Entries Wrapper L) (below : ContextLists L) → pb (box_lists enter give s b grouped order below) ≡ box_lists enter give_on s b grouped (on order) (pb below)
     on-box s b grouped order below =
         let back_border = over (part s b Back) (part s b Border) in
         let h2 = over (under_so (is_of Block b) back_border) (under_so (is_plain b) (self below.backgrounds)) in
@@ -183,18 +183,18 @@ module _ {L M : Type 0} (pick : L → Option M) where
         let entry : On (as_group grouped b order) (as_group grouped b (on order)) = record { is = on-group grouped b order } in
         let h6 = over (under_so (is_of Layer b && has_zero_level b) entry) (under_so (not (real b.style false)) (self below.zeros)) in
         let h8 = over (under_so (is_plain b) (part s b Outline)) (under_so (is_plain b) (self below.outlines)) in
-        same_bands (pb (box_bands enter give s b grouped order below)) (box_bands enter give_on s b grouped (on order) (pb below))
+        same_lists (pb (box_lists enter give s b grouped order below)) (box_lists enter give_on s b grouped (on order) (pb below))
         (layers (is_of Layer b && has_negative_level b) below.negatives) h2.is h3.is h4.is h5.is h6.is (layers (is_of Layer b && has_positive_level b) below.positives) h8.is
       where
-        layers : (t : Bool) (below_of : List (Stacked L)) → picked_stacks pick (list_if t (stacked (level_in b) (as_group grouped b order)) ++ list_if (not (real b.style false)) below_of)
+        layers : (t : Bool) (below_of : List (LayerOrder L)) → picked_stacks pick (list_if t (stacked (level_in b) (as_group grouped b order)) ++ list_if (not (real b.style false)) below_of)
             ≡ list_if t (stacked (level_in b) (as_group grouped b (on order))) ++ list_if (not (real b.style false)) (picked_stacks pick below_of)
         layers t below_of =
             stacks-append (list_if t (stacked (level_in b) (as_group grouped b order))) (list_if (not (real b.style false)) below_of)
             ∙ rw (stacks-some t (stacked (level_in b) (as_group grouped b order)), stacks-some (not (real b.style false)) below_of, stacks-one (level_in b) (as_group grouped b order), on-group grouped b order) refl
 
-    on-add : (x y : Bands L) → pb (x ⊕ y) ≡ pb x ⊕ pb y
+    on-add : (x y : ContextLists L) → pb (x ⊕ y) ≡ pb x ⊕ pb y
     on-add x y =
-        same_bands (pb (x ⊕ y)) (pb x ⊕ pb y) (stacks-append x.negatives y.negatives) (on-join x.backgrounds y.backgrounds) (on-join x.floats y.floats) (on-join x.line y.line) (on-join x.contents y.contents) (on-join x.zeros y.zeros) (stacks-append x.positives y.positives) (on-join x.outlines y.outlines)
+        same_lists (pb (x ⊕ y)) (pb x ⊕ pb y) (stacks-append x.negatives y.negatives) (on-join x.backgrounds y.backgrounds) (on-join x.floats y.floats) (on-join x.line y.line) (on-join x.contents y.contents) (on-join x.zeros y.zeros) (stacks-append x.positives y.positives) (on-join x.outlines y.outlines)
 
     pub on-pass : (s : S) (f : BoxForest) → pb (pass enter give s f) ≡ pass enter give_on s f
     on-pass s empty = refl
@@ -203,11 +203,11 @@ module _ {L M : Type 0} (pick : L → Option M) where
         let below = pass enter give (enter s b) ch in
         let order = order_of enter give false s b below in
         let one = is_one false (blends_in ch) b in
-        on-add (box_bands enter give s b one order below) (pass enter give s nx)
+        on-add (box_lists enter give s b one order below) (pass enter give s nx)
         ∙ ap (λ z. z ⊕ pb (pass enter give s nx)) (on-box s b one order below)
-        ∙ ap (λ z. box_bands enter give_on s b one z (pb below) ⊕ pb (pass enter give s nx)) ((on-order false s b below).is)
-        ∙ ap (λ z. box_bands enter give_on s b one (order_of enter give_on false s b z) z ⊕ pb (pass enter give s nx)) (on-pass (enter s b) ch)
-        ∙ ap (λ z. box_bands enter give_on s b one (order_of enter give_on false s b (pass enter give_on (enter s b) ch)) (pass enter give_on (enter s b) ch) ⊕ z) (on-pass s nx)
+        ∙ ap (λ z. box_lists enter give_on s b one z (pb below) ⊕ pb (pass enter give s nx)) ((on-order false s b below).is)
+        ∙ ap (λ z. box_lists enter give_on s b one (order_of enter give_on false s b z) z ⊕ pb (pass enter give s nx)) (on-pass (enter s b) ch)
+        ∙ ap (λ z. box_lists enter give_on s b one (order_of enter give_on false s b (pass enter give_on (enter s b) ch)) (pass enter give_on (enter s b) ch) ⊕ z) (on-pass s nx)
 
     pub on-whole : (s : S) (f : BoxForest) → on (whole enter give s f) ≡ whole enter give_on s f
     on-whole s empty = refl

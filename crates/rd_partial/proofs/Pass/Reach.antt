@@ -17,8 +17,8 @@ use Rattle.rd_stack.specs.Paths.{BoxData}
 use Rattle.rd_stack.specs.Fresh.{box_data}
 use Rattle.rd_stack.specs.Parts.{is_seen, takes_hits, has_border, solid, frame, shown, shape_of}
 use Rattle.rd_stack.specs.Clips.{padding_box}
-use Rattle.rd_partial.specs.Internal.Standing.{Standing}
-use Rattle.rd_partial.specs.Internal.Standing.{below, clip_in}
+use Rattle.rd_partial.specs.Internal.Inherited.{Inherited}
+use Rattle.rd_partial.specs.Internal.Inherited.{below, clip_in}
 use Rattle.rd_partial.specs.Internal.Given.{gives, if_wanted}
 use Rattle.rd_partial.proofs.Pass.Pruned.{GiveNone}
 
@@ -66,7 +66,7 @@ abbrev pub OuterIn : Rectangle → Option (Shape × Color) → Type 0
 OuterIn H None = Unit {0}
 OuterIn H (Some s) = IsWithin s.0.outer H
 
-module _ (H : Rectangle) (s : Standing) (b : BoxData) (root : s.root ≡ false) (held : IsWithin (outset b.rect b.style.outline_width) H) where
+module _ (H : Rectangle) (s : Inherited) (b : BoxData) (root : s.root ≡ false) (held : IsWithin (outset b.rect b.style.outline_width) H) where
   in_rect : IsWithin b.rect H
   in_rect = within_through b.rect (outset b.rect b.style.outline_width) H (in_grown b.rect b.style.outline_width) held
 
@@ -91,14 +91,14 @@ module _ (wants : Rectangle → Bool) (n : ℕ) (grows : (a b : Rectangle) → I
         | false ↦ rw (not_wanted (meet s.0.outer clip) (within_through (meet s.0.outer clip) s.0.outer H (within_first s.0.outer clip) h)) refl
       ]
 
-  module _ (s : Standing) (b : BoxData) (root : s.root ≡ false) (held : IsWithin (outset b.rect b.style.outline_width) H) where
+  module _ (s : Inherited) (b : BoxData) (root : s.root ≡ false) (held : IsWithin (outset b.rect b.style.outline_width) H) where
     none_part : (part : Part) → gives wants n s b part ≡ nil
     none_part part = ap option_entry (elim (is_seen b.style.visibility) as (λ t. if_wanted wants n (cond t (shown (clip_in s b.style) b part (shape_of s.canvas s.root b part)) None) ≡ None) [
       | true ↦ none_shown (clip_in s b.style) b part (shape_of s.canvas s.root b part) (outer_in H s b root held part)
       | false ↦ refl
     ])
 
-  pub give_none : (s : Standing) (f : BoxForest) → s.root ≡ false → IsWithin (hull_in f) H → GiveNone below (gives wants n) s f
+  pub give_none : (s : Inherited) (f : BoxForest) → s.root ≡ false → IsWithin (hull_in f) H → GiveNone below (gives wants n) s f
   give_none s empty r h = tt
   give_none s (tree k d ch nx) r h =
       let one = hull_of (extent d) (hull_in ch) in
@@ -108,5 +108,5 @@ module _ (wants : Rectangle → Bool) (n : ℕ) (grows : (a b : Rectangle) → I
         give_none s nx r (within_through (hull_in nx) (hull_of one (hull_in nx)) H (hull_right one (hull_in nx)) h),
       )
 
-  pub none_of : (s : Standing) (b : BoxData) → s.root ≡ false → IsWithin (outset b.rect b.style.outline_width) H → (part : Part) → gives wants n s b part ≡ nil
+  pub none_of : (s : Inherited) (b : BoxData) → s.root ≡ false → IsWithin (outset b.rect b.style.outline_width) H → (part : Part) → gives wants n s b part ≡ nil
   none_of s b r h part = none_part s b r h part

@@ -22,8 +22,8 @@ use Rattle.rd_stack.proofs.Present.{grouped-below}
 use Rattle.rd_stack.proofs.Grouping.Shape.{box-found}
 use Rattle.rd_stack.proofs.Walk.Filters.{filter_both}
 use Rattle.rd_stack.proofs.Counting.InlineLines.{AreOff, in_below, in_rest, off_below}
-use Rattle.rd_partial.specs.Internal.Bands.{◌⊕◌, by_level}
-use Rattle.rd_partial.specs.Internal.Pass.{order_of, pass, whole, box_bands, is_one, as_group}
+use Rattle.rd_partial.specs.Internal.ContextLists.{◌⊕◌, by_level}
+use Rattle.rd_partial.specs.Internal.Pass.{order_of, pass, whole, box_lists, is_one, as_group}
 use Rattle.rd_partial.proofs.Pass.Gather.{painted_box, gathered, gathered-reached}
 use Rattle.rd_partial.proofs.Pass.Fields.{passed, enter, give, stack_of, backgrounds_are, floats_are, outlines_are, zeros_are, negatives_are, positives_are, line_is}
 use Rattle.rd_partial.proofs.Pass.Joined.{joined}
@@ -114,10 +114,10 @@ module _ (canvas : Rectangle) where
       ∙ ap (λ t. order_of enter (give canvas) t above b (passed canvas (b ∷ above) ch)) n
       ∙ ap (order_of enter (give canvas) false above b) deeper in
       let one = is_one false (blends_in ch) b in
-      ap (λ g. box_bands enter (give canvas) above b g (painted_box canvas above b ch).order (passed canvas (b ∷ above) ch) ⊕ passed canvas above nx) (one_is above k d ch n)
-      ∙ ap (λ p. box_bands enter (give canvas) above b one p (passed canvas (b ∷ above) ch) ⊕ passed canvas above nx) order
-      ∙ ap (λ p. box_bands enter (give canvas) above b one (order_of enter (give canvas) false above b (pass enter (give canvas) (b ∷ above) ch)) p ⊕ passed canvas above nx) deeper
-      ∙ ap (λ p. box_bands enter (give canvas) above b one (order_of enter (give canvas) false above b (pass enter (give canvas) (b ∷ above) ch)) (pass enter (give canvas) (b ∷ above) ch) ⊕ p) (passed_is above nx n a.4 o2)
+      ap (λ g. box_lists enter (give canvas) above b g (painted_box canvas above b ch).order (passed canvas (b ∷ above) ch) ⊕ passed canvas above nx) (one_is above k d ch n)
+      ∙ ap (λ p. box_lists enter (give canvas) above b one p (passed canvas (b ∷ above) ch) ⊕ passed canvas above nx) order
+      ∙ ap (λ p. box_lists enter (give canvas) above b one (order_of enter (give canvas) false above b (pass enter (give canvas) (b ∷ above) ch)) p ⊕ passed canvas above nx) deeper
+      ∙ ap (λ p. box_lists enter (give canvas) above b one (order_of enter (give canvas) false above b (pass enter (give canvas) (b ∷ above) ch)) (pass enter (give canvas) (b ∷ above) ch) ⊕ p) (passed_is above nx n a.4 o2)
 
   -- CSS 2.2 Appendix E: the pass over a tree gives its painting order
   pub whole_is : (f : BoxForest) → IsApart same_key f → root_order grouping canvas f ≡ whole enter (give canvas) [] f

@@ -10,7 +10,7 @@ use Rattle.rd_clip.specs.declared.clips.Clips.{Clips}
 use Rattle.rd_stack.specs.Paths.{BoxData}
 use Rattle.rd_stack.specs.Clips.{entered}
 use Rattle.rd_stack.specs.Paths.{is_none}
-use Rattle.rd_partial.specs.Internal.Standing.{Standing, Stood, standing_below, below, by_sought, clip_in}
+use Rattle.rd_partial.specs.Internal.Inherited.{Inherited, Stood, standing_below, below, by_sought, clip_in}
 
 module _ (canvas : Rectangle) where
   pub clip_is : (q : Sought) (es : List Entered) → by_sought (clips_of canvas es) q ≡ clipped canvas (containing_chain q es)
@@ -31,7 +31,7 @@ module _ (canvas : Rectangle) where
       ap (λ z. record { canvas = canvas; root = false; clips = record { flow = z; absolute = clipped canvas (containing_chain nearest_positioned (e ∷ es)); fixed = canvas } }) (sym inside)
       ∙ ap (λ z. record { canvas = canvas; root = false; clips = record { flow = clipped_by e (by_sought (clips_of canvas es) (sought b.style.position)); absolute = z; fixed = canvas } }) (sym absolute)
 
-module _ (s : Standing) (st : Stood s) where
+module _ (s : Inherited) (st : Stood s) where
   clips_are : s.clips ≡ clips_of s.canvas (entered st.above)
   clips_are = ap (λ z. z.clips) st.is
 
@@ -49,7 +49,7 @@ module _ (s : Standing) (st : Stood s) where
   -- what the children of a box may be seen of
   pub clips_stood : (b : BoxData) (r : Clips) (t : Style) (q : Rectangle) → t ≡ b.style → q ≡ b.rect
       → ((canvas : Rectangle) (above : List Entered) → s.clips ≡ clips_of canvas above → r ≡ clips_of canvas (record { style = t; rect = q; root = s.root } ∷ above))
-      → ◌≡◌ {A = Standing} (record { canvas = s.canvas; root = false; clips = r }) (below s b)
+      → ◌≡◌ {A = Inherited} (record { canvas = s.canvas; root = false; clips = r }) (below s b)
   clips_stood b r t q et eq h =
       ap (λ z. record { canvas = s.canvas; root = false; clips = z }) (h s.canvas (entered st.above) clips_are
       ∙ ap (λ z. clips_of s.canvas (record { style = z; rect = q; root = s.root } ∷ entered st.above)) et

@@ -16,12 +16,12 @@ use Rattle.rd_stack.specs.Clips.{entered}
 use Rattle.rd_stack.specs.Parts.{leaf_at, leaf_of}
 use Rattle.rd_stack.specs.Fresh.{box_data, drawn_list}
 use Rattle.rd_partial.specs.Internal.Pass.{order_of, pass, whole, is_one, as_group}
-use Rattle.rd_partial.specs.Internal.Standing.{Standing, standing_below, at_root, below, leaf_in}
+use Rattle.rd_partial.specs.Internal.Inherited.{Inherited, standing_below, at_root, below, leaf_in}
 use Rattle.rd_partial.specs.Internal.Given.{gives}
 use Rattle.rd_partial.specs.Internal.Picking.{picked}
 use Rattle.rd_partial.specs.Internal.Counting.{leaves_in, visits, root_visits}
 use Rattle.rd_partial.specs.Internal.Work.{passes, paints, own_cost, cost}
-use Rattle.rd_partial.specs.Internal.Looked.{Onward}
+use Rattle.rd_partial.specs.Internal.BoxLook.{Onward}
 use Rattle.rd_partial.proofs.Pass.Stood.{clip_is, down}
 use Rattle.rd_partial.proofs.Pass.Fields.{enter, give}
 use Rattle.rd_partial.proofs.Pass.Steps.{fresh_is}
@@ -35,7 +35,7 @@ use Rattle.rd_partial.specs.Numbered.{numbered}
 
 module _ (canvas : Rectangle) where
   -- what is handed down stands for the boxes above
-  abbrev pub stood : List BoxData → Standing
+  abbrev pub stood : List BoxData → Inherited
   stood above = standing_below canvas above
 
   pub same_leaf : (above : List BoxData) (b : BoxData) (p : Part) → leaf_at canvas (record { above = above; here = b }) p ≡ leaf_in (stood above) b p
@@ -52,7 +52,7 @@ abbrev root_grouped : BoxData → Bool
 root_grouped b = is_one true false b
 
 module _ (wants : Rectangle → Bool) (n : ℕ) (t : Document) where
-  abbrev start : Standing
+  abbrev start : Inherited
   start = stood (canvas_of t.canvas) []
 
   rooted_from : (f : BoxForest) (k : BoxKey) (d : _) (ch : BoxForest) → f ≡ tree k d ch empty → starting_at same_key k f ≡ f
@@ -91,7 +91,7 @@ module _ (wants : Rectangle → Bool) (n : ℕ) (t : Document) where
       rw w.child (sym (ap (root_visits wants) whole_is))
 
 -- where the root is looked at
-module _ (wants : Rectangle → Bool) (n : ℕ) (t : Document) (r : IsRooted t) (a : IsApart same_key t.boxes) (k : BoxKey) (e : k ≡ t.root) (s : Standing) (begun : s ≡ at_root (canvas_of t.canvas))
+module _ (wants : Rectangle → Bool) (n : ℕ) (t : Document) (r : IsRooted t) (a : IsApart same_key t.boxes) (k : BoxKey) (e : k ≡ t.root) (s : Inherited) (begun : s ≡ at_root (canvas_of t.canvas))
     (here : BoxData) (c nx : Option BoxKey) (hull : Rectangle) (w : Onward t.boxes k here c nx hull) where
   at_t : Onward t.boxes t.root here c nx hull
   at_t = subst (λ j. Onward t.boxes j here c nx hull) e w

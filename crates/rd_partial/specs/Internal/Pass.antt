@@ -13,7 +13,7 @@ use Rattle.rd_tree.specs.Contexts.{blends_in}
 use Rattle.rd_stack.specs.Paths.{BoxData, is_class, is_plain}
 use Rattle.rd_stack.specs.Painting.{stack_level}
 use Rattle.rd_stack.specs.Fresh.{box_data}
-use Rattle.rd_partial.specs.Internal.Bands.{Bands, no_bands, ◌⊕◌, entries_if, list_if, stacked, by_level}
+use Rattle.rd_partial.specs.Internal.ContextLists.{ContextLists, no_lists, ◌⊕◌, entries_if, list_if, stacked, by_level}
 
 -- CSS 2.2 Appendix E.2: of a box that is not the root
 abbrev pub is_of : Class → BoxData → Bool
@@ -48,7 +48,7 @@ module _ {L : Type 0} where
 
   module _ {S : Type 0} (enter : S → BoxData → S) (give : S → BoxData → Part → Entries Wrapper L) where
     -- CSS 2.2 Appendix E.2: all that a box paints, from what the boxes below it give it
-    abbrev pub order_of : Bool → S → BoxData → Bands L → Entries Wrapper L
+    abbrev pub order_of : Bool → S → BoxData → ContextLists L → Entries Wrapper L
     order_of root s b below =
         entries_if root (give s b Back)
         ▷ entries_if (blocky b.style root) (entries_if (not root) (give s b Back) ▷ give s b Border)
@@ -65,8 +65,8 @@ module _ {L : Type 0} where
 
     -- What a box gives to the box that paints it, where order is all that it would paint itself, and it is told whether that is
     -- one group: who receives what.
-    abbrev pub box_bands : S → BoxData → Bool → Entries Wrapper L → Bands L → Bands L
-    box_bands s b grouped order below = record {
+    abbrev pub box_lists : S → BoxData → Bool → Entries Wrapper L → ContextLists L → ContextLists L
+    box_lists s b grouped order below = record {
       negatives = list_if (is_of Layer b && has_negative_level b) (stacked (level_in b) (as_group grouped b order)) ++ list_if (not (real b.style false)) below.negatives;
       backgrounds = entries_if (is_of Block b) (give s b Back ▷ give s b Border) ▷ entries_if (is_plain b) below.backgrounds;
       floats = entries_if (is_of Float b) order ▷ entries_if (is_plain b) below.floats;
@@ -77,12 +77,12 @@ module _ {L : Type 0} where
       outlines = entries_if (is_plain b) (give s b Outline) ▷ entries_if (is_plain b) below.outlines;
     }
 
-    abbrev pub pass : S → BoxForest → Bands L
-    pass s empty = no_bands
+    abbrev pub pass : S → BoxForest → ContextLists L
+    pass s empty = no_lists
     pass s (tree k d children next) =
         let b = box_data k d in
         let below = pass (enter s b) children in
-        box_bands s b (is_one false (blends_in children) b) (order_of false s b below) below ⊕ pass s next
+        box_lists s b (is_one false (blends_in children) b) (order_of false s b below) below ⊕ pass s next
 
     -- CSS 2.2 Appendix E: what a tree of boxes paints; the first box is the root
     abbrev pub whole : S → BoxForest → Entries Wrapper L

@@ -4,7 +4,7 @@ use Rattle.rd_list.specs.Entries.{Entries, nil, leaf, group, ◌▷◌, option_e
 use Rattle.rd_list.specs.Wrappers.{Wrapper}
 use Rattle.rd_item.specs.declared.leaf.Leaf.{Leaf}
 use Rattle.rd_item.specs.Items.{Made}
-use Rattle.rd_partial.specs.Internal.Bands.{Bands, Stacked, stacked}
+use Rattle.rd_partial.specs.Internal.ContextLists.{ContextLists, LayerOrder, stacked}
 
 -- a leaf as an item of paint n, where it passes
 abbrev pub made_if : (Leaf → Bool) → ℕ → Leaf → Option Made
@@ -16,12 +16,12 @@ module _ {L M : Type 0} where
   picked pick (leaf l rest) = option_entry (pick l) ▷ picked pick rest
   picked pick (group g inner rest) = grouped_if_any g (picked pick inner) (picked pick rest)
 
-  abbrev pub picked_stacks : (L → Option M) → List (Stacked L) → List (Stacked M)
+  abbrev pub picked_stacks : (L → Option M) → List (LayerOrder L) → List (LayerOrder M)
   picked_stacks pick [] = []
   picked_stacks pick (y ∷ ys) = stacked y.level (picked pick y.order) ++ picked_stacks pick ys
 
-  abbrev pub picked_bands : (L → Option M) → Bands L → Bands M
-  picked_bands pick b = record {
+  abbrev pub picked_lists : (L → Option M) → ContextLists L → ContextLists M
+  picked_lists pick b = record {
     negatives = picked_stacks pick b.negatives;
     backgrounds = picked pick b.backgrounds;
     floats = picked pick b.floats;

@@ -13,10 +13,10 @@ use Rattle.rd_stack.specs.Paths.{BoxData}
 use Rattle.rd_stack.specs.Fresh.{box_data}
 use Rattle.rd_partial.specs.Looks.{BoxTest}
 use Rattle.rd_partial.specs.Internal.Counting.{looks_below}
-use Rattle.rd_partial.specs.Internal.Standing.{Standing, leaf_in}
-use Rattle.rd_partial.specs.Internal.Standing as standing
-use Rattle.rd_partial.specs.declared.look.Looked.{Looked}
-use Rattle.rd_partial.specs.Internal.Looked.{Onward, here_of}
+use Rattle.rd_partial.specs.Internal.Inherited.{Inherited, leaf_in}
+use Rattle.rd_partial.specs.Internal.Inherited as inherited
+use Rattle.rd_partial.specs.declared.look.BoxLook.{BoxLook}
+use Rattle.rd_partial.specs.Internal.BoxLook.{Onward, here_of}
 
 -- the new area is the old one with the pixels of its canvas that pass a test
 pub record Joins (shows : ℤ → ℤ → Bool) (old new : Region) : Type 0 where
@@ -29,17 +29,17 @@ leaf_shows None x y = false
 leaf_shows (Some l) x y = holds_pixel l.visible x y
 
 -- is it in that of a leaf of the box?
-abbrev pub box_shows : Standing → BoxData → ℤ → ℤ → Bool
+abbrev pub box_shows : Inherited → BoxData → ℤ → ℤ → Bool
 box_shows s b x y =
     leaf_shows (leaf_in s b Back) x y
     || (leaf_shows (leaf_in s b Border) x y || (leaf_shows (leaf_in s b Content) x y || leaf_shows (leaf_in s b Outline) x y))
 
 -- is it in that of a leaf of a touched box of a forest?
-abbrev pub touched_shows : Standing → BoxForest → ℤ → ℤ → Bool
+abbrev pub touched_shows : Inherited → BoxForest → ℤ → ℤ → Bool
 touched_shows s empty x y = false
 touched_shows s (tree k d below rest) x y =
     (d.touched && box_shows s (box_data k d) x y)
-    || (touched_shows (standing.below s (box_data k d)) below x y || touched_shows s rest x y)
+    || (touched_shows (inherited.below s (box_data k d)) below x y || touched_shows s rest x y)
 
 -- what a look tells of the marks
 abbrev pub HasMarks : BoxForest → Bool → ℕ → Type 0
@@ -51,25 +51,25 @@ abbrev pub leads_to_touched : BoxTest
 leads_to_touched d below = any_touched below
 
 -- what a box that was looked at shows, if it is touched
-abbrev pub own_shows : Standing → Looked → ℤ → ℤ → Bool
+abbrev pub own_shows : Inherited → BoxLook → ℤ → ℤ → Bool
 own_shows s v x y = v.touched && box_shows s (here_of v) x y
 
 -- what the touched boxes below it show
-abbrev pub shows_below : Standing → Looked → Document → ℤ → ℤ → Bool
-shows_below s v t x y = nat_lt 0 v.touched_below && touched_shows (standing.below s (here_of v)) (from_some same_key v.first_child t.boxes) x y
+abbrev pub shows_below : Inherited → BoxLook → Document → ℤ → ℤ → Bool
+shows_below s v t x y = nat_lt 0 v.touched_below && touched_shows (inherited.below s (here_of v)) (from_some same_key v.first_child t.boxes) x y
 
 -- A look told this of a box of a tree.
-pub record IsTold (t : Document) (v : Looked) : Type 0 where
+pub record IsTold (t : Document) (v : BoxLook) : Type 0 where
   pub key : BoxKey
   pub told : Onward t.boxes key (here_of v) v.first_child v.next_sibling v.hull
   pub marks : HasMarks (starting_at same_key key t.boxes) v.touched v.touched_below
 
 -- what it and the touched boxes below it show
-abbrev pub branch_shows : Standing → Looked → Document → ℤ → ℤ → Bool
+abbrev pub branch_shows : Inherited → BoxLook → Document → ℤ → ℤ → Bool
 branch_shows s v t x y = own_shows s v x y || shows_below s v t x y
 
 -- what the touched ones of some siblings show, and those below them, from one on
-abbrev pub shows_from : Standing → Option BoxKey → Document → ℤ → ℤ → Bool
+abbrev pub shows_from : Inherited → Option BoxKey → Document → ℤ → ℤ → Bool
 shows_from s first t x y = touched_shows s (from_some same_key first t.boxes) x y
 
 -- how many of these are touched
@@ -81,5 +81,5 @@ abbrev pub touched_looks : Option BoxKey → Document → ℕ
 touched_looks first t = looks_below leads_to_touched (from_some same_key first t.boxes)
 
 -- the looks below a box
-abbrev pub looks_under : Looked → Document → ℕ
+abbrev pub looks_under : BoxLook → Document → ℕ
 looks_under v t = if nat_lt 0 v.touched_below then touched_looks v.first_child t else 0

@@ -10,7 +10,7 @@ use Rattle.rd_style.specs.declared.kinds.Position.TheVariants as position
 use Rattle.rd_style.specs.Limits.{FitsRect, Fits}
 use Rattle.rd_keys.specs.Keys.{same_key}
 use Rattle.rd_keys.proofs.Keys.{same_key-sound, same_key-refl}
-use Rattle.rd_tree.specs.declared.handed.Handed.{Handed}
+use Rattle.rd_tree.specs.declared.handed.ScrollSums.{ScrollSums}
 use Rattle.rd_tree.specs.declared.scroll.Scroll.{Scroll}
 use Rattle.rd_tree.specs.Forest.{empty, tree, has, item_of, children, insert_among, IsApart, IsPlaceIn}
 use Rattle.rd_tree.specs.Document.{Document, Slot, BoxKey, Item, contains, AllFit, IsKeyed, IsNextOf, slot_of, with_child, with_taken}
@@ -49,7 +49,7 @@ one_slot u q i j m n e =
     let g : i.generation ≡ j.generation = ap (λ y. y.generation) (sym a ∙ (s ∙ b)) in
     alike i.slot j.slot i.generation j.generation e g
 
-pub puts_key : (u : Document) → IsKeyed u → (old new : List Handed) (j : BoxKey) (h : Handed) → PutsHand old new j h → contains u j ≡ true → (i : BoxKey) → contains u i ≡ true
+pub puts_key : (u : Document) → IsKeyed u → (old new : List ScrollSums) (j : BoxKey) (h : ScrollSums) → PutsHand old new j h → contains u j ≡ true → (i : BoxKey) → contains u i ≡ true
     → hand_at new i ≡ cond (same_key i j) h (hand_at old i)
 puts_key u q old new j h p n i m =
     elim (cases (i.slot == j.slot)) [
@@ -91,8 +91,8 @@ plus_none x = omega (arith, ints)
 pub from-none : (o : Scroll) (r : Rectangle) → drawn_anew unscrolled o r ≡ scrolled_by o r
 from-none o r = λ i. record r { x = plus_none r.x i -ℤ o.x; y = plus_none r.y i -ℤ o.y }
 
-module _ (t u : Document) (rows next : List Handed) (k : IsTold t) (h : IsHanding t rows) (v : IsTold u) (p : BoxKey) (before : Option BoxKey) (j : BoxKey) (id : List ℕ) (q : Rectangle) (s : Style)
-    (inside : Handed) (m : contains t p ≡ true) (place : IsPlaceIn same_key before (children same_key p t.boxes)) (new : contains t j ≡ false)
+module _ (t u : Document) (rows next : List ScrollSums) (k : IsTold t) (h : IsHanding t rows) (v : IsTold u) (p : BoxKey) (before : Option BoxKey) (j : BoxKey) (id : List ℕ) (q : Rectangle) (s : Style)
+    (inside : ScrollSums) (m : contains t p ≡ true) (place : IsPlaceIn same_key before (children same_key p t.boxes)) (new : contains t j ≡ false)
     (is : inside ≡ passed_from (same_key p t.root) (hand_at rows p) (item_of same_key p t.boxes)) (put : PutsHand rows next j inside)
     (e : u ≡ edited (insertion p before j (new_item id (drawn_anew unscrolled (offset_in inside s.position) q) s)) t) where
   abbrev item : Item
@@ -152,7 +152,7 @@ one_row : (n : ℕ) → slice_index_or (unhanded ∷ []) n unhanded ≡ unhanded
 one_row zero = refl
 one_row (suc n) = refl
 
-pub planted : (t : Document) (rows : List Handed) (id : List ℕ) (q : Rectangle) (s : Style) → rows ≡ unhanded ∷ [] → IsNextOf [] t.root → t.boxes ≡ tree t.root (touch (new_item id q s)) empty empty
+pub planted : (t : Document) (rows : List ScrollSums) (id : List ℕ) (q : Rectangle) (s : Style) → rows ≡ unhanded ∷ [] → IsNextOf [] t.root → t.boxes ≡ tree t.root (touch (new_item id q s)) empty empty
     → t.slots ≡ with_taken [] t.root → FitsRect q → Fits s → FitsScroll unscrolled → IsHanding t rows × (laid_by rows t.boxes ≡ tree t.root (touch (new_item id q s)) empty empty)
 planted t rows id q s e next boxes slots f g o =
     let d : Item = touch (new_item id q s) in

@@ -6,7 +6,7 @@ use Rattle.rd_keys.specs.Keys.{same_key}
 use Rattle.rd_keys.specs.Arena.{Arena}
 use Rattle.rd_keys.proofs.Keys.{same_key-sound, same_key-refl}
 use Rattle.rd_tree.specs.declared.node.Node as inner
-use Rattle.rd_tree.specs.declared.handed.Handed.{Handed}
+use Rattle.rd_tree.specs.declared.handed.ScrollSums.{ScrollSums}
 use Rattle.rd_tree.specs.declared.scroll.Scroll.{Scroll}
 use Rattle.rd_tree.specs.Figures.{max_depth}
 use Rattle.rd_tree.specs.Limits.{IsNear}
@@ -52,7 +52,7 @@ both f g o true false l e h = cc (e)
 both f g o false true l e h = cc (e)
 
 -- A box that is drawn near can be drawn there.
-pub drawn_near : {Y S : Type 0} (a : Arena inner.Node) (root k : BoxKey) (ids : HashMap (String Y) BoxKey S) (old new : Scroll) (rows : List Handed) (h : Handed) → IsConsistent a root ids
+pub drawn_near : {Y S : Type 0} (a : Arena inner.Node) (root k : BoxKey) (ids : HashMap (String Y) BoxKey S) (old new : Scroll) (rows : List ScrollSums) (h : ScrollSums) → IsConsistent a root ids
     → AllNear (drawn_again rows k old new h (seen a root)) → DrawsAt old new (linked a k)
 drawn_near a root k ids old new rows h s near = at (linked a k) refl where
   how : BoxKey → Item → Item
@@ -68,7 +68,7 @@ drawn_near a root k ids old new rows h s near = at (linked a k) refl where
       near_is_placed (drawn_anew old new n.item.rect) (subst (λ z. IsNear z.rect) is w.0)
 
 -- one box changed in one way, and all below it drawn anew and touched where that is asked for
-abbrev pub anew : (Item → Item) → Bool → List Handed → BoxKey → Handed → BoxForest → BoxKey → Item → Item
+abbrev pub anew : (Item → Item) → Bool → List ScrollSums → BoxKey → ScrollSums → BoxForest → BoxKey → Item → Item
 anew e asked rows k h f j d = cond (same_key j k) (e d) (cond (has same_key j (children same_key k f)) (redrawn_if asked (hand_at rows j) (handed_to j h (children same_key k f)) d) d)
 
 -- A change of an item that leaves its id and its style.
@@ -99,7 +99,7 @@ module _ {Y S : Type 0} (e : Item → Item) (keeps : KeepsStyle e) (a b : Arena 
   pub again_live : (j : BoxKey) → has same_key j (seen a root) ≡ true → is_some (linked b j) ≡ true
   again_live j u = ap is_some (r1.links j) ∙ (is_some-each (same_key k j) (with_item e) (linked a j) ∙ is_live a root (seen a root) (seen_stands a root s.tree) j u)
 
-  module _ (c : Arena inner.Node) (rows : List Handed) (h : Handed) (asked : Bool) (r2 : Redraws asked b c rows h (seen_from b (child_and_sibling (linked b k)).0))
+  module _ (c : Arena inner.Node) (rows : List ScrollSums) (h : ScrollSums) (asked : Bool) (r2 : Redraws asked b c rows h (seen_from b (child_and_sibling (linked b k)).0))
       (near : AllNear (each_by (anew e asked rows k h (seen a root)) (seen a root))) where
     abbrev how : BoxKey → Item → Item
     how = anew e asked rows k h (seen a root)

@@ -3,7 +3,7 @@ use Rattle.std.proofs.Common.{◌≡◌, refl, ap, ◌∙◌, sym, subst, ℕ, �
 use Rattle.std.specs.Prelude.{Some, option_map}
 use Rattle.rd_keys.specs.Keys.{same_key}
 use Rattle.rd_keys.proofs.Keys.{same_key-sound, same_key-refl}
-use Rattle.rd_tree.specs.declared.handed.Handed.{Handed}
+use Rattle.rd_tree.specs.declared.handed.ScrollSums.{ScrollSums}
 use Rattle.rd_tree.specs.Forest.{empty, tree, has, height, item_of, children, map_where, at_box, AllItems, IsApart}
 use Rattle.rd_tree.specs.Document.{Document, BoxKey, Item, BoxForest, IsRooted}
 use Rattle.rd_tree.specs.Limits.{FitsScroll}
@@ -33,7 +33,7 @@ root_out t r a k =
     ])
 
 -- How far what is handed to a box may be, and how many levels are below it.
-pub row_level : (rows : List Handed) (root : BoxKey) (n : ℕ) (h : Handed) (f : BoxForest) → IsWithin n h → AllItems (λ d. FitsScroll d.scroll) f → AreHanded rows root h f → IsApart same_key f
+pub row_level : (rows : List ScrollSums) (root : BoxKey) (n : ℕ) (h : ScrollSums) (f : BoxForest) → IsWithin n h → AllItems (λ d. FitsScroll d.scroll) f → AreHanded rows root h f → IsApart same_key f
     → (k : BoxKey) → has same_key k f ≡ true → (m : ℕ) × IsWithin m (hand_at rows k) × (m + (1 + height (children same_key k f)) ≤ n + height f)
 row_level rows root n h empty w s r a k m = absurd (never false m refl)
 row_level rows root n h (tree i e low rest) w s r a k m =
@@ -56,7 +56,7 @@ row_level rows root n h (tree i e low rest) w s r a k m =
     ]
 
 -- One box changes in place, with some boxes marked.
-module _ (t : Document) (rows : List Handed) (told : IsTold t) (right : AreHanded rows t.root unhanded t.boxes) (k : BoxKey) (e : Item → Item) (q : BoxKey → Bool) where
+module _ (t : Document) (rows : List ScrollSums) (told : IsTold t) (right : AreHanded rows t.root unhanded t.boxes) (k : BoxKey) (e : Item → Item) (q : BoxKey → Bool) where
   abbrev edits : BoxForest
   edits = map_where q touch (at_box same_key k e t.boxes)
 
@@ -80,7 +80,7 @@ module _ (t : Document) (rows : List Handed) (told : IsTold t) (right : AreHande
       ap (item_of same_key k) (where-by q touch (at_box same_key k e t.boxes))
       ∙ (item-by (λ i d. cond (q i) (touch d) d) same_key same_key-sound k (at_box same_key k e t.boxes) ∙ ap (option_map (λ d. cond (q k) (touch d) d)) a)
 
-  pub item_is : (d : Item) → item_of same_key k t.boxes ≡ Some d → (h : Handed) → passed_from (same_key k t.root) h (item_of same_key k edits) ≡ entered (same_key k t.root) (e d).style (e d).scroll h
+  pub item_is : (d : Item) → item_of same_key k t.boxes ≡ Some d → (h : ScrollSums) → passed_from (same_key k t.root) h (item_of same_key k edits) ≡ entered (same_key k t.root) (e d).style (e d).scroll h
   item_is d v h = ap (passed_from (same_key k t.root) h) (item_then d v) ∙ by (q k) where
     by : (c : Bool) → entered (same_key k t.root) (cond c (touch (e d)) (e d)).style (cond c (touch (e d)) (e d)).scroll h ≡ entered (same_key k t.root) (e d).style (e d).scroll h
     by true = refl
@@ -90,7 +90,7 @@ module _ (t : Document) (rows : List Handed) (told : IsTold t) (right : AreHande
   pub below_then : has same_key k t.boxes ≡ true → IsHandedDown rows (passed_from (same_key k t.root) (hand_at rows k) (item_of same_key k t.boxes)) (children same_key k edits)
   below_then m j u =
       let w : (d : Item) × (item_of same_key k t.boxes ≡ Some d) = there k t.boxes m in
-      let h : Handed = passed_from (same_key k t.root) (hand_at rows k) (item_of same_key k t.boxes) in
+      let h : ScrollSums = passed_from (same_key k t.root) (hand_at rows k) (item_of same_key k t.boxes) in
       let v : has same_key j low ≡ true = sym (has-each q touch same_key j low) ∙ (sym (ap (has same_key j) below_is) ∙ u) in
       handed_is rows t.root (inside_of rows t.root k w.0) low (apart_children same_key same_key-sound same_key-refl k t.boxes told.apart) (root_out t told.rooted told.apart k)
       (handed_children rows t.root unhanded k w.0 t.boxes told.apart w.1 right) j v
@@ -98,7 +98,7 @@ module _ (t : Document) (rows : List Handed) (told : IsTold t) (right : AreHande
       ∙ (sym (marked_to q j h low) ∙ ap (handed_to j h) (sym below_is)))
 
   -- The rows are right once what follows is handed down.
-  pub right_then : (last : List Handed) (inside : Handed) → inside ≡ passed_from (same_key k t.root) (hand_at rows k) (item_of same_key k edits)
+  pub right_then : (last : List ScrollSums) (inside : ScrollSums) → inside ≡ passed_from (same_key k t.root) (hand_at rows k) (item_of same_key k edits)
       → ((i : BoxKey) → has same_key i edits ≡ true → hand_at last i
       ≡ cond (same_key i k) (hand_at rows k) (cond (has same_key i (children same_key k edits)) (handed_to i inside (children same_key k edits)) (hand_at rows i)))
       → AreHanded last t.root unhanded edits
@@ -114,7 +114,7 @@ module _ (t : Document) (rows : List Handed) (told : IsTold t) (right : AreHande
       (handed_down last t.root inside low (apart_children same_key same_key-sound same_key-refl k t.boxes told.apart) (root_out t told.rooted told.apart k)
       (λ j u. all j (in_children same_key same_key-sound same_key-refl j k t.boxes u)
       ∙ rw (differs same_key same_key-sound same_key-refl low j k u (not_own same_key same_key-sound same_key-refl k t.boxes told.apart), u) refl)))) where
-        outer : (x y : Bool) (j : BoxKey) → y ≡ false → (x ≡ true → hand_at rows k ≡ hand_at rows j) → (inside : Handed)
+        outer : (x y : Bool) (j : BoxKey) → y ≡ false → (x ≡ true → hand_at rows k ≡ hand_at rows j) → (inside : ScrollSums)
             → cond x (hand_at rows k) (cond y (handed_to j inside low) (hand_at rows j)) ≡ hand_at rows j
         outer true y j o s inside = s refl
         outer false true j o s inside = cc (o)

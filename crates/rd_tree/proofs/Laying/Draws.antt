@@ -3,7 +3,7 @@ use Rattle.std.proofs.Common.{◌≡◌, refl, ap, ◌∙◌, sym, subst, ◌+�
 use Rattle.std.specs.Prelude.{◌+ℤ◌, Option, Some, None}
 use Rattle.rd_keys.specs.Keys.{same_key}
 use Rattle.rd_keys.proofs.Keys.{same_key-sound, same_key-refl}
-use Rattle.rd_tree.specs.declared.handed.Handed.{Handed}
+use Rattle.rd_tree.specs.declared.handed.ScrollSums.{ScrollSums}
 use Rattle.rd_tree.specs.declared.scroll.Scroll.{Scroll}
 use Rattle.rd_tree.specs.Forest.{empty, tree, has, height, item_of, children, map_where, at_box, AllItems, IsApart}
 use Rattle.rd_tree.specs.Document.{Document, BoxKey, Item, BoxForest, contains, AllFit}
@@ -32,12 +32,12 @@ module _ (g : BoxKey → Item → Item) (stays : (k : BoxKey) (d : Item) → (g 
   scrolls_by empty a = tt
   scrolls_by (tree k d low rest) a = (subst FitsScroll (sym (stays k d)) a.0, scrolls_by low a.1, scrolls_by rest a.2)
 
-  pub can_hand_by : (h : Handed) (f : BoxForest) → CanHand h f → CanHand h (each_by g f)
+  pub can_hand_by : (h : ScrollSums) (f : BoxForest) → CanHand h f → CanHand h (each_by g f)
   can_hand_by h f c =
       let n : height (each_by g f) ≡ height f = height-by g f in
       record { levels = c.levels; within = c.within; shallow = omega (arith, n, c.shallow); scrolls = scrolls_by f c.scrolls }
 
-  pub handed_to-by : ((k : BoxKey) (d : Item) → (g k d).style ≡ d.style) → (j : BoxKey) (h : Handed) (f : BoxForest) → handed_to j h (each_by g f) ≡ handed_to j h f
+  pub handed_to-by : ((k : BoxKey) (d : Item) → (g k d).style ≡ d.style) → (j : BoxKey) (h : ScrollSums) (f : BoxForest) → handed_to j h (each_by g f) ≡ handed_to j h f
   handed_to-by keeps j h empty = refl
   handed_to-by keeps j h (tree i d low rest) =
       let p : passed h (g i d) ≡ passed h d = (λ x. passed h (record (g i d) { style = keeps i d x; scroll = stays i d x })) in
@@ -50,7 +50,7 @@ module _ (g : BoxKey → Item → Item) (stays : (k : BoxKey) (d : Item) → (g 
       ]
 
 -- Marks change nothing of what is handed down,
-pub marked_to : (q : BoxKey → Bool) (j : BoxKey) (h : Handed) (f : BoxForest) → handed_to j h (map_where q touch f) ≡ handed_to j h f
+pub marked_to : (q : BoxKey → Bool) (j : BoxKey) (h : ScrollSums) (f : BoxForest) → handed_to j h (map_where q touch f) ≡ handed_to j h f
 marked_to q j h f = ap (handed_to j h) (where-by q touch f)
     ∙ handed_to-by (λ i d. cond (q i) (touch d) d) (λ i d. scroll_at (q i) d) (λ i d. style_at (q i) d) j h f where
       scroll_at : (b : Bool) (d : Item) → (cond b (touch d) d).scroll ≡ d.scroll
@@ -67,7 +67,7 @@ pub marked_low : (q : BoxKey → Bool) (e : Item → Item) (k : BoxKey) (f : Box
 marked_low q e k f a = children-each q touch same_key k (at_box same_key k e f) ∙ ap (map_where q touch) (box_kept e k f a)
 
 -- Boxes within the limits have such scroll offsets.
-scrolls_relaid : (rows : List Handed) (k : BoxKey) (old : Scroll) (f : BoxForest) → AllFit (relaid rows k old f) → AllItems (λ d. FitsScroll d.scroll) f
+scrolls_relaid : (rows : List ScrollSums) (k : BoxKey) (old : Scroll) (f : BoxForest) → AllFit (relaid rows k old f) → AllItems (λ d. FitsScroll d.scroll) f
 scrolls_relaid rows k old empty h = tt
 scrolls_relaid rows k old (tree i d low rest) h = (one (same_key i k) h.4, scrolls_relaid rows k old low h.2, scrolls_relaid rows k old rest h.3) where
   one : (b : Bool) → FitsScroll (cond b (with_rect (record d.rect { x = d.rect.x +ℤ old.x; y = d.rect.y +ℤ old.y }) d) (laid_at (hand_at rows i) d)).scroll → FitsScroll d.scroll
@@ -75,7 +75,7 @@ scrolls_relaid rows k old (tree i d low rest) h = (one (same_key i k) h.4, scrol
   one false w = w
 
 -- A box that is drawn elsewhere keeps its style and its scroll offset.
-module _ (t : Document) (rows : List Handed) (k : BoxKey) (old : Scroll) (own : Handed) where
+module _ (t : Document) (rows : List ScrollSums) (k : BoxKey) (old : Scroll) (own : ScrollSums) where
   abbrev pub how : BoxKey → Item → Item
   how j d = cond (same_key j k) (drawn_far old (own_from own (item_of same_key k t.boxes)) d) (cond (has same_key j (children same_key k t.boxes))
       (redrawn (hand_at rows j) (handed_to j (passed_from (same_key k t.root) own (item_of same_key k t.boxes)) (children same_key k t.boxes)) d) d)
@@ -96,14 +96,14 @@ module _ (t : Document) (rows : List Handed) (k : BoxKey) (old : Scroll) (own : 
     by false true = refl
     by false false = refl
 
-module _ (t : Document) (rows : List Handed) (k : BoxKey) (old : Scroll) (own : Handed) (told : IsTold t) (c : CanDraw t rows k old own) (m : contains t k ≡ true) where
+module _ (t : Document) (rows : List ScrollSums) (k : BoxKey) (old : Scroll) (own : ScrollSums) (told : IsTold t) (c : CanDraw t rows k old own) (m : contains t k ≡ true) where
   abbrev low : BoxForest
   low = children same_key k t.boxes
 
   abbrev new : Scroll
   new = own_from own (item_of same_key k t.boxes)
 
-  abbrev inside : Handed
+  abbrev inside : ScrollSums
   inside = passed_from (same_key k t.root) own (item_of same_key k t.boxes)
 
   scrolls : AllItems (λ d. FitsScroll d.scroll) t.boxes

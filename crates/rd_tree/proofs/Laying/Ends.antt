@@ -6,7 +6,7 @@ use Rattle.rd_style.specs.Limits.{Fits}
 use Rattle.rd_style.specs.declared.styles.StyleChange.{StyleChange}
 use Rattle.rd_keys.specs.Keys.{same_key}
 use Rattle.rd_keys.proofs.Keys.{same_key-sound}
-use Rattle.rd_tree.specs.declared.handed.Handed.{Handed}
+use Rattle.rd_tree.specs.declared.handed.ScrollSums.{ScrollSums}
 use Rattle.rd_tree.specs.declared.scroll.Scroll.{Scroll}
 use Rattle.rd_tree.specs.Forest.{has, height, item_of, children, map_where, at_box, IsApart}
 use Rattle.rd_tree.specs.Document.{Document, BoxKey, Item, BoxForest, contains, AllFit}
@@ -27,18 +27,18 @@ use Rattle.rd_tree.proofs.Laying.Results.{again-laid, scrolled-relaid, styled-re
 use Rattle.rd_tree.proofs.Laying.Done.{row_level, below_levels, below_then, right_then}
 
 -- What drawing a box elsewhere leaves of a tree and of the table.
-pub record IsRedrawn (u v : Document) (rows last : List Handed) (k : BoxKey) (old : Scroll) (own : Handed) : Type 0 where
+pub record IsRedrawn (u v : Document) (rows last : List ScrollSums) (k : BoxKey) (old : Scroll) (own : ScrollSums) : Type 0 where
   pub drawn : v ≡ record u { boxes = drawn_again rows k old (own_from own (item_of same_key k u.boxes)) (passed_from (same_key k u.root) own (item_of same_key k u.boxes)) u.boxes }
   pub handed : (i : BoxKey) → contains u i ≡ true → hand_at last i
       ≡ cond (same_key i k) own (cond (has same_key i (children same_key k u.boxes)) (handed_to i (passed_from (same_key k u.root) own (item_of same_key k u.boxes)) (children same_key k u.boxes)) (hand_at rows i))
   pub same_length : length last ≡ length rows
 
 -- Where the rows are right and the boxes are laid out as they are to be, all is kept.
-pub ends : (u v : Document) (rows last : List Handed) (k : BoxKey) (old : Scroll) (own : Handed) (w : BoxForest) → IsRedrawn u v rows last k old own → IsApart same_key u.boxes → IsTold v
+pub ends : (u v : Document) (rows last : List ScrollSums) (k : BoxKey) (old : Scroll) (own : ScrollSums) (w : BoxForest) → IsRedrawn u v rows last k old own → IsApart same_key u.boxes → IsTold v
     → length u.slots ≤ length rows → AreHanded last u.root unhanded u.boxes → relaid rows k old u.boxes ≡ w → AllFit w
     → IsHanding v last × (laid_tree last v ≡ record u { boxes = w })
 ends u v rows last k old own w d a told n right rel fit =
-    let inside : Handed = passed_from (same_key k u.root) own (item_of same_key k u.boxes) in
+    let inside : ScrollSums = passed_from (same_key k u.root) own (item_of same_key k u.boxes) in
     let boxes : laid_by last (drawn_again rows k old (own_from own (item_of same_key k u.boxes)) inside u.boxes) ≡ w = again-laid rows last k old own inside u.boxes a d.handed ∙ rel in
     let same : laid_tree last v ≡ record u { boxes = w } = ap (laid_tree last) d.drawn ∙ ap (λ f. record u { boxes = f }) boxes in
     let then : AreHanded last u.root unhanded (drawn_again rows k old (own_from own (item_of same_key k u.boxes)) inside u.boxes) =
@@ -49,7 +49,7 @@ ends u v rows last k old own w d a told n right rel fit =
     )
 
 -- A change in place.
-module _ (t : Document) (rows : List Handed) (told : IsTold t) (h : IsHanding t rows) (k : BoxKey) (m : contains t k ≡ true) (e : Item → Item) (q : BoxKey → Bool) (old : Scroll) (w : BoxForest)
+module _ (t : Document) (rows : List ScrollSums) (told : IsTold t) (h : IsHanding t rows) (k : BoxKey) (m : contains t k ≡ true) (e : Item → Item) (q : BoxKey → Bool) (old : Scroll) (w : BoxForest)
     (rel : relaid rows k old (map_where q touch (at_box same_key k e t.boxes)) ≡ w) (fit : AllFit w) where
   abbrev then : Document
   then = record t { boxes = map_where q touch (at_box same_key k e t.boxes) }
@@ -78,12 +78,12 @@ module _ (t : Document) (rows : List Handed) (told : IsTold t) (h : IsHanding t 
   pub in_place_below : IsHandedDown rows (passed_from (same_key k t.root) (hand_at rows k) (item_of same_key k t.boxes)) (children same_key k then.boxes)
   in_place_below = below_then t rows told h.right k e q m
 
-  pub in_place_done : (v : Document) (last : List Handed) → IsRedrawn then v rows last k old (hand_at rows k) → IsTold v → IsHanding v last × (laid_tree last v ≡ record t { boxes = w })
+  pub in_place_done : (v : Document) (last : List ScrollSums) → IsRedrawn then v rows last k old (hand_at rows k) → IsTold v → IsHanding v last × (laid_tree last v ≡ record t { boxes = w })
   in_place_done v last d told2 = ends then v rows last k old (hand_at rows k) w d apart_then told2 h.all_rows
       (right_then t rows told h.right k e q last (passed_from (same_key k t.root) (hand_at rows k) (item_of same_key k then.boxes)) refl d.handed) rel fit
 
 -- A scroll offset and a style.
-module _ (t : Document) (rows : List Handed) (told : IsTold t) (h : IsHanding t rows) (k : BoxKey) (m : contains t k ≡ true) (old : Scroll) (o : old ≡ own_from (hand_at rows k) (item_of same_key k t.boxes)) where
+module _ (t : Document) (rows : List ScrollSums) (told : IsTold t) (h : IsHanding t rows) (k : BoxKey) (m : contains t k ≡ true) (old : Scroll) (o : old ≡ own_from (hand_at rows k) (item_of same_key k t.boxes)) where
   laid_apart : IsApart same_key (laid_by rows t.boxes)
   laid_apart = apart_by _ same_key t.boxes told.apart
 
@@ -91,7 +91,7 @@ module _ (t : Document) (rows : List Handed) (told : IsTold t) (h : IsHanding t 
   scroll_can s f = in_place_can t rows told h k m (with_scroll s) (touched_by (scrolling k s) t) old (edited (scrolling k s) (laid_tree rows t)).boxes (scrolled-relaid rows t told.apart k old o s)
       (fit_scrolled (laid_tree rows t) h.fits laid_apart k s f)
 
-  pub scroll_done : (s : Scroll) → FitsScroll s → (v : Document) (last : List Handed) → IsRedrawn (edited (scrolling k s) t) v rows last k old (hand_at rows k) → IsTold v
+  pub scroll_done : (s : Scroll) → FitsScroll s → (v : Document) (last : List ScrollSums) → IsRedrawn (edited (scrolling k s) t) v rows last k old (hand_at rows k) → IsTold v
       → IsHanding v last × (laid_tree last v ≡ edited (scrolling k s) (laid_tree rows t))
   scroll_done s f v last d told2 = in_place_done t rows told h k m (with_scroll s) (touched_by (scrolling k s) t) old (edited (scrolling k s) (laid_tree rows t)).boxes (scrolled-relaid rows t told.apart k old o s)
       (fit_scrolled (laid_tree rows t) h.fits laid_apart k s f) v last d told2
@@ -104,7 +104,7 @@ module _ (t : Document) (rows : List Handed) (told : IsTold t) (h : IsHanding t 
   style_can c f = in_place_can t rows told h k m (restyle c) (touched_by (styling k c) t) old (edited (styling k c) (laid_tree rows t)).boxes (styled-relaid rows t told.apart k old o c)
       (fit_styled (laid_tree rows t) h.fits laid_apart k c f)
 
-  pub style_done : (c : StyleChange) → CanRestyle k c (laid_by rows t.boxes) → (v : Document) (last : List Handed) → IsRedrawn (edited (styling k c) t) v rows last k old (hand_at rows k) → IsTold v
+  pub style_done : (c : StyleChange) → CanRestyle k c (laid_by rows t.boxes) → (v : Document) (last : List ScrollSums) → IsRedrawn (edited (styling k c) t) v rows last k old (hand_at rows k) → IsTold v
       → IsHanding v last × (laid_tree last v ≡ edited (styling k c) (laid_tree rows t))
   style_done c f v last d told2 = in_place_done t rows told h k m (restyle c) (touched_by (styling k c) t) old (edited (styling k c) (laid_tree rows t)).boxes (styled-relaid rows t told.apart k old o c)
       (fit_styled (laid_tree rows t) h.fits laid_apart k c f) v last d told2
@@ -121,7 +121,7 @@ pub style_there : (t : Document) (k : BoxKey) (c : StyleChange) → contains t k
 style_there t k c m = has-each (touched_by (styling k c) t) touch same_key k (at_box same_key k (restyle c) t.boxes) ∙ (has-each (λ i. same_key i k) (restyle c) same_key k t.boxes ∙ m)
 
 -- A style that fits where a box is laid out fits where it is drawn.
-pub can_restyle : (rows : List Handed) (t : Document) (k : BoxKey) (c : StyleChange) → CanRestyle k c (laid_by rows t.boxes) → CanRestyle k c t.boxes
+pub can_restyle : (rows : List ScrollSums) (t : Document) (k : BoxKey) (c : StyleChange) → CanRestyle k c (laid_by rows t.boxes) → CanRestyle k c t.boxes
 can_restyle rows t k c w = at (item_of same_key k t.boxes) (subst (λ o. IfSome o (λ d. Fits (changed d.style c))) (item-by (λ j d. laid_at (hand_at rows j) d) same_key same_key-sound k t.boxes) w) where
   at : (o : Option Item) → IfSome (option_map (laid_at (hand_at rows k)) o) (λ d. Fits (changed d.style c)) → IfSome o (λ d. Fits (changed d.style c))
   at None h = tt

@@ -5,7 +5,7 @@ use Rattle.rd_geom.specs.Plane.{Rectangle}
 use Rattle.rd_style.specs.Limits.{FitsRect}
 use Rattle.rd_keys.specs.Keys.{same_key}
 use Rattle.rd_keys.proofs.Keys.{same_key-sound, same_key-refl}
-use Rattle.rd_tree.specs.declared.handed.Handed.{Handed}
+use Rattle.rd_tree.specs.declared.handed.ScrollSums.{ScrollSums}
 use Rattle.rd_tree.specs.declared.scroll.Scroll.{Scroll}
 use Rattle.rd_tree.specs.Figures.{max_depth}
 use Rattle.rd_tree.specs.Forest.{empty, tree, has, height, depth, item_of, children, without_branch, branch, map_where, at_box, in_subtree, keys, AllItems, IsApart}
@@ -42,11 +42,11 @@ pub within_none : (n : ℕ) → IsWithin n unhanded
 within_none n = record { flow = far_none n; absolute = far_none n }
 
 -- how far a box may be scrolled
-pub own_far : (own : Handed) (o : Option Item) → IsWithin 256 own → IsFar 256 (own_from own o)
+pub own_far : (own : ScrollSums) (o : Option Item) → IsWithin 256 own → IsFar 256 (own_from own o)
 own_far own None w = far_none 256
 own_far own (Some d) w = far_offset 256 own d.style.position w
 
-module _ (t : Document) (rows : List Handed) (k : IsTold t) (h : IsHanding t rows) where
+module _ (t : Document) (rows : List ScrollSums) (k : IsTold t) (h : IsHanding t rows) where
   pub has_hands : HasHands rows t.boxes
   has_hands j m = let s = k.keyed j m in omega (arith, s.0, h.all_rows)
 
@@ -65,14 +65,14 @@ there k (tree i d low rest) m =
       ]
     ]
 
-module _ (t : Document) (rows : List Handed) (k : IsTold t) (h : IsHanding t rows) (j : BoxKey) where
+module _ (t : Document) (rows : List ScrollSums) (k : IsTold t) (h : IsHanding t rows) (j : BoxKey) where
   pub scroll_here : ScrollFits (item_of same_key j t.boxes)
   scroll_here = at (item_of same_key j t.boxes) refl where
     at : (o : Option Item) → item_of same_key j t.boxes ≡ o → ScrollFits o
     at None e = tt
     at (Some d) e = all_item (λ d. FitsScroll d.scroll) same_key j d t.boxes (scrolls_fit rows t.boxes h.fits) e
 
-  pub passed_within : contains t j ≡ true → (q : Handed) → q ≡ passed_from (same_key j t.root) (hand_at rows j) (item_of same_key j t.boxes) → IsWithin (depth same_key j t.boxes) q
+  pub passed_within : contains t j ≡ true → (q : ScrollSums) → q ≡ passed_from (same_key j t.root) (hand_at rows j) (item_of same_key j t.boxes) → IsWithin (depth same_key j t.boxes) q
   passed_within m q e =
       let w : (d : Item) × (item_of same_key j t.boxes ≡ Some d) = there j t.boxes m in
       let n : 0 + depth same_key j t.boxes ≡ depth same_key j t.boxes = omega arith in
@@ -81,11 +81,11 @@ module _ (t : Document) (rows : List Handed) (k : IsTold t) (h : IsHanding t row
       subst (λ z. IsWithin (depth same_key j t.boxes) z) (sym (e ∙ ap (passed_from (same_key j t.root) (hand_at rows j)) w.1)) (subst (λ z. IsWithin z (inside_of rows t.root j w.0)) n x)
 
 -- The parts of what is kept.
-pub handing : (t : Document) (rows : List Handed) → IsRooted t → IsApart same_key t.boxes → length t.slots ≤ length rows → AreHanded rows t.root unhanded t.boxes → AllFit (laid_by rows t.boxes)
+pub handing : (t : Document) (rows : List ScrollSums) → IsRooted t → IsApart same_key t.boxes → length t.slots ≤ length rows → AreHanded rows t.root unhanded t.boxes → AllFit (laid_by rows t.boxes)
     → IsHanding t rows
 handing t rows r a n w f = record { all_rows = n; right = w; fits = f; is_drawn = is-drawn rows t r a w }
 
-module _ (t u : Document) (rows : List Handed) (k : IsTold t) (h : IsHanding t rows) (r : IsRooted u) (a : IsApart same_key u.boxes) where
+module _ (t u : Document) (rows : List ScrollSums) (k : IsTold t) (h : IsHanding t rows) (r : IsRooted u) (a : IsApart same_key u.boxes) where
   laid_apart : IsApart same_key (laid_by rows t.boxes)
   laid_apart = apart_by _ same_key t.boxes k.apart
 
@@ -154,7 +154,7 @@ is_there j d (tree i e low rest) v =
     ]
 
 -- Boxes that are within the limits once they are shifted are near then.
-module _ (t : Document) (rows : List Handed) (k : IsTold t) (h : IsHanding t rows) (j : BoxKey) (dx dy : ℤ) where
+module _ (t : Document) (rows : List ScrollSums) (k : IsTold t) (h : IsHanding t rows) (j : BoxKey) (dx dy : ℤ) where
   near_one : (i : BoxKey) (d : Item) → IsWithin 256 (hand_at rows i) → FitsRect (shifted dx dy (laid_at (hand_at rows i) d).rect) → IsNear (shifted dx dy d.rect)
   near_one i d w f =
       let o : Scroll = offset_in (hand_at rows i) d.style.position in
@@ -182,5 +182,5 @@ module _ (t : Document) (rows : List Handed) (k : IsTold t) (h : IsHanding t row
         one (Some d) e f = near_one j d (all_within t rows k h j (is_there j d t.boxes e)) f
 
 -- A table with the same rows.
-pub same_rows : (t : Document) (rows next : List Handed) → next ≡ rows → IsHanding t rows → IsHanding t next
+pub same_rows : (t : Document) (rows next : List ScrollSums) → next ≡ rows → IsHanding t rows → IsHanding t next
 same_rows t rows next e h = subst (IsHanding t) (sym e) h

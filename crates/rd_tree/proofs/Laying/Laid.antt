@@ -5,7 +5,7 @@ use Rattle.std.specs.Prelude.{◌+ℤ◌, ◌-ℤ◌, Option, Some}
 use Rattle.rd_geom.specs.Plane.{Rectangle, no_pixels}
 use Rattle.rd_keys.specs.Keys.{same_key}
 use Rattle.rd_keys.proofs.Keys.{same_key-sound, same_key-refl}
-use Rattle.rd_tree.specs.declared.handed.Handed.{Handed}
+use Rattle.rd_tree.specs.declared.handed.ScrollSums.{ScrollSums}
 use Rattle.rd_tree.specs.declared.scroll.Scroll.{Scroll}
 use Rattle.rd_tree.specs.Forest.{empty, tree, item_of, children, with_children, insert_among, without_branch, branch, map_where, at_box, in_subtree, keys, IsApart}
 use Rattle.rd_tree.specs.Document.{Document, BoxKey, Item, BoxForest, with_child, with_all_left}
@@ -18,7 +18,7 @@ use Rattle.rd_tree.specs.Internal.Laid.{laid_at, laid_by, laid_tree}
 use Rattle.rd_tree.proofs.Forests.ByKey.{keys-by, children-by, among-by, with_children-by, branch-by, without_branch-by, by-where, by-map, map-by, by_found}
 use Rattle.rd_tree.proofs.Contexts.Alike.{plain, insertion-touches, removal-touches, moving-touches, placing-touches, shifting-touches, scrolling-touches}
 
-module _ (rows : List Handed) where
+module _ (rows : List ScrollSums) where
   abbrev lay : BoxKey → Item → Item
   lay k d = laid_at (hand_at rows k) d
 
@@ -27,7 +27,7 @@ module _ (rows : List Handed) where
   plain-laid (tree k d below rest) = λ i. tree k (with_rect no_pixels d) (plain-laid below i) (plain-laid rest i)
 
   -- items that change so that where they are laid out follows
-  pub where-laid : (q : BoxKey → Bool) (x y : Item → Item) → ((h : Handed) (d : Item) → laid_at h (x d) ≡ y (laid_at h d)) → (f : BoxForest)
+  pub where-laid : (q : BoxKey → Bool) (x y : Item → Item) → ((h : ScrollSums) (d : Item) → laid_at h (x d) ≡ y (laid_at h d)) → (f : BoxForest)
       → laid_by rows (map_where q x f) ≡ map_where q y (laid_by rows f)
   where-laid q x y e f = by-where q x y lay lay (λ k d. one (q k) k d) f where
     one : (b : Bool) (k : BoxKey) (d : Item) → lay k (cond b (x d) d) ≡ cond b (y (lay k d)) (lay k d)
@@ -102,7 +102,7 @@ module _ (rows : List Handed) where
           swap : (x d o : ℤ) → (x +ℤ d) +ℤ o ≡ (x +ℤ o) +ℤ d
           swap x d o = omega (arith, ints)
 
-          further : (h : Handed) (d : Item) → laid_at h (shift_item dx dy d) ≡ shift_item dx dy (laid_at h d)
+          further : (h : ScrollSums) (d : Item) → laid_at h (shift_item dx dy d) ≡ shift_item dx dy (laid_at h d)
           further h d = λ i. with_rect (record d.rect {
             x = swap d.rect.x dx (offset_in h d.style.position).x i;
             y = swap d.rect.y dy (offset_in h d.style.position).y i;

@@ -3,7 +3,7 @@ use Rattle.std.proofs.Common.{◌≡◌, refl, ap, ◌∙◌, sym, subst, ℕ, �
 use Rattle.std.specs.Prelude.{Option, Some, option_map}
 use Rattle.rd_keys.specs.Keys.{same_key}
 use Rattle.rd_keys.proofs.Keys.{same_key-sound, same_key-refl}
-use Rattle.rd_tree.specs.declared.handed.Handed.{Handed}
+use Rattle.rd_tree.specs.declared.handed.ScrollSums.{ScrollSums}
 use Rattle.rd_tree.specs.declared.scroll.Scroll.{Scroll}
 use Rattle.rd_tree.specs.Figures.{max_depth}
 use Rattle.rd_tree.specs.Forest.{empty, tree, has, height, depth, item_of, children, with_children, insert_among, without_branch, branch, map_where, in_subtree, IsApart, IsPlaceIn}
@@ -32,9 +32,9 @@ use Rattle.rd_tree.proofs.Laying.Done.{root_out}
 use Rattle.rd_tree.proofs.Laying.Ends.{IsRedrawn, ends}
 use Rattle.rd_tree.proofs.Laying.Moves.{Stands, stands_among, stands_under, among_has, item-without}
 
-module _ (t : Document) (rows : List Handed) (told : IsTold t) (h : IsHanding t rows) (k p : BoxKey) (before : Option BoxKey) (m : contains t k ≡ true) (other : same_key k t.root ≡ false)
+module _ (t : Document) (rows : List ScrollSums) (told : IsTold t) (h : IsHanding t rows) (k p : BoxKey) (before : Option BoxKey) (m : contains t k ≡ true) (other : same_key k t.root ≡ false)
     (mp : contains t p ≡ true) (outside : in_subtree same_key p k t.boxes ≡ false) (place : IsPlaceIn same_key before (children same_key p t.boxes)) (apart : before ≡ Some k → ⊥)
-    (own : Handed) (is : own ≡ passed_from (same_key p t.root) (hand_at rows p) (item_of same_key p t.boxes)) where
+    (own : ScrollSums) (is : own ≡ passed_from (same_key p t.root) (hand_at rows p) (item_of same_key p t.boxes)) where
   abbrev f : BoxForest
   f = t.boxes
 
@@ -91,7 +91,7 @@ module _ (t : Document) (rows : List Handed) (told : IsTold t) (h : IsHanding t 
   below_u : children same_key k u.boxes ≡ map_where marks touch low
   below_u = children-each marks touch same_key k then ∙ ap (map_where marks touch) stands.below
 
-  item_u : (x : Handed) → passed_from (same_key k t.root) x (item_of same_key k u.boxes) ≡ entered (same_key k t.root) branch_is.0.style branch_is.0.scroll x
+  item_u : (x : ScrollSums) → passed_from (same_key k t.root) x (item_of same_key k u.boxes) ≡ entered (same_key k t.root) branch_is.0.style branch_is.0.scroll x
   item_u x =
       let b : item_of same_key k u.boxes ≡ Some (cond (marks k) (touch branch_is.0) branch_is.0) =
       ap (item_of same_key k) (where-by marks touch then)
@@ -102,7 +102,7 @@ module _ (t : Document) (rows : List Handed) (told : IsTold t) (h : IsHanding t 
         by true = refl
         by false = refl
 
-  marked_to : (j : BoxKey) (x : Handed) → handed_to j x (map_where marks touch low) ≡ handed_to j x low
+  marked_to : (j : BoxKey) (x : ScrollSums) → handed_to j x (map_where marks touch low) ≡ handed_to j x low
   marked_to j x = ap (handed_to j x) (where-by marks touch low)
       ∙ handed_to-by (λ i d. cond (marks i) (touch d) d) (λ i d. scroll_at (marks i) d) (λ i d. style_at (marks i) d) j x low where
         scroll_at : (b : Bool) (d : Item) → (cond b (touch d) d).scroll ≡ d.scroll
@@ -116,7 +116,7 @@ module _ (t : Document) (rows : List Handed) (told : IsTold t) (h : IsHanding t 
   pub move_below : IsHandedDown rows (passed_from (same_key k t.root) (hand_at rows k) (item_of same_key k f)) (children same_key k u.boxes)
   move_below j v =
       let w : (d : Item) × (item_of same_key k f ≡ Some d) = there k f m in
-      let x : Handed = passed_from (same_key k t.root) (hand_at rows k) (item_of same_key k f) in
+      let x : ScrollSums = passed_from (same_key k t.root) (hand_at rows k) (item_of same_key k f) in
       let n : has same_key j low ≡ true = sym (has-each marks touch same_key j low) ∙ (sym (ap (has same_key j) below_u) ∙ v) in
       handed_is rows t.root (inside_of rows t.root k w.0) low (apart_children same_key same_key-sound same_key-refl k f told.apart) (root_out t told.rooted told.apart k)
       (handed_children rows t.root unhanded k w.0 f told.apart w.1 h.right) j n
@@ -140,11 +140,11 @@ module _ (t : Document) (rows : List Handed) (told : IsTold t) (h : IsHanding t 
   move_there = has-each marks touch same_key k then ∙ (has_then k ∙ from_right (has same_key k g) (has same_key k (branch same_key k f))
       (ap (has same_key k) branch_is.1 ∙ from_left (same_key k k) (has same_key k low || false) (same_key-refl k)))
 
-  pub move_right : (last : List Handed) → ((i : BoxKey) → contains u i ≡ true → hand_at last i
+  pub move_right : (last : List ScrollSums) → ((i : BoxKey) → contains u i ≡ true → hand_at last i
       ≡ cond (same_key i k) own (cond (has same_key i (children same_key k u.boxes)) (handed_to i (passed_from (same_key k t.root) own (item_of same_key k u.boxes)) (children same_key k u.boxes)) (hand_at rows i)))
       → AreHanded last t.root unhanded u.boxes
   move_right last hands =
-      let inside : Handed = passed_from (same_key k t.root) own (item_of same_key k u.boxes) in
+      let inside : ScrollSums = passed_from (same_key k t.root) own (item_of same_key k u.boxes) in
       let all : (i : BoxKey) → has same_key i then ≡ true → hand_at last i ≡ cond (same_key i k) own (cond (has same_key i low) (handed_to i inside low) (hand_at rows i)) =
       λ i v. hands i (has-each marks touch same_key i then ∙ v)
       ∙ (ap (λ z. cond (same_key i k) own (cond (has same_key i z) (handed_to i inside z) (hand_at rows i))) below_u
@@ -172,7 +172,7 @@ module _ (t : Document) (rows : List Handed) (told : IsTold t) (h : IsHanding t 
       (at_k, subst (λ z. AreHanded last t.root (entered (same_key k t.root) branch_is.0.style branch_is.0.scroll z) low) refl below, tt)))
       (handed_children last t.root unhanded p d g (apart_without same_key same_key-sound same_key-refl k f told.apart) v gr)))
 
-  pub move_done : (old : Scroll) → old ≡ own_from (hand_at rows k) (item_of same_key k f) → IsApart same_key u.boxes → (v : Document) (last : List Handed) → IsRedrawn u v rows last k old own → IsTold v
+  pub move_done : (old : Scroll) → old ≡ own_from (hand_at rows k) (item_of same_key k f) → IsApart same_key u.boxes → (v : Document) (last : List ScrollSums) → IsRedrawn u v rows last k old own → IsTold v
       → IsHanding v last × (laid_tree last v ≡ edited (moving k p before) (laid_tree rows t))
   move_done old o a v last d told2 = ends u v rows last k old own (edited (moving k p before) (laid_tree rows t)).boxes d a told2 h.all_rows (move_right last d.handed)
       (moved-relaid rows t told.apart k old o p before) (fit_moved (laid_tree rows t) h.fits k p before)

@@ -7,7 +7,7 @@ use Rattle.rd_style.specs.Limits.{FitsRect, Fits}
 use Rattle.rd_style.proofs.Bounds.{RectBounds, fits_rect-open}
 use Rattle.rd_keys.specs.Keys.{same_key}
 use Rattle.rd_keys.proofs.Keys.{same_key-sound, same_key-refl}
-use Rattle.rd_tree.specs.declared.handed.Handed.{Handed}
+use Rattle.rd_tree.specs.declared.handed.ScrollSums.{ScrollSums}
 use Rattle.rd_tree.specs.declared.scroll.Scroll.{Scroll}
 use Rattle.rd_tree.specs.Forest.{empty, tree, has, height, children, AllItems, IsApart}
 use Rattle.rd_tree.specs.Document.{BoxKey, Item, BoxForest, AllFit}
@@ -47,7 +47,7 @@ all_near empty h = tt
 all_near (tree k d low rest) h = (h.0.0, h.0.1, all_near low h.1, all_near rest h.2)
 
 -- Boxes that are laid out within the limits have scroll offsets within them.
-pub scrolls_fit : (rows : List Handed) (f : BoxForest) → AllFit (laid_by rows f) → AllItems (λ d. FitsScroll d.scroll) f
+pub scrolls_fit : (rows : List ScrollSums) (f : BoxForest) → AllFit (laid_by rows f) → AllItems (λ d. FitsScroll d.scroll) f
 scrolls_fit rows empty h = tt
 scrolls_fit rows (tree k d low rest) h = (h.4, scrolls_fit rows low h.2, scrolls_fit rows rest h.3)
 
@@ -80,12 +80,12 @@ there_and_back : (x o : ℤ) → (x +ℤ o) -ℤ o ≡ x
 there_and_back x o = omega (arith, ints)
 
 -- a box by where it is laid out
-pub still-drawn : (h : Handed) (d : Item) → scrolled_by (offset_in h d.style.position) (laid_at h d).rect ≡ d.rect
+pub still-drawn : (h : ScrollSums) (d : Item) → scrolled_by (offset_in h d.style.position) (laid_at h d).rect ≡ d.rect
 still-drawn h d =
     λ i. record d.rect { x = there_and_back d.rect.x (offset_in h d.style.position).x i; y = there_and_back d.rect.y (offset_in h d.style.position).y i }
 
 -- What is handed to each box is within the limits.
-pub handed_within : (n : ℕ) (h : Handed) (f : BoxForest) → IsWithin n h → n + height f ≤ 256 → AllItems (λ d. FitsScroll d.scroll) f
+pub handed_within : (n : ℕ) (h : ScrollSums) (f : BoxForest) → IsWithin n h → n + height f ≤ 256 → AllItems (λ d. FitsScroll d.scroll) f
     → (k : BoxKey) → has same_key k f ≡ true → IsWithin 256 (handed_to k h f)
 handed_within n h empty w l s k m = absurd (never false m refl)
 handed_within n h (tree i e low rest) w l s k m =
@@ -98,7 +98,7 @@ handed_within n h (tree i e low rest) w l s k m =
     ]
 
 -- Boxes that are laid out within the limits can be drawn anew.
-pub can_redraw : (rows : List Handed) (n : ℕ) (h : Handed) (f : BoxForest) → IsWithin n h → n + height f ≤ 256 → AllFit (laid_by rows f) → AllWithin rows f → AllRedraw rows h f
+pub can_redraw : (rows : List ScrollSums) (n : ℕ) (h : ScrollSums) (f : BoxForest) → IsWithin n h → n + height f ≤ 256 → AllFit (laid_by rows f) → AllWithin rows f → AllRedraw rows h f
 can_redraw rows n h empty w l fit all = tt
 can_redraw rows n h (tree k d low rest) w l fit all = (
   record {
@@ -112,7 +112,7 @@ can_redraw rows n h (tree k d low rest) w l fit all = (
       (has same_key j rest) u))),
 )
 
-module _ (rows : List Handed) (k : BoxKey) (old new : Scroll) (h : Handed) (f : BoxForest) (a : IsApart same_key f) where
+module _ (rows : List ScrollSums) (k : BoxKey) (old new : Scroll) (h : ScrollSums) (f : BoxForest) (a : IsApart same_key f) where
   abbrev low : BoxForest
   low = children same_key k f
 

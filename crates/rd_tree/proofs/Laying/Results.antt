@@ -5,7 +5,7 @@ use Rattle.std.specs.Prelude.{◌+ℤ◌, ◌-ℤ◌, Option}
 use Rattle.rd_style.specs.declared.styles.StyleChange.{StyleChange}
 use Rattle.rd_keys.specs.Keys.{same_key}
 use Rattle.rd_keys.proofs.Keys.{same_key-sound, same_key-refl}
-use Rattle.rd_tree.specs.declared.handed.Handed.{Handed}
+use Rattle.rd_tree.specs.declared.handed.ScrollSums.{ScrollSums}
 use Rattle.rd_tree.specs.declared.scroll.Scroll.{Scroll}
 use Rattle.rd_tree.specs.Forest.{tree, has, item_of, children, with_children, insert_among, without_branch, branch, map_where, at_box, IsApart}
 use Rattle.rd_tree.specs.Document.{Document, BoxKey, Item, BoxForest}
@@ -23,7 +23,7 @@ there_and_back : (x o : ℤ) → (x -ℤ o) +ℤ o ≡ x
 there_and_back x o = omega (arith, ints)
 
 -- Where the table has what is handed to the boxes now, they are laid out where they were.
-pub again-laid : (rows last : List Handed) (k : BoxKey) (old : Scroll) (own inside : Handed) (f : BoxForest) → IsApart same_key f
+pub again-laid : (rows last : List ScrollSums) (k : BoxKey) (old : Scroll) (own inside : ScrollSums) (f : BoxForest) → IsApart same_key f
     → ((i : BoxKey) → has same_key i f ≡ true → hand_at last i ≡ cond (same_key i k) own (cond (has same_key i (children same_key k f)) (handed_to i inside (children same_key k f)) (hand_at rows i)))
     → laid_by last (drawn_again rows k old (own_from own (item_of same_key k f)) inside f) ≡ relaid rows k old f
 again-laid rows last k old own inside f a q =
@@ -49,7 +49,7 @@ again-laid rows last k old own inside f a q =
       one false false j d e = refl
 
 -- Before the edit the box was scrolled as far as its row says.
-pub relaid-laid : (rows : List Handed) (k : BoxKey) (old : Scroll) (f : BoxForest) → IsApart same_key f → old ≡ own_from (hand_at rows k) (item_of same_key k f) → relaid rows k old f ≡ laid_by rows f
+pub relaid-laid : (rows : List ScrollSums) (k : BoxKey) (old : Scroll) (f : BoxForest) → IsApart same_key f → old ≡ own_from (hand_at rows k) (item_of same_key k f) → relaid rows k old f ≡ laid_by rows f
 relaid-laid rows k old f a e =
     by_found same_key same_key-sound same_key-refl (relay rows k old) (λ j d. laid_at (hand_at rows j) d) f a
     (λ j d u v. one (same_key j k) j d (λ s. same_key-sound j k s) (λ s. e ∙ ap (own_from (hand_at rows k)) (ap (λ z. item_of same_key z f) (sym (same_key-sound j k s)) ∙ v))) where
@@ -60,7 +60,7 @@ relaid-laid rows k old f a e =
           let is : old ≡ offset_in (hand_at rows j) d.style.position = o refl ∙ ap (λ z. offset_in (hand_at rows z) d.style.position) (sym (n refl)) in
           λ i. with_rect (record d.rect { x = d.rect.x +ℤ (is i).x; y = d.rect.y +ℤ (is i).y }) d
 
-module _ (rows : List Handed) (t : Document) (a : IsApart same_key t.boxes) (k : BoxKey) (old : Scroll) (e : old ≡ own_from (hand_at rows k) (item_of same_key k t.boxes)) where
+module _ (rows : List ScrollSums) (t : Document) (a : IsApart same_key t.boxes) (k : BoxKey) (old : Scroll) (e : old ≡ own_from (hand_at rows k) (item_of same_key k t.boxes)) where
   abbrev lay : BoxKey → Item → Item
   lay = relay rows k old
 

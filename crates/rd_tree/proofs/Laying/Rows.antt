@@ -3,7 +3,7 @@ use Rattle.std.proofs.Common.{◌≡◌, refl, ap, ◌∙◌, sym, subst, ℕ, �
 use Rattle.std.specs.Prelude.{◌+ℤ◌, Option, Some, None}
 use Rattle.rd_keys.specs.Keys.{same_key}
 use Rattle.rd_keys.proofs.Keys.{same_key-sound, same_key-refl}
-use Rattle.rd_tree.specs.declared.handed.Handed.{Handed}
+use Rattle.rd_tree.specs.declared.handed.ScrollSums.{ScrollSums}
 use Rattle.rd_tree.specs.Forest.{empty, tree, ◌▷◌, has, depth, height, item_of, children, with_children, insert_before, insert_among, without_branch, map_where, at_box, AllItems, IsApart}
 use Rattle.rd_tree.specs.Document.{Document, BoxKey, Item, BoxForest, IsRooted}
 use Rattle.rd_tree.specs.Limits.{FitsScroll}
@@ -30,13 +30,13 @@ pub in_rest : (j k : BoxKey) (below rest : BoxForest) → same_key j k ≡ false
 in_rest j k below rest e u h = rw (e, u) at h
 
 -- what is handed to the children of a box of this item
-abbrev pub inside_of : List Handed → BoxKey → BoxKey → Item → Handed
+abbrev pub inside_of : List ScrollSums → BoxKey → BoxKey → Item → ScrollSums
 inside_of rows root p d = entered (same_key p root) d.style d.scroll (hand_at rows p)
 
-module _ (rows : List Handed) (root : BoxKey) where
+module _ (rows : List ScrollSums) (root : BoxKey) where
   -- items that keep their styles and scroll offsets
   pub handed_by : (g : BoxKey → Item → Item) → ((k : BoxKey) (d : Item) → (g k d).style ≡ d.style) → ((k : BoxKey) (d : Item) → (g k d).scroll ≡ d.scroll)
-      → (h : Handed) (f : BoxForest) → AreHanded rows root h f → AreHanded rows root h (each_by g f)
+      → (h : ScrollSums) (f : BoxForest) → AreHanded rows root h f → AreHanded rows root h (each_by g f)
   handed_by g keeps stays h empty a = tt
   handed_by g keeps stays h (tree k d below rest) a =
       let e : entered (same_key k root) d.style d.scroll h ≡ entered (same_key k root) (g k d).style (g k d).scroll h = λ i. entered (same_key k root) (sym (keeps k d) i) (sym (stays k d) i) h in (
@@ -46,7 +46,7 @@ module _ (rows : List Handed) (root : BoxKey) where
       )
 
   pub handed_where : (p : BoxKey → Bool) (x : Item → Item) → ((d : Item) → (x d).style ≡ d.style) → ((d : Item) → (x d).scroll ≡ d.scroll)
-      → (h : Handed) (f : BoxForest) → AreHanded rows root h f → AreHanded rows root h (map_where p x f)
+      → (h : ScrollSums) (f : BoxForest) → AreHanded rows root h f → AreHanded rows root h (map_where p x f)
   handed_where p x keeps stays h f a =
       subst (AreHanded rows root h) (sym (where-by p x f))
       (handed_by (λ k d. cond (p k) (x d) d) (λ k d. style_at (p k) d) (λ k d. scroll_at (p k) d) h f a) where
@@ -58,11 +58,11 @@ module _ (rows : List Handed) (root : BoxKey) where
         scroll_at true d = stays d
         scroll_at false d = refl
 
-  pub handed_join : (h : Handed) (f g : BoxForest) → AreHanded rows root h f → AreHanded rows root h g → AreHanded rows root h (f ▷ g)
+  pub handed_join : (h : ScrollSums) (f g : BoxForest) → AreHanded rows root h f → AreHanded rows root h g → AreHanded rows root h (f ▷ g)
   handed_join h empty g a b = b
   handed_join h (tree k d below rest) g a b = (a.0, a.1, handed_join h rest g a.2 b)
 
-  handed_before : (h : Handed) (j : BoxKey) (g f : BoxForest) → AreHanded rows root h g → AreHanded rows root h f → AreHanded rows root h (insert_before same_key j g f)
+  handed_before : (h : ScrollSums) (j : BoxKey) (g f : BoxForest) → AreHanded rows root h g → AreHanded rows root h f → AreHanded rows root h (insert_before same_key j g f)
   handed_before h j g empty a b = a
   handed_before h j g (tree k d below rest) a b =
       elim (cases (same_key j k)) [
@@ -70,11 +70,11 @@ module _ (rows : List Handed) (root : BoxKey) where
         | inr e ↦ rw e (b.0, b.1, handed_before h j g rest a b.2)
       ]
 
-  pub handed_among : (h : Handed) (o : Option BoxKey) (g f : BoxForest) → AreHanded rows root h g → AreHanded rows root h f → AreHanded rows root h (insert_among same_key o g f)
+  pub handed_among : (h : ScrollSums) (o : Option BoxKey) (g f : BoxForest) → AreHanded rows root h g → AreHanded rows root h f → AreHanded rows root h (insert_among same_key o g f)
   handed_among h None g f a b = handed_join h f g b a
   handed_among h (Some j) g f a b = handed_before h j g f a b
 
-  pub handed_without : (h : Handed) (k : BoxKey) (f : BoxForest) → AreHanded rows root h f → AreHanded rows root h (without_branch same_key k f)
+  pub handed_without : (h : ScrollSums) (k : BoxKey) (f : BoxForest) → AreHanded rows root h f → AreHanded rows root h (without_branch same_key k f)
   handed_without h k empty a = tt
   handed_without h k (tree i d below rest) a =
       elim (cases (same_key k i)) [
@@ -82,7 +82,7 @@ module _ (rows : List Handed) (root : BoxKey) where
         | inr e ↦ rw e (a.0, handed_without (entered (same_key i root) d.style d.scroll h) k below a.1, handed_without h k rest a.2)
       ]
 
-  pub handed_children : (h : Handed) (p : BoxKey) (d : Item) (f : BoxForest) → IsApart same_key f → item_of same_key p f ≡ Some d → AreHanded rows root h f
+  pub handed_children : (h : ScrollSums) (p : BoxKey) (d : Item) (f : BoxForest) → IsApart same_key f → item_of same_key p f ≡ Some d → AreHanded rows root h f
       → AreHanded rows root (inside_of rows root p d) (children same_key p f)
   handed_children h p d empty a v r = tt
   handed_children h p d (tree i e low rest) a v r =
@@ -104,7 +104,7 @@ module _ (rows : List Handed) (root : BoxKey) where
             (λ x. entered (same_key (sym n x) root) (is x).style (is x).scroll ((sym here ∙ ap (hand_at rows) (sym n)) x))
 
   -- Other boxes below p.
-  pub handed_put : (h : Handed) (p : BoxKey) (g f : BoxForest) → IsApart same_key f → AreHanded rows root h f
+  pub handed_put : (h : ScrollSums) (p : BoxKey) (g f : BoxForest) → IsApart same_key f → AreHanded rows root h f
       → ((d : Item) → item_of same_key p f ≡ Some d → AreHanded rows root (inside_of rows root p d) g) → AreHanded rows root h (with_children same_key p g f)
   handed_put h p g empty a r q = tt
   handed_put h p g (tree i e low rest) a r q =
@@ -124,7 +124,7 @@ module _ (rows : List Handed) (root : BoxKey) where
       ]
 
 -- Another table that has the same for these boxes.
-pub handed_rows : (old new : List Handed) (root : BoxKey) (h : Handed) (f : BoxForest) → ((j : BoxKey) → has same_key j f ≡ true → hand_at new j ≡ hand_at old j)
+pub handed_rows : (old new : List ScrollSums) (root : BoxKey) (h : ScrollSums) (f : BoxForest) → ((j : BoxKey) → has same_key j f ≡ true → hand_at new j ≡ hand_at old j)
     → AreHanded old root h f → AreHanded new root h f
 handed_rows old new root h empty q a = tt
 handed_rows old new root h (tree k d low rest) q a = (
@@ -148,7 +148,7 @@ below_rest : (k i : BoxKey) (d : Item) (low rest : BoxForest) → same_key k i �
 below_rest k i d low rest s u = rw (s, no_children same_key same_key-sound same_key-refl k low u) refl
 
 -- One box changes, and so does what is handed to the boxes below it.
-pub handed_at : (old new : List Handed) (root k : BoxKey) (e : Item → Item) (h : Handed) (f : BoxForest) → IsApart same_key f → AreHanded old root h f
+pub handed_at : (old new : List ScrollSums) (root k : BoxKey) (e : Item → Item) (h : ScrollSums) (f : BoxForest) → IsApart same_key f → AreHanded old root h f
     → ((j : BoxKey) → has same_key j f ≡ true → has same_key j (children same_key k f) ≡ false → hand_at new j ≡ hand_at old j)
     → ((d : Item) → item_of same_key k f ≡ Some d → AreHanded new root (entered (same_key k root) (e d).style (e d).scroll (hand_at old k)) (children same_key k f))
     → AreHanded new root h (at_box same_key k e f)
@@ -203,7 +203,7 @@ handed_at old new root k e h (tree i d low rest) a r q w =
     ]
 
 -- What a walk hands down from a box that is not the root,
-pub handed_down : (rows : List Handed) (root : BoxKey) (h : Handed) (f : BoxForest) → IsApart same_key f → has same_key root f ≡ false
+pub handed_down : (rows : List ScrollSums) (root : BoxKey) (h : ScrollSums) (f : BoxForest) → IsApart same_key f → has same_key root f ≡ false
     → ((j : BoxKey) → has same_key j f ≡ true → hand_at rows j ≡ handed_to j h f) → AreHanded rows root h f
 handed_down rows root h empty a o q = tt
 handed_down rows root h (tree k d low rest) a o q =
@@ -222,7 +222,7 @@ handed_down rows root h (tree k d low rest) a o q =
     (row, subst (λ b. AreHanded rows root (entered b d.style d.scroll h) low) (sym off) below, later)
 
 -- and the other way.
-pub handed_is : (rows : List Handed) (root : BoxKey) (h : Handed) (f : BoxForest) → IsApart same_key f → has same_key root f ≡ false → AreHanded rows root h f
+pub handed_is : (rows : List ScrollSums) (root : BoxKey) (h : ScrollSums) (f : BoxForest) → IsApart same_key f → has same_key root f ≡ false → AreHanded rows root h f
     → (j : BoxKey) → has same_key j f ≡ true → hand_at rows j ≡ handed_to j h f
 handed_is rows root h empty a o r j m = absurd (never false m refl)
 handed_is rows root h (tree k d low rest) a o r j m =
@@ -238,10 +238,10 @@ handed_is rows root h (tree k d low rest) a o r j m =
     ]
 
 -- How far what is handed on may be.
-one_more : (n : ℕ) (h : Handed) (b : ℕ) → b ≡ 1 + n → IsWithin (1 + n) h → IsWithin b h
+one_more : (n : ℕ) (h : ScrollSums) (b : ℕ) → b ≡ 1 + n → IsWithin (1 + n) h → IsWithin b h
 one_more n h b e w = subst (λ z. IsWithin z h) (sym e) w
 
-pub inside_within : (rows : List Handed) (root p : BoxKey) (d : Item) (n : ℕ) (h : Handed) (f : BoxForest) → IsWithin n h → AllItems (λ d. FitsScroll d.scroll) f → AreHanded rows root h f
+pub inside_within : (rows : List ScrollSums) (root p : BoxKey) (d : Item) (n : ℕ) (h : ScrollSums) (f : BoxForest) → IsWithin n h → AllItems (λ d. FitsScroll d.scroll) f → AreHanded rows root h f
     → IsApart same_key f → item_of same_key p f ≡ Some d → has same_key p f ≡ true → IsWithin (n + depth same_key p f) (inside_of rows root p d)
 inside_within rows root p d n h empty w s r a v m = absurd (never false m refl)
 inside_within rows root p d n h (tree i e low rest) w s r a v m =
@@ -263,7 +263,7 @@ inside_within rows root p d n h (tree i e low rest) w s r a v m =
       ]
     ]
 
-pub row_within : (rows : List Handed) (root : BoxKey) (n : ℕ) (h : Handed) (f : BoxForest) → IsWithin n h → n + height f ≤ 256 → AllItems (λ d. FitsScroll d.scroll) f → AreHanded rows root h f
+pub row_within : (rows : List ScrollSums) (root : BoxKey) (n : ℕ) (h : ScrollSums) (f : BoxForest) → IsWithin n h → n + height f ≤ 256 → AllItems (λ d. FitsScroll d.scroll) f → AreHanded rows root h f
     → (k : BoxKey) → has same_key k f ≡ true → IsWithin 256 (hand_at rows k)
 row_within rows root n h empty w l s r k m = absurd (never false m refl)
 row_within rows root n h (tree i e low rest) w l s r k m =
@@ -278,7 +278,7 @@ row_within rows root n h (tree i e low rest) w l s r k m =
     ]
 
 -- Laid out by the table is laid out as boxes are drawn.
-below-laid : (rows : List Handed) (root : BoxKey) (above : List Above) (f : BoxForest) → is_none above ≡ false → has same_key root f ≡ false → AreHanded rows root (handed_of above) f
+below-laid : (rows : List ScrollSums) (root : BoxKey) (above : List Above) (f : BoxForest) → is_none above ≡ false → has same_key root f ≡ false → AreHanded rows root (handed_of above) f
     → laid_by rows f ≡ laid_below above f
 below-laid rows root above empty n o r = refl
 below-laid rows root above (tree k d low rest) n o r =
@@ -292,7 +292,7 @@ below-laid rows root above (tree k d low rest) n o r =
     let far : offset_in (hand_at rows k) d.style.position ≡ offset_of d.style.position above = ap (λ h. offset_in h d.style.position) r.0 ∙ offset-of d.style.position above in
     λ i. tree k (with_rect (record d.rect { x = d.rect.x +ℤ (far i).x; y = d.rect.y +ℤ (far i).y }) d) (low2 i) (later i)
 
-pub is-laid : (rows : List Handed) (t : Document) → IsRooted t → IsApart same_key t.boxes → AreHanded rows t.root unhanded t.boxes → laid_tree rows t ≡ laid t
+pub is-laid : (rows : List ScrollSums) (t : Document) → IsRooted t → IsApart same_key t.boxes → AreHanded rows t.root unhanded t.boxes → laid_tree rows t ≡ laid t
 is-laid rows t r a h =
     let fa : IsApart same_key (tree t.root r.0 r.1 empty) = subst (λ f. IsApart same_key f) r.2 a in
     let fh : AreHanded rows t.root unhanded (tree t.root r.0 r.1 empty) = subst (AreHanded rows t.root unhanded) r.2 h in
@@ -307,5 +307,5 @@ is-laid rows t r a h =
     ap (λ f. record t { boxes = f }) (ap (laid_by rows) r.2 ∙ (boxes ∙ ap (laid_below []) (sym r.2)))
 
 -- So it is drawn where the boxes stand.
-pub is-drawn : (rows : List Handed) (t : Document) → IsRooted t → IsApart same_key t.boxes → AreHanded rows t.root unhanded t.boxes → drawn (laid_tree rows t) ≡ t
+pub is-drawn : (rows : List ScrollSums) (t : Document) → IsRooted t → IsApart same_key t.boxes → AreHanded rows t.root unhanded t.boxes → drawn (laid_tree rows t) ≡ t
 is-drawn rows t r a h = ap drawn (is-laid rows t r a h) ∙ (known t).forth

@@ -5,7 +5,7 @@ use Rattle.std.specs.Option.{option_map_or}
 use Rattle.rd_style.specs.Classes.{clips, is_positioned}
 use Rattle.rd_keys.specs.Keys.{same_key}
 use Rattle.rd_keys.proofs.Keys.{same_key-sound, same_key-refl}
-use Rattle.rd_tree.specs.declared.handed.Handed.{Handed}
+use Rattle.rd_tree.specs.declared.handed.ScrollSums.{ScrollSums}
 use Rattle.rd_tree.specs.declared.scroll.Scroll.{Scroll}
 use Rattle.rd_tree.specs.Forest.{empty, tree, has, height, item_of, children, map_where, at_box, AllItems}
 use Rattle.rd_tree.specs.Document.{Document, BoxKey, Item, BoxForest, contains}
@@ -35,12 +35,12 @@ scrolls_unmarked q (tree k d low rest) a = (one (q k) a.0, scrolls_unmarked q lo
   one true w = w
   one false w = w
 
-can_unmarked : (q : BoxKey → Bool) (h : Handed) (f : BoxForest) → CanHand h (map_where q touch f) → CanHand h f
+can_unmarked : (q : BoxKey → Bool) (h : ScrollSums) (f : BoxForest) → CanHand h (map_where q touch f) → CanHand h f
 can_unmarked q h f c =
     let n : height (map_where q touch f) ≡ height f = height-each q touch f in
     record { levels = c.levels; within = c.within; shallow = omega (arith, n, c.shallow); scrolls = scrolls_unmarked q f c.scrolls }
 
-redraws_unmarked : (q : BoxKey → Bool) (rows : List Handed) (h : Handed) (f : BoxForest) → AllRedraw rows h (map_where q touch f) → AllRedraw rows h f
+redraws_unmarked : (q : BoxKey → Bool) (rows : List ScrollSums) (h : ScrollSums) (f : BoxForest) → AllRedraw rows h (map_where q touch f) → AllRedraw rows h f
 redraws_unmarked q rows h empty a = tt
 redraws_unmarked q rows h (tree k d low rest) a = (
   one (q k) a.0,
@@ -55,9 +55,9 @@ redraws_unmarked q rows h (tree k d low rest) a = (
   same true = refl
   same false = refl
 
-module _ (t : Document) (rows : List Handed) (told : IsTold t) (h : IsHanding t rows) (k : BoxKey) (m : contains t k ≡ true) (s : Scroll) (f : FitsScroll s) (inside : Handed)
+module _ (t : Document) (rows : List ScrollSums) (told : IsTold t) (h : IsHanding t rows) (k : BoxKey) (m : contains t k ≡ true) (s : Scroll) (f : FitsScroll s) (inside : ScrollSums)
     (e : inside ≡ passed_from (same_key k t.root) (hand_at rows k) (option_map (with_scroll s) (item_of same_key k t.boxes))) where
-  abbrev own : Handed
+  abbrev own : ScrollSums
   own = hand_at rows k
 
   abbrev old : Scroll
@@ -122,14 +122,14 @@ module _ (t : Document) (rows : List Handed) (told : IsTold t) (h : IsHanding t 
   low_has : (i : BoxKey) → has same_key i (children same_key k then.boxes) ≡ has same_key i low
   low_has i = ap (has same_key i) low_is ∙ has-each q touch same_key i low
 
-  low_to : (i : BoxKey) (x : Handed) → handed_to i x (children same_key k then.boxes) ≡ handed_to i x low
+  low_to : (i : BoxKey) (x : ScrollSums) → handed_to i x (children same_key k then.boxes) ≡ handed_to i x low
   low_to i x = ap (handed_to i x) low_is ∙ marked_to q i x low
 
   -- A box that does not clip hands down what it did.
   same_inside : option_map_or (λ d. clips d.style (same_key k t.root)) (item_of same_key k t.boxes) false ≡ false → inside ≡ passed_from (same_key k t.root) own (item_of same_key k t.boxes)
   same_inside u =
       let off : clips item.0.style (same_key k t.root) ≡ false = sym (ap (λ o. option_map_or (λ d. clips d.style (same_key k t.root)) o false) item.1) ∙ u in
-      let g : Scroll → Handed = λ z. record {
+      let g : Scroll → ScrollSums = λ z. record {
         flow = plus (offset_in own item.0.style.position) z;
         absolute = cond (is_positioned item.0.style.position) (plus (offset_in own item.0.style.position) z) own.absolute;
       } in
@@ -141,7 +141,7 @@ module _ (t : Document) (rows : List Handed) (told : IsTold t) (h : IsHanding t 
 
   pub scrolls_still : option_map_or (λ d. clips d.style (same_key k t.root)) (item_of same_key k t.boxes) false ≡ false → IsHandedDown rows inside low
   scrolls_still u j v =
-      let before : Handed = passed_from (same_key k t.root) own (item_of same_key k t.boxes) in
+      let before : ScrollSums = passed_from (same_key k t.root) own (item_of same_key k t.boxes) in
       scroll_below t rows told h k m old refl s f j (low_has j ∙ v) ∙ (low_to j before ∙ ap (λ z. handed_to j z low) (sym (same_inside u)))
 
   -- the box itself is drawn where it was
@@ -164,7 +164,7 @@ module _ (t : Document) (rows : List Handed) (told : IsTold t) (h : IsHanding t 
   pub scrolls_near : AllNear (drawn_below rows k inside then.boxes)
   scrolls_near = subst AllNear again_is (draw_near then rows k old own told_then can here)
 
-  pub scrolls_done : (v : Document) (last : List Handed) → v ≡ record then { boxes = drawn_below rows k inside then.boxes }
+  pub scrolls_done : (v : Document) (last : List ScrollSums) → v ≡ record then { boxes = drawn_below rows k inside then.boxes }
       → ((i : BoxKey) → contains t i ≡ true → hand_at last i ≡ cond (has same_key i low) (handed_to i inside low) (hand_at rows i)) → length last ≡ length rows → IsTold v
       → IsHanding v last × (laid_tree last v ≡ edited (scrolling k s) (laid_tree rows t))
   scrolls_done v last d g n after =

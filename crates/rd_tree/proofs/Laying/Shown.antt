@@ -5,7 +5,7 @@ use Rattle.std.specs.Option.{option_map_or}
 use Rattle.std.specs.Str.{bytes_eq}
 use Rattle.rd_keys.specs.Keys.{same_key}
 use Rattle.rd_keys.proofs.Keys.{same_key-sound}
-use Rattle.rd_tree.specs.declared.handed.Handed.{Handed}
+use Rattle.rd_tree.specs.declared.handed.ScrollSums.{ScrollSums}
 use Rattle.rd_tree.specs.Figures.{max_depth}
 use Rattle.rd_tree.specs.Forest.{empty, tree, head, has, item_of, height, depth, children, is_among, starting_at, from_some, IsPlaceIn}
 use Rattle.rd_tree.specs.Document.{Document, BoxKey, Item, BoxForest, or_else, named, id_of, is_touched, HasIds, IsRooted, IsKeyed}
@@ -14,7 +14,7 @@ use Rattle.rd_tree.specs.Internal.Laid.{laid_at, laid_by, laid_tree}
 use Rattle.rd_tree.proofs.Linking.Standing.{cases}
 use Rattle.rd_tree.proofs.Forests.ByKey.{has-by, height-by, children-by, is_among-by, from-by, item-by}
 
-module _ (rows : List Handed) where
+module _ (rows : List ScrollSums) where
   abbrev lay : BoxKey → Item → Item
   lay k d = laid_at (hand_at rows k) d
 

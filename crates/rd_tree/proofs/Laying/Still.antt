@@ -2,7 +2,7 @@
 use Rattle.std.proofs.Common.{◌≡◌, refl, ap, ◌∙◌, sym, Bool, true, false, cond, List, length}
 use Rattle.rd_keys.specs.Keys.{same_key}
 use Rattle.rd_keys.proofs.Keys.{same_key-refl}
-use Rattle.rd_tree.specs.declared.handed.Handed.{Handed}
+use Rattle.rd_tree.specs.declared.handed.ScrollSums.{ScrollSums}
 use Rattle.rd_tree.specs.declared.scroll.Scroll.{Scroll}
 use Rattle.rd_tree.specs.Forest.{empty, tree, has, item_of, children}
 use Rattle.rd_tree.specs.Document.{Document, BoxKey, Item, BoxForest, contains}
@@ -21,7 +21,7 @@ each_same : (f : BoxForest) → each_by (λ j d. d) f ≡ f
 each_same empty = refl
 each_same (tree k d low rest) = λ i. tree k d (each_same low i) (each_same rest i)
 
-module _ (t : Document) (rows mid : List Handed) (k : BoxKey) (old : Scroll) (own before : Handed) (told : IsTold t) (m : contains t k ≡ true) (below : IsHandedDown rows before (children same_key k t.boxes))
+module _ (t : Document) (rows mid : List ScrollSums) (k : BoxKey) (old : Scroll) (own before : ScrollSums) (told : IsTold t) (m : contains t k ≡ true) (below : IsHandedDown rows before (children same_key k t.boxes))
     (place : old ≡ own_from own (item_of same_key k t.boxes)) (same : before ≡ passed_from (same_key k t.root) own (item_of same_key k t.boxes)) (put : PutsHand rows mid k own) where
   abbrev low : BoxForest
   low = children same_key k t.boxes
@@ -29,7 +29,7 @@ module _ (t : Document) (rows mid : List Handed) (k : BoxKey) (old : Scroll) (ow
   abbrev new : Scroll
   new = own_from own (item_of same_key k t.boxes)
 
-  abbrev inside : Handed
+  abbrev inside : ScrollSums
   inside = passed_from (same_key k t.root) own (item_of same_key k t.boxes)
 
   row : (j : BoxKey) → has same_key j low ≡ true → hand_at rows j ≡ handed_to j inside low

@@ -5,7 +5,7 @@ use Rattle.std.specs.Prelude.{◌+ℤ◌, ◌-ℤ◌, Option, Some, None, IfSome
 use Rattle.rd_geom.specs.Plane.{Rectangle, IsPlaced}
 use Rattle.rd_keys.specs.Keys.{same_key}
 use Rattle.rd_keys.proofs.Keys.{same_key-sound, same_key-refl}
-use Rattle.rd_tree.specs.declared.handed.Handed.{Handed}
+use Rattle.rd_tree.specs.declared.handed.ScrollSums.{ScrollSums}
 use Rattle.rd_tree.specs.declared.scroll.Scroll.{Scroll}
 use Rattle.rd_tree.specs.declared.view.BoxView.{BoxView}
 use Rattle.rd_tree.specs.Forest.{empty, tree, head, has, top, item_of, starting_at, from_some, IsApart}
@@ -58,7 +58,7 @@ back_is : (s : Scroll) (r : Rectangle) → drawn_anew s unscrolled r ≡ record 
 back_is s r = λ i. record r { x = less_none (r.x +ℤ s.x) i; y = less_none (r.y +ℤ s.y) i }
 
 -- Where it is laid out.
-pub laid_view : (rows : List Handed) (root k : BoxKey) (f : BoxForest) (v : Shown) → IsApart same_key f → Some v ≡ shown root (starting_at same_key k f)
+pub laid_view : (rows : List ScrollSums) (root k : BoxKey) (f : BoxForest) (v : Shown) → IsApart same_key f → Some v ≡ shown root (starting_at same_key k f)
     → (o : Scroll) → o ≡ offset_in (hand_at rows k) v.style.position → (r : Rectangle) → r ≡ drawn_anew o unscrolled v.at
     → Some r ≡ option_map (λ d. d.rect) (item_of same_key k (laid_by rows f))
 laid_view rows root k f v a h o e r q =
@@ -106,7 +106,7 @@ pub sibling_found : (test : Item → BoxForest → Bool) (root : BoxKey) (first 
 sibling_found test root first f o a h = among_found test root f (from_some same_key first f) o a (begins_there first f) h
 
 -- What is told of a box, with where it is laid out.
-pub rect_told : (rows : List Handed) (root : BoxKey) (f : BoxForest) (view v : BoxView) (r : Rectangle) → IsApart same_key f → Some (told view) ≡ shown root (starting_at same_key view.key f)
+pub rect_told : (rows : List ScrollSums) (root : BoxKey) (f : BoxForest) (view v : BoxView) (r : Rectangle) → IsApart same_key f → Some (told view) ≡ shown root (starting_at same_key view.key f)
     → r ≡ drawn_anew (offset_in (hand_at rows view.key) (told view).style.position) unscrolled view.at → told v ≡ told view → v.rect ≡ r
     → Some v.rect ≡ option_map (λ d. d.rect) (item_of same_key v.key (laid_by rows f))
 rect_told rows root f view v r a h q t e =

@@ -9,7 +9,7 @@ use Rattle.rd_keys.specs.Keys.{same_key}
 use Rattle.rd_keys.specs.Arena.{Arena}
 use Rattle.rd_keys.proofs.Keys.{same_key-sound}
 use Rattle.rd_tree.specs.declared.node.Node as inner
-use Rattle.rd_tree.specs.declared.handed.Handed.{Handed}
+use Rattle.rd_tree.specs.declared.handed.ScrollSums.{ScrollSums}
 use Rattle.rd_tree.specs.Internal.Links.{Node, child_and_sibling}
 use Rattle.rd_tree.specs.Internal.Linked.{linked, IsTree, seen, seen_from, item_at}
 use Rattle.rd_tree.specs.Internal.Hands.{hand_at}
@@ -45,7 +45,7 @@ pub shift_within : (dx dy : ℤ) (k : BoxKey) (f : BoxForest) (b : Bool) → (Is
 shift_within dx dy k f b i = one_answer b (fits_shift dx dy k f) i (shift_decides dx dy k f)
 
 -- What the two parts of a test of a shift say, of the boxes where they are laid out.
-module _ (rows : List Handed) (a : Arena inner.Node) (root k : BoxKey) (dx dy : ℤ) (o : Option BoxKey) (t : IsTree a root) (m : has same_key k (seen a root) ≡ true)
+module _ (rows : List ScrollSums) (a : Arena inner.Node) (root k : BoxKey) (dx dy : ℤ) (o : Option BoxKey) (t : IsTree a root) (m : has same_key k (seen a root) ≡ true)
     (e : o ≡ (child_and_sibling (linked a k)).0) where
   item_there : option_map (laid_at (hand_at rows k)) (item_at a k) ≡ item_of same_key k (laid_by rows (seen a root))
   item_there = ap (option_map (laid_at (hand_at rows k))) (item_seen a root k t) ∙ sym (item-by (λ j d. laid_at (hand_at rows j) d) same_key same_key-sound k (seen a root))

@@ -18,7 +18,7 @@ use Rattle.rd_tree.specs.Internal.Linked.{linked, Relinks, IsRead, seen_from}
 use Rattle.rd_tree.specs.Internal.Works.{done, Allows}
 use Rattle.rd_tree.specs.Changes.{shifted}
 use Rattle.rd_tree.specs.Internal.Works.{AllowsAt}
-use Rattle.rd_tree.specs.declared.handed.Handed.{Handed}
+use Rattle.rd_tree.specs.declared.handed.ScrollSums.{ScrollSums}
 use Rattle.rd_tree.specs.Internal.Hands.{hand_at, HasHands}
 use Rattle.rd_tree.specs.Internal.Laid.{laid_at, laid_by, LaidFitsAt, ShiftFitsAt}
 use Rattle.rd_tree.proofs.Linking.Standing as standing
@@ -316,7 +316,7 @@ worked_below a a1 a2 k g f n r1 r2 = record {
   once g o false low h = refl
 
 -- The loop has found that those boxes fit that are told from the first one on, and no more from this one on.
-pub record Fitted (P : Item → Type 0) (rows : List Handed) (a : Arena inner.Node) (first at : Option BoxKey) : Type 0 where
+pub record Fitted (P : Item → Type 0) (rows : List ScrollSums) (a : Arena inner.Node) (first at : Option BoxKey) : Type 0 where
   pub read : IsRead a at
   pub fits : AllItems (λ d. FitsRect d.rect) (laid_by rows (seen_from a at))
   pub has_rows : HasHands rows (seen_from a at)
@@ -325,7 +325,7 @@ pub record Fitted (P : Item → Type 0) (rows : List Handed) (a : Arena inner.No
   pub smaller : size (seen_from a at) ≤ size (seen_from a first)
 
 -- what a step over one box tells
-pub record FittedStep (P : Item → Type 0) (rows : List Handed) (a : Arena inner.Node) (first : Option BoxKey) (k : BoxKey) (x z : Option BoxKey) : Type 0 where
+pub record FittedStep (P : Item → Type 0) (rows : List ScrollSums) (a : Arena inner.Node) (first : Option BoxKey) (k : BoxKey) (x z : Option BoxKey) : Type 0 where
   pub read : IsRead a x
   pub fits : AllItems (λ d. FitsRect d.rect) (laid_by rows (seen_from a x))
   pub has_rows : HasHands rows (seen_from a x)
@@ -335,18 +335,18 @@ pub record FittedStep (P : Item → Type 0) (rows : List Handed) (a : Arena inne
   pub below : AllItems P (laid_by rows (seen_from a first)) → AllItems P (laid_by rows (seen_from a x))
   pub next : ((n : Node BoxKey Item) → linked a k ≡ Some n → P (laid_at (hand_at rows k) n.item)) → AllItems P (laid_by rows (seen_from a x)) → Fitted P rows a first z
 
-pub here_row : (P : Item → Type 0) (rows : List Handed) (a : Arena inner.Node) (first : Option BoxKey) (k : BoxKey) → Fitted P rows a first (Some k) → k.slot < length rows
+pub here_row : (P : Item → Type 0) (rows : List ScrollSums) (a : Arena inner.Node) (first : Option BoxKey) (k : BoxKey) → Fitted P rows a first (Some k) → k.slot < length rows
 here_row P rows a first k w =
     let h : Here a k = here a k w.read in
     w.has_rows k (ap (has same_key k) h.seen ∙ from_left (same_key k k) (has same_key k h.below || has same_key k h.rest) (same_key-refl k))
 
-pub here_fits : (P : Item → Type 0) (rows : List Handed) (a : Arena inner.Node) (first : Option BoxKey) (k : BoxKey) → Fitted P rows a first (Some k) → LaidFitsAt (hand_at rows k) (linked a k)
+pub here_fits : (P : Item → Type 0) (rows : List ScrollSums) (a : Arena inner.Node) (first : Option BoxKey) (k : BoxKey) → Fitted P rows a first (Some k) → LaidFitsAt (hand_at rows k) (linked a k)
 here_fits P rows a first k w =
     let h : Here a k = here a k w.read in
     let all : AllItems (λ d. FitsRect d.rect) (laid_by rows (tree k h.item h.below h.rest)) = subst (λ f. AllItems (λ d. FitsRect d.rect) (laid_by rows f)) h.seen w.fits in
     subst (LaidFitsAt (hand_at rows k)) (sym h.found) all.0
 
-pub fitted_step : (P : Item → Type 0) (rows : List Handed) (a : Arena inner.Node) (first : Option BoxKey) (k : BoxKey) (x z : Option BoxKey) → Fitted P rows a first (Some k)
+pub fitted_step : (P : Item → Type 0) (rows : List ScrollSums) (a : Arena inner.Node) (first : Option BoxKey) (k : BoxKey) (x z : Option BoxKey) → Fitted P rows a first (Some k)
     → (x, z) ≡ child_and_sibling (linked a k) → FittedStep P rows a first k x z
 fitted_step P rows a first k x z w e =
     let h : Here a k = here a k w.read in
@@ -405,17 +405,17 @@ fitted_step P rows a first k x z w e =
     }))
 
 -- At a node, what is said of it and of its item.
-pub at_node : (h : Handed) (a : Arena inner.Node) (k : BoxKey) (dx dy : ℤ) → ShiftFitsAt h dx dy (linked a k) → (n : Node BoxKey Item) → linked a k ≡ Some n
+pub at_node : (h : ScrollSums) (a : Arena inner.Node) (k : BoxKey) (dx dy : ℤ) → ShiftFitsAt h dx dy (linked a k) → (n : Node BoxKey Item) → linked a k ≡ Some n
     → FitsRect (shifted dx dy (laid_at h n.item).rect)
 at_node h a k dx dy u n e = subst (λ o. ShiftFitsAt h dx dy o) e u
 
-pub none_left : (P : Item → Type 0) (rows : List Handed) (a : Arena inner.Node) (first : Option BoxKey) → Fitted P rows a first None → AllItems P (laid_by rows (seen_from a first))
+pub none_left : (P : Item → Type 0) (rows : List ScrollSums) (a : Arena inner.Node) (first : Option BoxKey) → Fitted P rows a first None → AllItems P (laid_by rows (seen_from a first))
 none_left P rows a first w = w.back (subst (λ f. AllItems P (laid_by rows f)) (sym (nothing a.limit)) tt) where
   nothing : (n : ℕ) → read n (linked a) None ≡ empty
   nothing zero = refl
   nothing (suc n) = refl
 
-pub here_said : (h : Handed) (a : Arena inner.Node) (k : BoxKey) (dx dy : ℤ) → ((n : Node BoxKey Item) → linked a k ≡ Some n → FitsRect (shifted dx dy (laid_at h n.item).rect))
+pub here_said : (h : ScrollSums) (a : Arena inner.Node) (k : BoxKey) (dx dy : ℤ) → ((n : Node BoxKey Item) → linked a k ≡ Some n → FitsRect (shifted dx dy (laid_at h n.item).rect))
     → ShiftFitsAt h dx dy (linked a k)
 here_said h a k dx dy u = at (linked a k) refl where
   at : (o : Option (Node BoxKey Item)) → linked a k ≡ o → ShiftFitsAt h dx dy o
@@ -423,7 +423,7 @@ here_said h a k dx dy u = at (linked a k) refl where
   at (Some n) e = u n e
 
 -- The loop has measured those boxes that are told from the first one on, and no more from this one on.
-pub record Measured (a : Arena inner.Node) (first at : Option BoxKey) (most : ℕ) : Type 0 where
+pub record RowParts (a : Arena inner.Node) (first at : Option BoxKey) (most : ℕ) : Type 0 where
   pub read : IsRead a at
   pub sum : max most (height (seen_from a at)) ≡ height (seen_from a first)
   pub smaller : size (seen_from a at) ≤ size (seen_from a first)
@@ -432,9 +432,9 @@ pub record MeasuredStep (a : Arena inner.Node) (first : Option BoxKey) (k : BoxK
   pub read : IsRead a x
   pub smaller : size (seen_from a x) < size (seen_from a first)
   pub later : size (seen_from a z) < size (seen_from a (Some k))
-  pub next : (low : ℕ) → low ≡ height (seen_from a x) → Measured a first z (max most (low + 1))
+  pub next : (low : ℕ) → low ≡ height (seen_from a x) → RowParts a first z (max most (low + 1))
 
-pub measured_step : (a : Arena inner.Node) (first : Option BoxKey) (k : BoxKey) (x z : Option BoxKey) (most : ℕ) → Measured a first (Some k) most → (x, z)
+pub measured_step : (a : Arena inner.Node) (first : Option BoxKey) (k : BoxKey) (x z : Option BoxKey) (most : ℕ) → RowParts a first (Some k) most → (x, z)
     ≡ child_and_sibling (linked a k) → MeasuredStep a first k x z most
 measured_step a first k x z most w e =
     let h : Here a k = here a k w.read in
@@ -475,7 +475,7 @@ measured_step a first k x z most w e =
       next = λ l v. record { read = later; sum = omega (arith, w.sum, tall, tl, tr, v); smaller = omega (arith, n, r, w.smaller) };
     }))
 
-pub nothing_left : (a : Arena inner.Node) (first : Option BoxKey) (most : ℕ) → Measured a first None most → most ≡ height (seen_from a first)
+pub nothing_left : (a : Arena inner.Node) (first : Option BoxKey) (most : ℕ) → RowParts a first None most → most ≡ height (seen_from a first)
 nothing_left a first most w =
     let z : height (seen_from a None) ≡ 0 = ap height (nothing a.limit) in
     omega (arith, w.sum, z) where

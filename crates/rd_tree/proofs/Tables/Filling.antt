@@ -8,7 +8,7 @@ use Rattle.rd_keys.specs.Arena.{Arena}
 use Rattle.rd_keys.proofs.Keys.{same_key-sound, same_key-refl}
 use Rattle.rd_tree.specs.declared.node.Node as inner
 use Rattle.rd_tree.specs.declared.table.row.Summary.{Summary}
-use Rattle.rd_tree.specs.declared.table.fill.Gathered.{Gathered}
+use Rattle.rd_tree.specs.declared.table.fill.SiblingSums.{SiblingSums}
 use Rattle.rd_tree.specs.Forest.{empty, tree, size, has}
 use Rattle.rd_tree.specs.Internal.Links.{child_and_sibling}
 use Rattle.rd_tree.specs.Document.{BoxKey, BoxForest}
@@ -39,7 +39,7 @@ hull_in_normal empty = refl
 hull_in_normal (tree k d below rest) = normal_hull (hull_of (extent d) (hull_in below)) (hull_in rest)
 
 -- The loop has written the rows of those boxes that are told from the first one on, and no more from this one on.
-pub record Filled (a : Arena inner.Node) (old new : List Summary) (first at : Option BoxKey) (all : Gathered) : Type 0 where
+pub record Filled (a : Arena inner.Node) (old new : List Summary) (first at : Option BoxKey) (all : SiblingSums) : Type 0 where
   pub read : IsRead a at
   pub fits : AllNear (seen_from a at)
   pub has_rows : HasRows old (seen_from a at)
@@ -76,10 +76,10 @@ filled_begun a old first r f h = record {
   none true x y = refl
   none false x y = refl
 
-same_gathered : (x y : Gathered) → x.breadth ≡ y.breadth → x.touched ≡ y.touched → x.hull ≡ y.hull → x ≡ y
+same_gathered : (x y : SiblingSums) → x.breadth ≡ y.breadth → x.touched ≡ y.touched → x.hull ≡ y.hull → x ≡ y
 same_gathered x y b t h = rw (sym b, sym t, sym h) refl
 
-pub filled_told : (a : Arena inner.Node) (old new : List Summary) (first : Option BoxKey) (all : Gathered) → Filled a old new first None all → all
+pub filled_told : (a : Arena inner.Node) (old new : List Summary) (first : Option BoxKey) (all : SiblingSums) → Filled a old new first None all → all
     ≡ gathered_in (seen_from a first)
 filled_told a old new first all w =
     let b : breadth (seen_from a None) ≡ 0 = ap breadth (nothing_seen a) in
@@ -87,7 +87,7 @@ filled_told a old new first all w =
     same_gathered all (gathered_in (seen_from a first)) (omega (arith, w.broad, b)) (omega (arith, w.touched, t)) (sym w.hull ∙ (sym (hull_none all.hull)
     ∙ (ap (λ f. hull_of all.hull (hull_in f)) (sym (nothing_seen a)) ∙ w.sum)))
 
-pub filled_rows : (a : Arena inner.Node) (old new : List Summary) (first : Option BoxKey) (all : Gathered) → Filled a old new first None all
+pub filled_rows : (a : Arena inner.Node) (old new : List Summary) (first : Option BoxKey) (all : SiblingSums) → Filled a old new first None all
     → Gathers a old new (seen_from a first)
 filled_rows a old new first all w k u =
     w.rows k u ∙ (ap (λ f. cond (has same_key k (seen_from a first) && not (has same_key k f)) (summary_of k (seen_from a first)) (summary_at old k))
@@ -117,7 +117,7 @@ pub record BelowFill (a : Arena inner.Node) (rows : List Summary) (first : Optio
   pub here : k.slot < length rows
   pub fit_here : IsFitAt (linked a k)
 
-module _ (a : Arena inner.Node) (old new : List Summary) (first : Option BoxKey) (k : BoxKey) (all : Gathered) (w : Filled a old new first (Some k) all)
+module _ (a : Arena inner.Node) (old new : List Summary) (first : Option BoxKey) (k : BoxKey) (all : SiblingSums) (w : Filled a old new first (Some k) all)
     (x z : Option BoxKey) (e : (x, z) ≡ child_and_sibling (linked a k)) where
   h : Here a k
   h = here a k w.read
@@ -190,16 +190,16 @@ module _ (a : Arena inner.Node) (old new : List Summary) (first : Option BoxKey)
       h.below h.rest)
   near_first_is j u = w.later j (has_here j ∙ u) ∙ ap (summary_of j) h.seen
 
-  pub record FillNext (low : Gathered) : Type 0 where
+  pub record FillNext (low : SiblingSums) : Type 0 where
     pub few : all.breadth + 1 ≤ a.limit
     pub few_touched : all.touched + (touched_under (linked a k) + low.touched) ≤ a.limit
     pub less : size (seen_from a z) < size (seen_from a (Some k))
-    pub next : (new1 new2 : List Summary) (all2 : Gathered) → Gathers a new new1 (seen_from a x) → length new1 ≡ length new → Puts new1 new2 k (row_over
+    pub next : (new1 new2 : List Summary) (all2 : SiblingSums) → Gathers a new new1 (seen_from a x) → length new1 ≡ length new → Puts new1 new2 k (row_over
         (extent_under (linked a k)) low) → length new2 ≡ length new1 →
         all2.breadth ≡ all.breadth + 1 → all2.touched ≡ all.touched + (touched_under (linked a k) + low.touched) → all2.hull ≡ hull_of all.hull (row_over
         (extent_under (linked a k)) low).hull → Filled a old new2 first z all2
 
-  pub fill_next : (low : Gathered) → low ≡ gathered_in (seen_from a x) → FillNext low
+  pub fill_next : (low : SiblingSums) → low ≡ gathered_in (seen_from a x) → FillNext low
   fill_next low is =
       let n : size (seen_from a (Some k)) ≡ 1 + (size h.below + size h.rest) = ap size h.seen in
       let m : size (seen_from a z) ≡ size h.rest = ap size seen_next in

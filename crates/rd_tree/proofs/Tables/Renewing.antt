@@ -8,7 +8,7 @@ use Rattle.rd_keys.proofs.Keys.{same_key-sound, same_key-refl}
 use Rattle.rd_tree.specs.declared.node.Node as inner
 use Rattle.rd_tree.specs.declared.table.row.Summary.{Summary}
 use Rattle.rd_tree.specs.declared.table.whole.Whole.{Whole}
-use Rattle.rd_tree.specs.declared.table.fill.Gathered.{Gathered}
+use Rattle.rd_tree.specs.declared.table.fill.SiblingSums.{SiblingSums}
 use Rattle.rd_tree.specs.Forest.{empty, tree, top, has, starting_at, children, item_of, in_subtree, branch, IsApart}
 use Rattle.rd_tree.specs.Internal.Links.{Node, Stands, child_and_sibling, parent_of}
 use Rattle.rd_tree.specs.Document.{BoxKey, Item, BoxForest}
@@ -113,7 +113,7 @@ module _ (a : Arena inner.Node) (root : BoxKey) (f : BoxForest) (is : IsStanding
       (ap (with_hull h) here ∙ ap (λ r. with_hull r (summary_of k f)) (e ∙ anew_below a root f is k m old (λ j u. ap (λ n. n.hull) (low j u)))) low
 
   -- All rows of a branch are worked out anew.
-  module _ (old next new : List Summary) (low : Gathered) (told : low ≡ gathered_in (seen_from a (child_and_sibling (linked a k)).0)) (g : Gathers a old
+  module _ (old next new : List Summary) (low : SiblingSums) (told : low ≡ gathered_in (seen_from a (child_and_sibling (linked a k)).0)) (g : Gathers a old
       next (seen_from a (child_and_sibling (linked a k)).0)) (put : Puts next new k (row_over (extent_under (linked a k)) low)) where
     gathered : (j : BoxKey) → is_some (linked a j) ≡ true → summary_at next j ≡ cond (has same_key j (children same_key k f)) (summary_of j
         (children same_key k f)) (summary_at old j)

@@ -5,7 +5,7 @@ use Rattle.rd_keys.specs.Keys.{same_key}
 use Rattle.rd_keys.specs.Arena.{Arena}
 use Rattle.rd_tree.specs.declared.node.Node as inner
 use Rattle.rd_tree.specs.declared.table.row.Summary.{Summary}
-use Rattle.rd_tree.specs.declared.table.fill.Gathered.{Gathered}
+use Rattle.rd_tree.specs.declared.table.fill.SiblingSums.{SiblingSums}
 use Rattle.rd_tree.specs.Forest.{has}
 use Rattle.rd_tree.specs.Document.{BoxKey, BoxForest}
 use Rattle.rd_tree.specs.Internal.Linked.{linked}
@@ -13,11 +13,11 @@ use Rattle.rd_tree.specs.Internal.Summaries.{summary_of, summary_at}
 use Rattle.rd_tree.specs.Hulls.{breadth, hull_in, touched_in}
 
 -- what some siblings are together
-abbrev pub gathered_in : BoxForest → Gathered
+abbrev pub gathered_in : BoxForest → SiblingSums
 gathered_in f = record { breadth = breadth f; touched = touched_in f; hull = hull_in f }
 
 -- the row of a box of this extent with these below it
-abbrev pub row_over : Rectangle → Gathered → Summary
+abbrev pub row_over : Rectangle → SiblingSums → Summary
 row_over own below = record {
   children = below.breadth;
   touched = below.touched;

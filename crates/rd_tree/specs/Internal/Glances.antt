@@ -4,7 +4,7 @@ use Rattle.rd_keys.specs.Arena.{Arena, slot_at}
 use Rattle.rd_keys.specs.Keys.{BoxKey}
 use Rattle.rd_tree.specs.declared.node.Node as inner
 use Rattle.rd_tree.specs.declared.glance.Glance.{Glance}
-use Rattle.rd_tree.specs.declared.shared.TheConstants.{NOT_QUIET, BLOCK}
+use Rattle.rd_tree.specs.declared.shared.TheConstants.{NOT_QUIET, PAGE}
 
 -- of a slot without a live key: whatever key is asked for counts as touched
 abbrev pub unseen : Glance
@@ -41,22 +41,22 @@ seen_at gs s = slice_index_or gs s unseen
 abbrev pub with_glance : List Glance → ℕ → Glance → List Glance
 with_glance gs s y = if nat_lt s (length gs) then slice_set gs s y else gs ++ y ∷ []
 
--- how many blocks so many rows are: the last may be shorter
-abbrev pub blocks : ℕ → ℕ
-blocks n = (n + BLOCK - 1) / BLOCK
+-- how many pages so many rows are: the last may be shorter
+abbrev pub pages : ℕ → ℕ
+pages n = (n + PAGE - 1) / PAGE
 
--- the rows of slots, and for how many rows, words and blocks there is room
+-- the rows of slots, and for how many rows, words and pages there is room
 pub record Rows : Type 0 where
   pub rows : List Glance
   pub room : ℕ
   pub word_room : ℕ
-  pub block_room : ℕ
+  pub page_room : ℕ
 
 -- there is room for a row more
 pub record HasRoom (r : Rows) : Type 0 where
   pub row : length r.rows < r.room
   pub word : length r.rows < r.word_room
-  pub block : blocks (length r.rows) < r.block_room
+  pub page : pages (length r.rows) < r.page_room
 
 -- the word of a row: the generation where its box is untouched, and otherwise a number that no generation is
 abbrev pub quiet_word : Glance → ℕ
@@ -68,13 +68,13 @@ told_touched gs k =
     nat_le (length gs) k.slot || (seen_at gs k.slot).touched
     || not ((seen_at gs k.slot).generation == k.generation)
 
--- Each block of rows has a word, and where that is a generation, each of its rows has it.
+-- Each page of rows has a word, and where that is a generation, each of its rows has it.
 pub record AreShared (words shared : List ℕ) : Type 0 where
-  pub all : length shared ≡ blocks (length words)
-  pub right : (s : ℕ) → s < length words → slice_index shared (s / BLOCK) ≢ NOT_QUIET
-      → slice_index words s ≡ slice_index shared (s / BLOCK)
+  pub all : length shared ≡ pages (length words)
+  pub right : (s : ℕ) → s < length words → slice_index shared (s / PAGE) ≢ NOT_QUIET
+      → slice_index words s ≡ slice_index shared (s / PAGE)
 
--- What stands beside rows: the word of each, and what those of a block share.
+-- What stands beside rows: the word of each, and what those of a page share.
 pub record AreWords (gs : List Glance) (ws sh : List ℕ) : Type 0 where
   pub words : ws ≡ map quiet_word gs
   pub shared : AreShared ws sh

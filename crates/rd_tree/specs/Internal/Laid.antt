@@ -3,7 +3,7 @@ use Rattle.std.specs.Prelude.{◌≡◌, ℕ, ◌+◌, ℤ, ◌+ℤ◌, ◌≤�
 use Rattle.std.specs.Option.{option_map_or}
 use Rattle.rd_style.specs.Limits.{FitsRect}
 use Rattle.rd_keys.specs.Keys.{same_key}
-use Rattle.rd_tree.specs.declared.handed.Handed.{Handed}
+use Rattle.rd_tree.specs.declared.handed.ScrollSums.{ScrollSums}
 use Rattle.rd_tree.specs.declared.scroll.Scroll.{Scroll}
 use Rattle.rd_tree.specs.Forest.{Forest, empty, tree, has, height, children}
 use Rattle.rd_tree.specs.Drawn.{drawn}
@@ -21,25 +21,25 @@ each_by g empty = empty
 each_by g (tree k d below rest) = tree k (g k d) (each_by g below) (each_by g rest)
 
 -- nothing is handed to the root
-abbrev pub unhanded : Handed
+abbrev pub unhanded : ScrollSums
 unhanded = record { flow = unscrolled; absolute = unscrolled }
 
 -- a box where it is laid out, which is drawn where this is handed to it
-abbrev pub laid_at : Handed → Item → Item
+abbrev pub laid_at : ScrollSums → Item → Item
 laid_at h d = with_rect (record d.rect {
   x = d.rect.x +ℤ (offset_in h d.style.position).x;
   y = d.rect.y +ℤ (offset_in h d.style.position).y;
 }) d
 
 -- the boxes where they are laid out, by the table of what is handed to them
-abbrev pub laid_by : List Handed → BoxForest → BoxForest
+abbrev pub laid_by : List ScrollSums → BoxForest → BoxForest
 laid_by rows f = each_by (λ k d. laid_at (hand_at rows k) d) f
 
-abbrev pub laid_tree : List Handed → Document → Document
+abbrev pub laid_tree : List ScrollSums → Document → Document
 laid_tree rows t = record t { boxes = laid_by rows t.boxes }
 
 -- To each of these boxes is handed what the table has for it.
-abbrev pub AreHanded : List Handed → BoxKey → Handed → BoxForest → Type 0
+abbrev pub AreHanded : List ScrollSums → BoxKey → ScrollSums → BoxForest → Type 0
 AreHanded rows root h empty = Unit {0}
 AreHanded rows root h (tree k d below rest) =
     (hand_at rows k ≡ h)
@@ -47,23 +47,23 @@ AreHanded rows root h (tree k d below rest) =
     × AreHanded rows root h rest
 
 -- The table has of each of these boxes what follows where this is handed to the first ones.
-abbrev pub IsHandedDown : List Handed → Handed → BoxForest → Type 0
+abbrev pub IsHandedDown : List ScrollSums → ScrollSums → BoxForest → Type 0
 IsHandedDown rows h f = (j : BoxKey) → has same_key j f ≡ true → hand_at rows j ≡ handed_to j h f
 
 -- The table has what is handed to each box of a tree, which is within the limits where it is laid out.
-pub record IsHanding (t : Document) (rows : List Handed) : Type 0 where
+pub record IsHanding (t : Document) (rows : List ScrollSums) : Type 0 where
   pub all_rows : length t.slots ≤ length rows
   pub right : AreHanded rows t.root unhanded t.boxes
   pub fits : AllFit (laid_by rows t.boxes)
   pub is_drawn : drawn (laid_tree rows t) ≡ t
 
 -- what is handed to the children of a box of this item, where there is one
-abbrev pub passed_from : Bool → Handed → Option Item → Handed
+abbrev pub passed_from : Bool → ScrollSums → Option Item → ScrollSums
 passed_from root h None = h
 passed_from root h (Some d) = entered root d.style d.scroll h
 
 -- how far a box is scrolled to which this is handed, where there is one
-abbrev pub own_from : Handed → Option Item → Scroll
+abbrev pub own_from : ScrollSums → Option Item → Scroll
 own_from h o = option_map_or (λ d. offset_in h d.style.position) o unscrolled
 
 -- It has a scroll offset within the limits.
@@ -72,29 +72,29 @@ ScrollFits None = Unit {0}
 ScrollFits (Some d) = FitsScroll d.scroll
 
 -- What is handed to each of these boxes is within the limits.
-abbrev pub AllWithin : List Handed → BoxForest → Type 0
+abbrev pub AllWithin : List ScrollSums → BoxForest → Type 0
 AllWithin rows f = (k : BoxKey) → has same_key k f ≡ true → IsWithin 256 (hand_at rows k)
 
 -- the boxes once k, scrolled so far and now so far, is drawn anew, and all below it, to whose children this is handed now
-abbrev pub drawn_again : List Handed → BoxKey → Scroll → Scroll → Handed → BoxForest → BoxForest
+abbrev pub drawn_again : List ScrollSums → BoxKey → Scroll → Scroll → ScrollSums → BoxForest → BoxForest
 drawn_again rows k old new h f = each_by (λ j d.
     if same_key j k then drawn_far old new d
     else if has same_key j (children same_key k f) then redrawn (hand_at rows j) (handed_to j h (children same_key k f)) d
     else d) f
 
 -- the same where the box itself stays
-abbrev pub drawn_below : List Handed → BoxKey → Handed → BoxForest → BoxForest
+abbrev pub drawn_below : List ScrollSums → BoxKey → ScrollSums → BoxForest → BoxForest
 drawn_below rows k h f = each_by (λ j d. if has same_key j (children same_key k f) then redrawn (hand_at rows j) (handed_to j h (children same_key k f)) d else d) f
 
 -- a box where it is laid out, where k is still scrolled as far as before
-abbrev pub relay : List Handed → BoxKey → Scroll → BoxKey → Item → Item
+abbrev pub relay : List ScrollSums → BoxKey → Scroll → BoxKey → Item → Item
 relay rows k old j d = if same_key j k then with_rect (record d.rect { x = d.rect.x +ℤ old.x; y = d.rect.y +ℤ old.y }) d else laid_at (hand_at rows j) d
 
-abbrev pub relaid : List Handed → BoxKey → Scroll → BoxForest → BoxForest
+abbrev pub relaid : List ScrollSums → BoxKey → Scroll → BoxForest → BoxForest
 relaid rows k old f = each_by (relay rows k old) f
 
 -- The box k, which was scrolled so far, can be drawn elsewhere with all below it, where this is handed to it now.
-pub record CanDraw (t : Document) (rows : List Handed) (k : BoxKey) (old : Scroll) (own : Handed) : Type 0 where
+pub record CanDraw (t : Document) (rows : List ScrollSums) (k : BoxKey) (old : Scroll) (own : ScrollSums) : Type 0 where
   pub all_rows : length t.slots ≤ length rows
   pub within : AllWithin rows t.boxes
   pub fits : AllFit (relaid rows k old t.boxes)
@@ -103,11 +103,11 @@ pub record CanDraw (t : Document) (rows : List Handed) (k : BoxKey) (old : Scrol
   pub shallow : levels + (1 + height (children same_key k t.boxes)) ≤ 256
 
 -- The box of the node is within the limits where it is laid out,
-abbrev pub LaidFitsAt : Handed → Option (Node BoxKey Item) → Type 0
+abbrev pub LaidFitsAt : ScrollSums → Option (Node BoxKey Item) → Type 0
 LaidFitsAt h None = Unit {0}
 LaidFitsAt h (Some n) = FitsRect (laid_at h n.item).rect
 
 -- and so it is once it is shifted.
-abbrev pub ShiftFitsAt : Handed → ℤ → ℤ → Option (Node BoxKey Item) → Type 0
+abbrev pub ShiftFitsAt : ScrollSums → ℤ → ℤ → Option (Node BoxKey Item) → Type 0
 ShiftFitsAt h dx dy None = Unit {0}
 ShiftFitsAt h dx dy (Some n) = FitsRect (shifted dx dy (laid_at h n.item).rect)

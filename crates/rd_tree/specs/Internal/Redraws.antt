@@ -4,7 +4,7 @@ use Rattle.rd_geom.specs.Plane.{Rectangle, IsPlaced, no_pixels}
 use Rattle.rd_keys.specs.Keys.{same_key}
 use Rattle.rd_keys.specs.Arena.{Arena}
 use Rattle.rd_tree.specs.declared.node.Node as inner
-use Rattle.rd_tree.specs.declared.handed.Handed.{Handed}
+use Rattle.rd_tree.specs.declared.handed.ScrollSums.{ScrollSums}
 use Rattle.rd_tree.specs.declared.scroll.Scroll.{Scroll}
 use Rattle.rd_tree.specs.Forest.{empty, tree, has}
 use Rattle.rd_tree.specs.Document.{BoxKey, Item, BoxForest}
@@ -19,11 +19,11 @@ abbrev pub drawn_anew : Scroll → Scroll → Rectangle → Rectangle
 drawn_anew old new r = record r { x = (r.x +ℤ old.x) -ℤ new.x; y = (r.y +ℤ old.y) -ℤ new.y }
 
 -- a box to which the one was handed and the other is now
-abbrev pub redrawn : Handed → Handed → Item → Item
+abbrev pub redrawn : ScrollSums → ScrollSums → Item → Item
 redrawn old new d = with_rect (drawn_anew (offset_in old d.style.position) (offset_in new d.style.position) d.rect) d
 
 -- the same, touched where that is asked for
-abbrev pub redrawn_if : Bool → Handed → Handed → Item → Item
+abbrev pub redrawn_if : Bool → ScrollSums → ScrollSums → Item → Item
 redrawn_if asked old new d = record (redrawn old new d) { touched = asked || d.touched }
 
 -- a box that was scrolled so far and is so far now
@@ -41,17 +41,17 @@ rect_far old new None = no_pixels
 rect_far old new (Some n) = drawn_anew old new n.item.rect
 
 -- It can be drawn there.
-pub record CanRedraw (old new : Handed) (d : Item) : Type 0 where
+pub record CanRedraw (old new : ScrollSums) (d : Item) : Type 0 where
   pub within : IsWithin 256 old
   pub placed : IsPlaced (redrawn old new d).rect
 
 -- The same of the box of a node.
-abbrev pub RedrawsAt : Handed → Handed → Option (Node BoxKey Item) → Type 0
+abbrev pub RedrawsAt : ScrollSums → ScrollSums → Option (Node BoxKey Item) → Type 0
 RedrawsAt old new None = Unit {0}
 RedrawsAt old new (Some n) = CanRedraw old new n.item
 
 -- So each of these boxes can.
-abbrev pub AllRedraw : List Handed → Handed → BoxForest → Type 0
+abbrev pub AllRedraw : List ScrollSums → ScrollSums → BoxForest → Type 0
 AllRedraw rows h empty = Unit {0}
 AllRedraw rows h (tree k d below rest) = CanRedraw (hand_at rows k) h d × AllRedraw rows (passed h d) below × AllRedraw rows h rest
 
@@ -60,5 +60,5 @@ abbrev pub on_each_by : (BoxKey → Bool) → (BoxKey → Item → Item) → (Bo
 on_each_by p g at j = if p j then option_map (with_item (g j)) (at j) else at j
 
 -- Each of these boxes is drawn anew, and touched where that is asked for.
-abbrev pub Redraws : Bool → Arena inner.Node → Arena inner.Node → List Handed → Handed → BoxForest → Type 0
+abbrev pub Redraws : Bool → Arena inner.Node → Arena inner.Node → List ScrollSums → ScrollSums → BoxForest → Type 0
 Redraws asked a b rows h f = Relinks a b (on_each_by (λ j. has same_key j f) (λ j. redrawn_if asked (hand_at rows j) (handed_to j h f)) (linked a))

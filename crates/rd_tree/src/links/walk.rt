@@ -19,7 +19,7 @@ ghost use Rattle.std.specs.Option.{option_map_or};
 ghost use Rattle.rd_style.specs.Figures.{max_coordinate};
 ghost use Rattle.rd_tree.specs.Figures.{max_boxes};
 
-use crate::handed::Handed;
+use crate::handed::ScrollSums;
 use crate::held::Nodes;
 use crate::node::Item;
 use crate::reach::Reach;
@@ -206,7 +206,7 @@ fn shift_fits(r: &Rect, far: Scroll, by: &Offset) -> bool
 /// Does a box stay within the limits once it is moved? Its first child and its next sibling.
 pub(crate) fn shift_one_fits(
     nodes: &Nodes,
-    rows: &[Handed],
+    rows: &[ScrollSums],
     key: BoxKey,
     by: &Offset,
 ) -> (bool, Option<BoxKey>, Option<BoxKey>)
@@ -229,7 +229,7 @@ pub(crate) fn shift_one_fits(
 /// Do a box, those below it, and its later siblings with theirs stay within the limits once they are moved?
 pub(crate) fn shift_from_fits(
     nodes: &Nodes,
-    rows: &[Handed],
+    rows: &[ScrollSums],
     first: Option<BoxKey>,
     by: &Offset,
 ) -> bool

@@ -17,17 +17,17 @@ use rd_keys::BoxKey;
 /// What some siblings are together: how many they are, how many of them and of all below them are touched, and the hull
 /// of all.
 #[derive(Clone, Copy)]
-pub(crate) struct Gathered {
+pub(crate) struct SiblingSums {
     pub(crate) breadth: u32,
     pub(crate) touched: u32,
     pub(crate) hull: Rect,
 }
 
-impl Gathered {
-    fn none() -> Gathered
+impl SiblingSums {
+    fn none() -> SiblingSums
         ensures { result ≡ gathered_in empty }
     {
-        Gathered {
+        SiblingSums {
             breadth: 0,
             touched: 0,
             hull: Rect::EMPTY,
@@ -47,7 +47,7 @@ pub(crate) fn touched_at(nodes: &Nodes, key: BoxKey) -> u32
 
 /// What its row takes of a box itself, and where to go on.
 #[derive(Clone, Copy)]
-pub(crate) struct Measured {
+pub(crate) struct RowParts {
     /// The border box with its outline round it.
     pub(crate) extent: Rect,
     /// 1 where the box is touched, and else 0.
@@ -60,20 +60,20 @@ pub(crate) struct Measured {
 
 /// What its row takes of a box.
 #[inline(always)]
-pub(crate) fn measure(nodes: &Nodes, key: BoxKey) -> Measured
+pub(crate) fn measure(nodes: &Nodes, key: BoxKey) -> RowParts
     requires { IsFitAt (linked nodes.now key) }
     ensures extent { result.extent ≡ extent_under (linked nodes.now key) }
     ensures touched { result.touched ≡ touched_under (linked nodes.now key) }
     ensures onward { (result.below, result.next) ≡ child_and_sibling (linked nodes.now key) }
 {
     match nodes.get(key) {
-        Some(node) => Measured {
+        Some(node) => RowParts {
             extent: outset(node.item.rect, node.item.style.outline_width),
             touched: if node.item.touched { 1 } else { 0 },
             below: node.links.first,
             next: node.links.next,
         },
-        None => Measured {
+        None => RowParts {
             extent: Rect::EMPTY,
             touched: 0,
             below: None,
@@ -84,7 +84,7 @@ pub(crate) fn measure(nodes: &Nodes, key: BoxKey) -> Measured
 
 /// The row of a box of this extent with these below it.
 #[inline(always)]
-pub(crate) fn row_of(own: Rect, below: &Gathered) -> Summary
+pub(crate) fn row_of(own: Rect, below: &SiblingSums) -> Summary
     ensures { result ≡ row_over own below.now }
 {
     Summary {
@@ -95,14 +95,14 @@ pub(crate) fn row_of(own: Rect, below: &Gathered) -> Summary
 }
 
 /// With one sibling more, of which this is the row. `own` is 1 where it is touched itself.
-fn with_one(all: &Gathered, own: u32, row: &Summary) -> Gathered
+fn with_one(all: &SiblingSums, own: u32, row: &Summary) -> SiblingSums
     requires few { all.now.breadth < 4294967295 }
     requires few_touched { all.now.touched + (own + row.now.touched) < 4294967296 }
     ensures breadth { result.breadth ≡ all.now.breadth + 1 }
     ensures touched { result.touched ≡ all.now.touched + (own + row.now.touched) }
     ensures hull { result.hull ≡ hull_of all.now.hull row.now.hull }
 {
-    Gathered {
+    SiblingSums {
         breadth: all.breadth + 1,
         touched: all.touched + (own + row.touched),
         hull: hull(all.hull, row.hull),
@@ -112,7 +112,7 @@ fn with_one(all: &Gathered, own: u32, row: &Summary) -> Gathered
 /// The same of the boxes below a box, with no call where there are none.
 #[cycle(gathering)]
 #[inline(always)]
-fn gather_below(table: &mut Vec<Summary>, nodes: &Nodes, first: Option<BoxKey>) -> Gathered
+fn gather_below(table: &mut Vec<Summary>, nodes: &Nodes, first: Option<BoxKey>) -> SiblingSums
     requires read { IsRead nodes.now first }
     requires small { nodes.now.limit ≤ max_boxes }
     requires has_rows { HasRows table.old.items (seen_from nodes.now first) }
@@ -123,13 +123,13 @@ fn gather_below(table: &mut Vec<Summary>, nodes: &Nodes, first: Option<BoxKey>) 
 {
     match first {
         Some(_) => gather(table, nodes, first),
-        None => Gathered::none(),
+        None => SiblingSums::none(),
     }
 }
 
 /// Writes the rows of a box, of those below it, and of its later siblings with theirs. What the siblings are together.
 #[cycle(gathering)]
-pub(crate) fn gather(table: &mut Vec<Summary>, nodes: &Nodes, first: Option<BoxKey>) -> Gathered
+pub(crate) fn gather(table: &mut Vec<Summary>, nodes: &Nodes, first: Option<BoxKey>) -> SiblingSums
     requires read { IsRead nodes.now first }
     requires small { nodes.now.limit ≤ max_boxes }
     requires has_rows { HasRows table.old.items (seen_from nodes.now first) }
@@ -138,7 +138,7 @@ pub(crate) fn gather(table: &mut Vec<Summary>, nodes: &Nodes, first: Option<BoxK
     ensures rows { Gathers nodes.now table.old.items table.new.items (seen_from nodes.now first) }
     ensures same_length { length table.new.items ≡ length table.old.items }
 {
-    let mut all = Gathered::none();
+    let mut all = SiblingSums::none();
     let mut at = first;
     while let Some(key) = at {
         let own = measure(nodes, key);

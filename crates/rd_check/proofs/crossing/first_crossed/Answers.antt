@@ -9,7 +9,7 @@ returns-in-Some-clause-found c = pair_here (sights_of c.args.seen.now) c.in-Some
 pub loop-j-preserved : goal.loop-j-preserved
 loop-j-preserved c = record {
   entered =
-      entered_on c.loop-j.near.blocks.items c.enter.new.near.blocks.items (sights_of c.args.seen.now) c.loop-j.j (sight_of c.index-seen-j.result) c.loop-j.invariant.entered
+      entered_on c.loop-j.near.clusters.items c.enter.new.near.clusters.items (sights_of c.args.seen.now) c.loop-j.j (sight_of c.index-seen-j.result) c.loop-j.invariant.entered
       (sight_here c.args.seen.now c.loop-j.j c.index-seen-j.result c.loop-j-test.true c.index-seen-j.is)
       c.in_ok-enter-in-None.ensures.kept c.in_ok-enter-in-None.ensures.entered c.in_ok-enter-in-None.ensures.before;
   none = pair_on (sights_of c.args.seen.now) c.loop-j.j c.loop-j.invariant.none c.in-None.ensures;

@@ -3,8 +3,8 @@ use Rattle.rd_graph.proofs.arranging.are_among.Goals as goal
 
 pub loop-place-preserved : goal.loop-place-preserved
 loop-place-preserved c = record {
-  met = met_next c.args.gone.now c.args.places.now c.loop-place.place-index c.loop-place.met _ c.loop-place-test.true c.loop-place.invariant.met c.met_after-met.ensures;
-  ahead = ahead_next c.args.gone.now c.args.places.now c.loop-place.place-index c.loop-place.met _ c.requires.gone c.requires.places c.loop-place-test.true c.loop-place.invariant.ahead c.met_after-met.ensures;
+  met = met_next c.args.gone.now c.args.places.now c.loop-place.place-index c.loop-place.met _ c.loop-place-test.true c.loop-place.invariant.met c.advance_past-met.ensures;
+  ahead = ahead_next c.args.gone.now c.args.places.now c.loop-place.place-index c.loop-place.met _ c.requires.gone c.requires.places c.loop-place-test.true c.loop-place.invariant.ahead c.advance_past-met.ensures;
 }
 
 pub returns : goal.returns

@@ -58,7 +58,7 @@ loop-place-preserved c =
     record {
       after = omega (arith, after, past);
       size = c.in_ok-pass.ensures.len ∙ inv.size;
-      met = met_next ps c.requires.rising i c.loop-place.met c.next_late-place.result c.met_after-met.result (length ns) inv.met (omega (arith, past)) (omega (arith, before, stop)) c.met_after-met.ensures;
+      met = met_next ps c.requires.rising i c.loop-place.met c.next_late-place.result c.advance_past-met.result (length ns) inv.met (omega (arith, past)) (omega (arith, before, stop)) c.advance_past-met.ensures;
       so_far = so_to gone (seen ns) c.requires.sound (noted_by c.args.gone.now.names c.pass.new.notes.items) (lists_seen c.pass.new.lists.items) (i + 1) c.next_late-place.result past (omega (arith, before, within, size))
           (λ k x h l m. stays_between ps c.requires.rising gone (seen ns) c.requires.sound inside c.requires.named i c.loop-place.met (length ns) inv.met k x h (omega (arith, l)) (omega (arith, m, before, stop)))
           (quiet_where gone _ (subst (λ (ms : List Bool). AreMarked ms c.args.gone.now.names) (sym c.deref.ensures.value) c.requires.marked) (seen ns) _ _ next.quiet) passed;

@@ -19,7 +19,7 @@ loop-place-preserved c =
     record {
       pairs = part_next put c.args.stays.now c.args.to c.loop-place.place (c.args.least + c.loop-place.met) _ c.loop-place.pairs.items c.push_pair.new.pairs.items _ c.loop-place-test.true c.requires.to
           (λ ps. ap (λ (m : ℕ). (c.args.least + m, c.loop-place.place) ∷ put ps) (sym c.loop-place.invariant.met)) c.loop-place.invariant.pairs c.in_ok-push_pair.ensures;
-      met = passed_next c.args.some.now c.loop-place.place c.loop-place.met c.met_after-met.result c.requires.rising c.loop-place.invariant.met c.met_after-met.ensures;
+      met = passed_next c.args.some.now c.loop-place.place c.loop-place.met c.advance_past-met.result c.requires.rising c.loop-place.invariant.met c.advance_past-met.ensures;
     }
 
 pub returns : goal.returns

@@ -3,7 +3,7 @@ use Rattle.std.specs.Prelude.{option_map, vec_len, None, Some}
 use Rattle.rd_graph.specs.Patches.{line_of}
 use Rattle.rd_graph.proofs.Patches.PutInPlace.{fits}
 use Rattle.rd_list.specs.Entries.{◌▷◌, list_size}
-use Rattle.rd_list.specs.Blocks.{Covers}
+use Rattle.rd_list.specs.Chunks.{Covers}
 use Rattle.rd_list.specs.KeptView.{kept_entries}
 use Rattle.rd_graph.specs.Runs.{places_of}
 use Rattle.rd_merge.specs.Internal.Untaken.{untaken}
@@ -116,14 +116,14 @@ finish-in_line-entries-requires-clause-still g t c =
 pub finish-in_line-entries-requires-clause-room : goal.finish-in_line-entries-requires-clause-room
 finish-in_line-entries-requires-clause-room g t c = room_so (option_map (λ l. places_of l.now) c.line-2.result) (line_of c.plan.inside.patch) c.plan.inside.room c.line-2.ensures c.plan.invariant.2
 
-pub finish-in_line_blocks-had-requires-clause-none : goal.finish-in_line_blocks-had-requires-clause-none
-finish-in_line_blocks-had-requires-clause-none g t c = c.plan.invariant.3
+pub finish-in_line_chunks-had-requires-clause-none : goal.finish-in_line_chunks-had-requires-clause-none
+finish-in_line_chunks-had-requires-clause-none g t c = c.plan.invariant.3
 
-pub finish-in_line_blocks-had-requires-clause-had : goal.finish-in_line_blocks-had-requires-clause-had
-finish-in_line_blocks-had-requires-clause-had g t c = subst (Covers c.loop-step.had.items) (sym c.deref.ensures.value) c.loop-step.invariant.9
+pub finish-in_line_chunks-had-requires-clause-had : goal.finish-in_line_chunks-had-requires-clause-had
+finish-in_line_chunks-had-requires-clause-had g t c = subst (Covers c.loop-step.had.items) (sym c.deref.ensures.value) c.loop-step.invariant.9
 
-pub finish-in_line_blocks-had-requires-clause-line : goal.finish-in_line_blocks-had-requires-clause-line
-finish-in_line_blocks-had-requires-clause-line g t c =
+pub finish-in_line_chunks-had-requires-clause-line : goal.finish-in_line_chunks-had-requires-clause-line
+finish-in_line_chunks-had-requires-clause-line g t c =
     let inv = c.loop-step.invariant in
     let ok = c.loop-step.step-iterator.rest.ok in
     let over = c.in-None.ensures.steps in
@@ -134,17 +134,17 @@ finish-in_line_blocks-had-requires-clause-line g t c =
     let more = c.deref-2.ensures.len in
     line_so (option_map (λ l. places_of l.now) c.line.result) (line_of c.args.plan.patch) (length c.deref.result.now + length c.deref-2.result.now) (size_of c.args.kept.entries + made_count c.args.plan.steps) (c.line.ensures ∙ ap (λ p. line_of p.patch) c.plan.view_is) (omega (arith, none, entries, counted, many, more)) c.requires.line
 
-pub finish-renew_blocks-requires-clause-none : goal.finish-renew_blocks-requires-clause-none
-finish-renew_blocks-requires-clause-none g t c = c.plan.invariant.4
+pub finish-renew_chunks-requires-clause-none : goal.finish-renew_chunks-requires-clause-none
+finish-renew_chunks-requires-clause-none g t c = c.plan.invariant.4
 
-pub finish-renew_blocks-requires-clause-had : goal.finish-renew_blocks-requires-clause-had
-finish-renew_blocks-requires-clause-had g t c =
+pub finish-renew_chunks-requires-clause-had : goal.finish-renew_chunks-requires-clause-had
+finish-renew_chunks-requires-clause-had g t c =
     let same = c.line.ensures ∙ sym c.line-2.ensures in
     let all = ap (λ es. es ++ c.deref-2.result.now) c.deref.ensures.value ∙ ap (λ es. c.loop-step.entries.items ++ es) c.deref-2.ensures.value in
-    rw (c.deref-4.ensures.value, c.deref-3.ensures.value, c.in_line-entries.ensures.items, ← same, ← all) c.in_line_blocks-had.ensures
+    rw (c.deref-4.ensures.value, c.deref-3.ensures.value, c.in_line-entries.ensures.items, ← same, ← all) c.in_line_chunks-had.ensures
 
 pub finish-invariant_of-result : goal.finish-invariant_of-result
-finish-invariant_of-result g t c = subst (Covers c.renew_blocks.new.blocks.items) c.deref-3.ensures.value c.renew_blocks.ensures
+finish-invariant_of-result g t c = subst (Covers c.renew_chunks.new.chunks.items) c.deref-3.ensures.value c.renew_chunks.ensures
 
 pub finish-apply-requires : goal.finish-apply-requires
 finish-apply-requires g t c = fits c.plan.inside.patch c.args.plan.patch c.kept.inside.graph c.args.kept.graph (ap (λ p. p.patch) c.plan.view_is) (ap (λ k. k.graph) c.kept.view_is) c.requires.patch
@@ -184,7 +184,7 @@ finish_step-returns-in-Group-clause-stepped g t c =
     let size_later = kept-size c.finish_group-entry.new.entries.items in
     let len = c.finish_group-entry.ensures.len in
     let long : size_of k ≡ vec_len c.args.entries.now = omega (arith, size, ok.0) in
-    c.put_in_block.ensures.put
+    c.put_in_chunk.ensures.put
     ∙ group_stepped c.args.step i.old i.is_new i.plan i.is c.into_inner.result c.into_inner.ensures (vec_len c.args.entries.now) k m n long c.requires.fits (kept_entries c.finish_group-entry.new.entries.items) (kept_entries (c.finish_group-entry.result ∷ []))
     (omega (arith, size, size_later, ok.0, later.0, len)) c.finish_group-entry.ensures.others c.finish_group-entry.ensures.made
 
@@ -201,4 +201,4 @@ finish_step-returns-in-Leaf-Some-clause-stepped g t c =
     let ok = old.ok in
     let some : i.field-0 ≡ Some i.place = rw i.is at i.field-0-is in
     let fits = leaf_within c.args.step i.field-0 i.is (untaken c.args.fresh.now) i.place some (vec_len old) (kept_entries old.items ▷ kept_entries c.args.made.now.items) c.requires.fits in
-    leaf_there c.args.step i.field-0 i.is (untaken c.args.fresh.now) i.place some old.items c.put_item_in_block.new.entries.items c.args.made.now.items c.next_item-item.result (omega (arith, ok.0, fits)) c.put_item_in_block.ensures.put c.next_item-item.ensures.leaf
+    leaf_there c.args.step i.field-0 i.is (untaken c.args.fresh.now) i.place some old.items c.put_item_in_chunk.new.entries.items c.args.made.now.items c.next_item-item.result (omega (arith, ok.0, fits)) c.put_item_in_chunk.ensures.put c.next_item-item.ensures.leaf

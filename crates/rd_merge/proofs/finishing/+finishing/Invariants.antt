@@ -1,7 +1,7 @@
 use Rattle.std.proofs.Common.{◌≡◌, ◌≤◌, ◌+◌, ◌*◌, ◌∷◌, []}
 use Rattle.std.specs.Prelude.{vec_len, vec_capacity}
 use Rattle.rd_list.specs.Entries.{list_size, ◌▷◌}
-use Rattle.rd_list.specs.Blocks.{Covers, IsAt}
+use Rattle.rd_list.specs.Chunks.{Covers, IsAt}
 use Rattle.rd_list.specs.KeptView.{kept_entries}
 use Rattle.rd_merge.specs.Internal.Untaken.{untaken}
 use Rattle.rd_merge.specs.Plans.{StepsFit, made_count, size_of, stepped}

@@ -9,23 +9,23 @@ use Rattle.rd_merge.specs.Looking.{gone_places, inner_places, kept_names}
 use Rattle.rd_merge.proofs.Looks.{names_length}
 use Rattle.rd_merge.proofs.looking.look.Goals as goal
 
-pub in_block-requires-clause-end : goal.in_block-requires-clause-end
-in_block-requires-clause-end g c =
-    let a = ahead_first c.args.blocks.now c.args.entries.now c.loop-block.block-index c.loop-block.place c.block-item.result c.loop-block-test.true c.block-item.is c.loop-block.invariant.within c.loop-block.invariant.ahead in
+pub in_chunk-requires-clause-end : goal.in_chunk-requires-clause-end
+in_chunk-requires-clause-end g c =
+    let a = ahead_first c.args.chunks.now c.args.entries.now c.loop-chunk.chunk-index c.loop-chunk.place c.chunk-item.result c.loop-chunk-test.true c.chunk-item.is c.loop-chunk.invariant.within c.loop-chunk.invariant.ahead in
     let l = a.0 in
-    let w = c.loop-block.invariant.within in
+    let w = c.loop-chunk.invariant.within in
     omega (arith, l, w)
 
-pub in_block-requires-clause-told : goal.in_block-requires-clause-told
-in_block-requires-clause-told g c =
-    (ahead_first c.args.blocks.now c.args.entries.now c.loop-block.block-index c.loop-block.place c.block-item.result c.loop-block-test.true c.block-item.is c.loop-block.invariant.within c.loop-block.invariant.ahead).1
+pub in_chunk-requires-clause-told : goal.in_chunk-requires-clause-told
+in_chunk-requires-clause-told g c =
+    (ahead_first c.args.chunks.now c.args.entries.now c.loop-chunk.chunk-index c.loop-chunk.place c.chunk-item.result c.loop-chunk-test.true c.chunk-item.is c.loop-chunk.invariant.within c.loop-chunk.invariant.ahead).1
 
-pub loop-block-preserved : goal.loop-block-preserved
-loop-block-preserved g c =
-    let a = ahead_first c.args.blocks.now c.args.entries.now c.loop-block.block-index c.loop-block.place c.block-item.result c.loop-block-test.true c.block-item.is c.loop-block.invariant.within c.loop-block.invariant.ahead in
+pub loop-chunk-preserved : goal.loop-chunk-preserved
+loop-chunk-preserved g c =
+    let a = ahead_first c.args.chunks.now c.args.entries.now c.loop-chunk.chunk-index c.loop-chunk.place c.chunk-item.result c.loop-chunk-test.true c.chunk-item.is c.loop-chunk.invariant.within c.loop-chunk.invariant.ahead in
     let l = a.0 in
-    let w = c.loop-block.invariant.within in
-    record { within = omega (arith, l, w); ahead = a.2; noted = c.in_ok-in_block.ensures }
+    let w = c.loop-chunk.invariant.within in
+    record { within = omega (arith, l, w); ahead = a.2; noted = c.in_ok-in_chunk.ensures }
 
 pub returns : goal.returns
 returns g c =

@@ -2,12 +2,12 @@ use Rattle.std.proofs.Common.{arith, ap, ◌∙◌, sym, subst, refl, length, Li
 use Rattle.std.specs.Prelude.{IfOk, map}
 use Rattle.rd_graph.specs.Orders.{Once}
 use Rattle.rd_graph.specs.Patches.{FitsPatch}
-use Rattle.rd_list.specs.Blocks.{Covers}
+use Rattle.rd_list.specs.Chunks.{Covers}
 use Rattle.rd_list.specs.Entries.{list_size, nil}
 use Rattle.rd_list.specs.EntryNames.{new_names}
 use Rattle.rd_list.specs.KeptView.{kept_entries}
 use Rattle.rd_list.specs.NewView.{new_entries, in_runs}
-use Rattle.rd_list.specs.declared.blocks.Block.{Block}
+use Rattle.rd_list.specs.declared.chunks.Chunk.{Chunk}
 use Rattle.rd_merge.specs.Going.{is_untouched}
 use Rattle.rd_merge.specs.Internal.Fitting.{FitsFor}
 use Rattle.rd_merge.specs.Looking.{kept_names}
@@ -242,8 +242,8 @@ plan_level-look-requires-clause-entries g t c =
 
 pub plan_level-look-requires-clause-covers : goal.plan_level-look-requires-clause-covers
 plan_level-look-requires-clause-covers g t c =
-    subst (λ (bs : List Block). Covers bs c.deref.result.now) (sym c.deref-2.ensures.value)
-    (subst (λ es. Covers c.kept.inside.blocks.items es) (sym c.deref.ensures.value) c.kept.invariant)
+    subst (λ (bs : List Chunk). Covers bs c.deref.result.now) (sym c.deref-2.ensures.value)
+    (subst (λ es. Covers c.kept.inside.chunks.items es) (sym c.deref.ensures.value) c.kept.invariant)
 
 pub plan_level-patch-requires : goal.plan_level-patch-requires
 plan_level-patch-requires g t c =
@@ -313,7 +313,7 @@ plan_level-invariant_of-result g t c =
     let ok = c.in_ok-names.names.ok in
     let len = c.len.ensures in
     let capacity = c.in_ok-made.ensures.capacity in
-    (c.in_ok-made.ensures.len, omega (arith, few, all, many, ok.0, len, capacity), c.in_ok-room.ensures, c.in_ok-parts.ensures, c.in_ok-blocks.ensures)
+    (c.in_ok-made.ensures.len, omega (arith, few, all, many, ok.0, len, capacity), c.in_ok-room.ensures, c.in_ok-parts.ensures, c.in_ok-chunks.ensures)
 
 pub plan_level-returns : goal.plan_level-returns
 plan_level-returns g t c =

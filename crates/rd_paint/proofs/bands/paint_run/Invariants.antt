@@ -1,7 +1,7 @@
 use Rattle.std.proofs.Common.{take}
 use Rattle.rd_list.specs.Displayed.{shown}
 use Rattle.rd_paint.specs.Internal.Picks.{picked}
-use Rattle.rd_paint.specs.Internal.Blocks.{IsRunPainted}
+use Rattle.rd_paint.specs.Internal.Rects.{IsRunPainted}
 use Rattle.rd_paint.proofs.bands.paint_run.Given as goal
 
 abbrev pub invariant-loop-span : goal.invariant-loop-span

@@ -5,11 +5,11 @@ use Rattle.rd_geom.specs.declared.span.Span.{Span}
 use Rattle.rd_list.specs.Displayed.{shown}
 use Rattle.rd_list.specs.Lists.{pixel}
 use Rattle.rd_paint.specs.Internal.Picks.{picked}
-use Rattle.rd_paint.proofs.Changing.{block_cut, block_off, columns_cut}
+use Rattle.rd_paint.proofs.Changing.{rect_cut, rect_off, columns_cut}
 use Rattle.rd_paint.proofs.bands.paint_span_in.Goals as goal
 
-pub paint_block-requires-clause-on : goal.paint_block-requires-clause-on
-paint_block-requires-clause-on g c =
+pub paint_rect-requires-clause-on : goal.paint_rect-requires-clause-on
+paint_rect-requires-clause-on g c =
     let w = ap (λ (s : Size). s.w) c.size-width.ensures.value in
     let x0 = ap (λ (s : Span). s.x0) c.cut-part.ensures in
     let x1 = ap (λ (s : Span). s.x1) c.cut-part.ensures in
@@ -25,12 +25,12 @@ paint_block-requires-clause-on g c =
 pub returns-then-part : goal.returns-then-part
 returns-then-part g c =
     let w = ap (λ (s : Size). s.w) c.size-width.ensures.value in
-    block_cut c.args.block.strip.corner (λ x y p. pixel (picked c.args.picks.now (shown c.args.entries.now)) (pos x) (pos y)) c.args.block.span c.cut-part.result c.args.block.strip.y0 c.args.block.strip.y1 c.args.canvas.now c.paint_block.new.canvas
-    (columns_cut c.args.block.strip.corner c.args.block.span c.cut-part.result c.columns.result c.args.canvas.now.width _ c.cut-part.ensures c.columns.ensures (omega (arith, ints, w))) c.paint_block.ensures
+    rect_cut c.args.rect.strip.corner (λ x y p. pixel (picked c.args.picks.now (shown c.args.entries.now)) (pos x) (pos y)) c.args.rect.span c.cut-part.result c.args.rect.strip.y0 c.args.rect.strip.y1 c.args.canvas.now c.paint_rect.new.canvas
+    (columns_cut c.args.rect.strip.corner c.args.rect.span c.cut-part.result c.columns.result c.args.canvas.now.width _ c.cut-part.ensures c.columns.ensures (omega (arith, ints, w))) c.paint_rect.ensures
 
 pub returns-else-part : goal.returns-else-part
 returns-else-part g c =
     let w = ap (λ (s : Size). s.w) c.size-width.ensures.value in
-    block_cut c.args.block.strip.corner (λ x y p. pixel (picked c.args.picks.now (shown c.args.entries.now)) (pos x) (pos y)) c.args.block.span c.cut-part.result c.args.block.strip.y0 c.args.block.strip.y1 c.args.canvas.now c.args.canvas.now
-    (columns_cut c.args.block.strip.corner c.args.block.span c.cut-part.result c.columns.result c.args.canvas.now.width _ c.cut-part.ensures c.columns.ensures (omega (arith, ints, w)))
-    (block_off c.args.block.strip.corner (λ x y p. pixel (picked c.args.picks.now (shown c.args.entries.now)) (pos x) (pos y)) c.cut-part.result c.args.block.strip.y0 c.args.block.strip.y1 c.args.canvas.now (inr (omega (arith, ints))))
+    rect_cut c.args.rect.strip.corner (λ x y p. pixel (picked c.args.picks.now (shown c.args.entries.now)) (pos x) (pos y)) c.args.rect.span c.cut-part.result c.args.rect.strip.y0 c.args.rect.strip.y1 c.args.canvas.now c.args.canvas.now
+    (columns_cut c.args.rect.strip.corner c.args.rect.span c.cut-part.result c.columns.result c.args.canvas.now.width _ c.cut-part.ensures c.columns.ensures (omega (arith, ints, w)))
+    (rect_off c.args.rect.strip.corner (λ x y p. pixel (picked c.args.picks.now (shown c.args.entries.now)) (pos x) (pos y)) c.cut-part.result c.args.rect.strip.y0 c.args.rect.strip.y1 c.args.canvas.now (inr (omega (arith, ints))))

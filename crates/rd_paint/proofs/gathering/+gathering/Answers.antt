@@ -25,7 +25,7 @@ gather-loop-i-init g t c =
     let past = c.next_within-i.ensures.same in
     record {
       at = c.next_within-i.ensures.within;
-      block = c.next_within-i.ensures.at;
+      chunk = c.next_within-i.ensures.at;
       within = omega arith;
       closed = closed_none;
       same =
@@ -51,7 +51,7 @@ gather-loop-i-preserved g t c =
     c.loop-i.invariant.closed c.in_ok-more.ensures.closed c.loop-i.invariant.same (c.in_ok-more.ensures.same (shown c.args.entries.now) at) past in
     record {
       at = c.next_within-i-in-loop-i.ensures.within;
-      block = c.next_within-i-in-loop-i.ensures.at;
+      chunk = c.next_within-i-in-loop-i.ensures.at;
       within = put_fits c.loop-i.count (length c.loop-i.room - c.loop-i.count) c.in_ok-more.more c.loop-i.room c.gather_one.new.room c.loop-i.invariant.within fits;
       closed = written.0;
       same = written.1;

@@ -1,5 +1,5 @@
 use Rattle.std.proofs.Common.{◌≤◌, ◌+◌, ◌-◌, ◌*◌, ◌∷◌, [], length, take, drop}
-use Rattle.rd_list.specs.Blocks.{IsAt}
+use Rattle.rd_list.specs.Chunks.{IsAt}
 use Rattle.rd_list.specs.Displayed.{shown}
 use Rattle.rd_list.specs.Entries.{list_size, ◌▷◌}
 use Rattle.rd_list.specs.KeptView.{kept_entries}
@@ -9,7 +9,7 @@ use Rattle.rd_paint.proofs.gathering.+gathering.Given as goal
 abbrev pub invariant-gather-loop-i : goal.invariant-gather-loop-i
 invariant-gather-loop-i g l = record {
   at : l.i ≤ length l.entries;
-  block : IsAt l.blocks l.seek.at l.seek.start;
+  chunk : IsAt l.chunks l.seek.at l.seek.start;
   within : l.count ≤ length l.room;
   closed : IsClosed (take l.count l.room);
   same : ServesWhere (InAreaWithin l.area l.columns l.rows) (picked (take l.count l.room) (shown l.entries) ▷ shown (drop l.i l.entries)) (shown l.entries);

@@ -1,5 +1,5 @@
 use Rattle.std.proofs.Common.{◌≡◌, ◌∙◌, sym, refl, Bool, true, false, not, IsTrue}
-use Rattle.rd_paint.proofs.OffBlocks.{off_area}
+use Rattle.rd_paint.proofs.OffChunks.{off_area}
 use Rattle.rd_paint.proofs.skipping.is_off.Goals as goal
 
 not_true : (b : Bool) → IsTrue (not b) → b ≡ false
@@ -10,4 +10,4 @@ pub returns-then-misses-clause-off : goal.returns-then-misses-clause-off
 returns-then-misses-clause-off c = λ t x y h. c.misses.ensures c.if-misses.true x y h.1
 
 pub returns-clause-off : goal.returns-clause-off
-returns-clause-off c = λ t x y h. off_area c.args.area.now c.args.block.now.told.hull (sym c.meets.ensures ∙ not_true c.meets.result t) x y h.0
+returns-clause-off c = λ t x y h. off_area c.args.area.now c.args.chunk.now.told.hull (sym c.meets.ensures ∙ not_true c.meets.result t) x y h.0

@@ -1,5 +1,5 @@
 use Rattle.std.proofs.Common.{◌≡◌, ◌∙◌, ap, subst, sym, ℕ, ◌+◌, ◌-◌, ◌∷◌, [], false, length, take, drop, arith}
-use Rattle.rd_list.specs.Blocks.{Tells}
+use Rattle.rd_list.specs.Chunks.{Tells}
 use Rattle.rd_list.specs.EntryNames.{kept_leaves}
 use Rattle.rd_list.specs.KeptView.{kept_entries}
 use Rattle.rd_tree.specs.Document.{is_touched}
@@ -10,48 +10,48 @@ use Rattle.rd_list.proofs.Covering.{ahead_first}
 use Rattle.rd_list.proofs.Parting.{part_size, rest_is}
 use Rattle.rd_list.proofs.Viewing.{size_at}
 use Rattle.rd_partial.proofs.Listing.{entry_more, item_shows}
-use Rattle.rd_partial.proofs.Parted.{block_more, quiet_joins, rest_more}
+use Rattle.rd_partial.proofs.Parted.{chunk_more, quiet_joins, rest_more}
 use Rattle.rd_partial.proofs.listed.+listing.Goals as goal
 
-pub add_level-add_block-requires : goal.add_level-add_block-requires
-add_level-add_block-requires g t c κs within =
+pub add_level-add_chunk-requires : goal.add_level-add_chunk-requires
+add_level-add_chunk-requires g t c κs within =
     let es = c.args.entries.now in
-    let p = c.loop-block.place in
-    let b = c.block-item.result in
+    let p = c.loop-chunk.place in
+    let b = c.chunk-item.result in
     let size = part_size es p ((p + b.count) - p) in
-    let first = ahead_first c.args.blocks.now es c.loop-block.block-index p b c.loop-block-test.true c.block-item.is c.loop-block.invariant.within c.loop-block.invariant.ahead in
+    let first = ahead_first c.args.chunks.now es c.loop-chunk.chunk-index p b c.loop-chunk-test.true c.chunk-item.is c.loop-chunk.invariant.within c.loop-chunk.invariant.ahead in
     (omega (arith, size, c.decreases), (within.0, (within.1, subst (λ (n : ℕ). b.is_open ≡ false → Tells b (take n (drop p es))) (let e : b.count ≡ (p + b.count) - p = omega arith in e) first.1)))
 
-pub add_level-loop-block-preserved : goal.add_level-loop-block-preserved
-add_level-loop-block-preserved g t c =
+pub add_level-loop-chunk-preserved : goal.add_level-loop-chunk-preserved
+add_level-loop-chunk-preserved g t c =
     let es = c.args.entries.now in
-    let p = c.loop-block.place in
-    let b = c.block-item.result in
-    let w = c.loop-block.invariant.within in
-    let first = ahead_first c.args.blocks.now es c.loop-block.block-index p b c.loop-block-test.true c.block-item.is w c.loop-block.invariant.ahead in
+    let p = c.loop-chunk.place in
+    let b = c.chunk-item.result in
+    let w = c.loop-chunk.invariant.within in
+    let first = ahead_first c.args.chunks.now es c.loop-chunk.chunk-index p b c.loop-chunk-test.true c.chunk-item.is w c.loop-chunk.invariant.ahead in
     let l = first.0 in
     record {
       within = omega (arith, l, w);
       ahead = first.2;
-      joins = block_more c.args.tree.now es p b.count c.args.area.now c.loop-block.area c.add_block.new.area c.loop-block.invariant.joins
-          (subst (λ (n : ℕ). Joins (any_shows c.args.tree.now (kept_leaves (kept_entries (take n (drop p es))))) c.loop-block.area c.add_block.new.area) (let e : (p + b.count) - p ≡ b.count = omega arith in e) c.in_ok-add_block.ensures);
+      joins = chunk_more c.args.tree.now es p b.count c.args.area.now c.loop-chunk.area c.add_chunk.new.area c.loop-chunk.invariant.joins
+          (subst (λ (n : ℕ). Joins (any_shows c.args.tree.now (kept_leaves (kept_entries (take n (drop p es))))) c.loop-chunk.area c.add_chunk.new.area) (let e : (p + b.count) - p ≡ b.count = omega arith in e) c.in_ok-add_chunk.ensures);
     }
 
 pub add_level-add_entries-requires : goal.add_level-add_entries-requires
 add_level-add_entries-requires g t c κs within =
-    let size = part_size c.args.entries.now c.loop-block.place (length c.args.entries.now - c.loop-block.place) in
+    let size = part_size c.args.entries.now c.loop-chunk.place (length c.args.entries.now - c.loop-chunk.place) in
     (omega (arith, size, c.decreases), within)
 
 pub add_level-returns : goal.add_level-returns
 add_level-returns g t c =
     let es = c.args.entries.now in
-    let p = c.loop-block.place in
-    rest_more c.args.tree.now es p c.args.area.now c.loop-block.area c.add_entries.new.area c.loop-block.invariant.joins
-    (subst (λ ys. Joins (any_shows c.args.tree.now (kept_leaves (kept_entries ys))) c.loop-block.area c.add_entries.new.area) (rest_is es p) c.in_ok-add_entries.ensures)
+    let p = c.loop-chunk.place in
+    rest_more c.args.tree.now es p c.args.area.now c.loop-chunk.area c.add_entries.new.area c.loop-chunk.invariant.joins
+    (subst (λ ys. Joins (any_shows c.args.tree.now (kept_leaves (kept_entries ys))) c.loop-chunk.area c.add_entries.new.area) (rest_is es p) c.in_ok-add_entries.ensures)
 
-pub add_block-returns-then-is_quiet : goal.add_block-returns-then-is_quiet
-add_block-returns-then-is_quiet g t c =
-    quiet_joins c.args.tree.now c.args.block.now.told.keys c.args.entries.now c.args.area.now (c.is_quiet.ensures.untouched c.if-is_quiet.true) (c.requires (c.is_quiet.ensures.open c.if-is_quiet.true)).2
+pub add_chunk-returns-then-is_quiet : goal.add_chunk-returns-then-is_quiet
+add_chunk-returns-then-is_quiet g t c =
+    quiet_joins c.args.tree.now c.args.chunk.now.told.keys c.args.entries.now c.args.area.now (c.is_quiet.ensures.untouched c.if-is_quiet.true) (c.requires (c.is_quiet.ensures.open c.if-is_quiet.true)).2
 
 pub add_entries-add_entry-requires : goal.add_entries-add_entry-requires
 add_entries-add_entry-requires g t c κs within =

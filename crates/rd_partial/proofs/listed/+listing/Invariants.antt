@@ -1,5 +1,5 @@
 use Rattle.std.proofs.Common.{take, drop, length, ◌≤◌, ◌+◌, ◌*◌, ◌∷◌, []}
-use Rattle.rd_list.specs.Blocks.{Covers}
+use Rattle.rd_list.specs.Chunks.{Covers}
 use Rattle.rd_list.specs.Entries.{list_size}
 use Rattle.rd_list.specs.EntryNames.{kept_leaves}
 use Rattle.rd_list.specs.KeptView.{kept_entries}
@@ -13,8 +13,8 @@ decreases-add_list g l = 5 * list_size l.list.now.entries + 4
 abbrev pub decreases-add_level : goal.decreases-add_level
 decreases-add_level g l = 5 * list_size (kept_entries l.entries.now) + 3
 
-abbrev pub decreases-add_block : goal.decreases-add_block
-decreases-add_block g l = 5 * list_size (kept_entries l.entries.now) + 2
+abbrev pub decreases-add_chunk : goal.decreases-add_chunk
+decreases-add_chunk g l = 5 * list_size (kept_entries l.entries.now) + 2
 
 abbrev pub decreases-add_entries : goal.decreases-add_entries
 decreases-add_entries g l = 5 * list_size (kept_entries l.entries.now) + 1
@@ -22,10 +22,10 @@ decreases-add_entries g l = 5 * list_size (kept_entries l.entries.now) + 1
 abbrev pub decreases-add_entry : goal.decreases-add_entry
 decreases-add_entry g l = 5 * list_size (kept_entries (l.entry.now ∷ []))
 
-abbrev pub invariant-add_level-loop-block : goal.invariant-add_level-loop-block
-invariant-add_level-loop-block g l = record {
+abbrev pub invariant-add_level-loop-chunk : goal.invariant-add_level-loop-chunk
+invariant-add_level-loop-chunk g l = record {
   within : l.place ≤ length l.entries;
-  ahead : Covers (drop l.block-index l.blocks) (drop l.place l.entries);
+  ahead : Covers (drop l.chunk-index l.chunks) (drop l.place l.entries);
   joins : Joins (any_shows l.tree (kept_leaves (kept_entries (take l.place l.entries)))) l.fn.area l.area;
 }
 

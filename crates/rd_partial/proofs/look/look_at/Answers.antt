@@ -2,7 +2,7 @@ use Rattle.std.proofs.Common.{refl, sym, subst, []}
 use Rattle.rd_tree.specs.Shown.{told}
 use Rattle.rd_stack.specs.Paths.{OutlineFits}
 use Rattle.rd_stack.proofs.Walk.Going as below
-use Rattle.rd_partial.specs.Internal.Looked.{Onward, here_of}
+use Rattle.rd_partial.specs.Internal.BoxLook.{Onward, here_of}
 use Rattle.rd_partial.proofs.Going as going
 use Rattle.rd_partial.proofs.look.look_at.Goals as goal
 use Rattle.rd_tree.specs.Drawn.{drawn}

@@ -13,16 +13,16 @@ use Rattle.rd_tree.proofs.Drawing.{apart_drawn}
 pub returns-in-Some : goal.returns-in-Some
 returns-in-Some g c =
     let sought = sought_near (g.W.Wanted.wants c.args.wanted.now) c.args.frame.now (drawn c.args.tree.now) c.args.first c.args.looks.now
-    (g.met.W.Wanted.grows c.args.wanted.now) c.requires.frame (apart_drawn [] c.args.tree.now.boxes c.look_on_for_hull.ensures.apart) c.requires.live in
-    subst (λ l. IsNextNear (g.W.Wanted.wants c.args.wanted.now) (drawn c.args.tree.now) c.args.first c.looked_of.result c.args.looks.now l) (sym c.look_on_for_hull.ensures.ticks)
-    (next_near_is (g.W.Wanted.wants c.args.wanted.now) (drawn c.args.tree.now) c.args.first c.in-Some.view c.looked_of.result c.args.looks.now _ (apart_drawn [] c.args.tree.now.boxes c.look_on_for_hull.ensures.apart)
-    c.look_on_for_hull.ensures.near c.looked_of.ensures (found (λ o l. PassesWanted (g.W.Wanted.wants c.args.wanted.now) (drawn c.args.tree.now) c.args.first o c.args.looks.now l) c.args.tree.now.root (drawn c.args.tree.now).boxes
+    (g.met.W.Wanted.grows c.args.wanted.now) c.requires.frame (apart_drawn [] c.args.tree.now.boxes c.next_sibling_meeting.ensures.apart) c.requires.live in
+    subst (λ l. IsNextNear (g.W.Wanted.wants c.args.wanted.now) (drawn c.args.tree.now) c.args.first c.looked_of.result c.args.looks.now l) (sym c.next_sibling_meeting.ensures.ticks)
+    (next_near_is (g.W.Wanted.wants c.args.wanted.now) (drawn c.args.tree.now) c.args.first c.in-Some.view c.looked_of.result c.args.looks.now _ (apart_drawn [] c.args.tree.now.boxes c.next_sibling_meeting.ensures.apart)
+    c.next_sibling_meeting.ensures.near c.looked_of.ensures (found (λ o l. PassesWanted (g.W.Wanted.wants c.args.wanted.now) (drawn c.args.tree.now) c.args.first o c.args.looks.now l) c.args.tree.now.root (drawn c.args.tree.now).boxes
     (siblings_from (hull_reaches c.args.frame.now) (from_some same_key c.args.first (drawn c.args.tree.now).boxes)) (told c.in-Some.view) _ sought c.in-Some.ensures.seen))
 
 pub returns-in-None : goal.returns-in-None
 returns-in-None g c =
     let sought = sought_near (g.W.Wanted.wants c.args.wanted.now) c.args.frame.now (drawn c.args.tree.now) c.args.first c.args.looks.now
-    (g.met.W.Wanted.grows c.args.wanted.now) c.requires.frame (apart_drawn [] c.args.tree.now.boxes c.look_on_for_hull.ensures.apart) c.requires.live in
-    subst (λ l. PassesWanted (g.W.Wanted.wants c.args.wanted.now) (drawn c.args.tree.now) c.args.first None c.args.looks.now l) (sym c.look_on_for_hull.ensures.ticks)
+    (g.met.W.Wanted.grows c.args.wanted.now) c.requires.frame (apart_drawn [] c.args.tree.now.boxes c.next_sibling_meeting.ensures.apart) c.requires.live in
+    subst (λ l. PassesWanted (g.W.Wanted.wants c.args.wanted.now) (drawn c.args.tree.now) c.args.first None c.args.looks.now l) (sym c.next_sibling_meeting.ensures.ticks)
     (not_found (λ o l. PassesWanted (g.W.Wanted.wants c.args.wanted.now) (drawn c.args.tree.now) c.args.first o c.args.looks.now l) c.args.tree.now.root (drawn c.args.tree.now).boxes
     (siblings_from (hull_reaches c.args.frame.now) (from_some same_key c.args.first (drawn c.args.tree.now).boxes)) _ sought c.in-None.ensures.seen)

@@ -1,5 +1,5 @@
 use Rattle.std.proofs.Common.{◌∙◌, sym}
-use Rattle.rd_partial.specs.Internal.Looked.{here_of}
+use Rattle.rd_partial.specs.Internal.BoxLook.{here_of}
 use Rattle.rd_partial.proofs.Kids.{live_next}
 use Rattle.rd_partial.proofs.Searching.{near_on}
 use Rattle.rd_partial.proofs.seeking.next_wanted.Goals as goal

@@ -3,7 +3,7 @@ use Rattle.std.specs.Prelude.{Some}
 use Rattle.rd_keys.specs.Keys.{same_key}
 use Rattle.rd_tree.specs.Forest.{from_some}
 use Rattle.rd_tree.specs.Hulls.{touched_in}
-use Rattle.rd_partial.specs.Internal.Looked.{here_of}
+use Rattle.rd_partial.specs.Internal.BoxLook.{here_of}
 use Rattle.rd_partial.proofs.Kids.{live_next}
 use Rattle.rd_partial.proofs.Touching.{added_one, fewer_below, added_looks, added_end, left_after, none_left}
 use Rattle.rd_partial.proofs.Searching.{added_over}

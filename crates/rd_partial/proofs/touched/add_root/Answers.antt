@@ -3,7 +3,7 @@ use Rattle.std.specs.Prelude.{Some}
 use Rattle.rd_keys.specs.Keys.{same_key}
 use Rattle.rd_tree.specs.Forest.{from_some}
 use Rattle.rd_tree.specs.Hulls.{touched_in}
-use Rattle.rd_partial.specs.Internal.Looked.{here_of}
+use Rattle.rd_partial.specs.Internal.BoxLook.{here_of}
 use Rattle.rd_partial.specs.Internal.Touched.{own_shows, shows_below}
 use Rattle.rd_partial.proofs.Adding.{joins_then}
 use Rattle.rd_partial.proofs.Touching.{added_begin, added_one, added_looks, added_end}

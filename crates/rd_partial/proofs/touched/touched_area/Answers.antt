@@ -8,7 +8,7 @@ use Rattle.rd_list.specs.EntryNames.{kept_leaves}
 use Rattle.rd_tree.specs.Document.{Document}
 use Rattle.rd_stack.specs.Fresh.{fresh_list}
 use Rattle.rd_partial.specs.Invalid.{any_shows}
-use Rattle.rd_partial.specs.Internal.Standing.{at_root}
+use Rattle.rd_partial.specs.Internal.Inherited.{at_root}
 use Rattle.rd_partial.specs.Internal.Touched.{Joins}
 use Rattle.rd_partial.proofs.Invalidating.{looks_are, invalid_is}
 use Rattle.rd_partial.proofs.Showing.{shows_drawn}

@@ -7,7 +7,7 @@ use Rattle.rd_tree.specs.Forest.{from_some}
 use Rattle.rd_partial.specs.Internal.Pass.{is_one, as_group}
 use Rattle.rd_partial.proofs.Kids.{onward_as}
 use Rattle.rd_partial.proofs.Pass.Top.{list_of, count_of, looks_of}
-use Rattle.rd_partial.specs.Internal.Standing.{at_root}
+use Rattle.rd_partial.specs.Internal.Inherited.{at_root}
 use Rattle.rd_partial.proofs.Pass.Filled.{filled}
 use Rattle.rd_partial.proofs.walk.build_wanted.Goals as goal
 use Rattle.rd_tree.specs.Drawn.{drawn}

@@ -1,5 +1,5 @@
 use Rattle.rd_tree.specs.Internal.Glances.{AreShared}
 use Rattle.rd_tree.proofs.shared.renew.Given as goal
 
-abbrev pub invariant-loop-block : goal.invariant-loop-block
-invariant-loop-block l = AreShared l.words l.shared
+abbrev pub invariant-loop-page : goal.invariant-loop-page
+invariant-loop-page l = AreShared l.words l.shared

@@ -5,7 +5,7 @@ use Rattle.rd_geom.specs.Areas.{in_area}
 use Rattle.rd_geom.specs.Canvas.{canvas_of}
 use Rattle.rd_area.specs.Internal.Bands.{rows_of}
 use Rattle.rd_area.specs.Internal.Normal.{IsOn, spans_of}
-use Rattle.rd_area.proofs.Pixels.{IsBlock, canvas_on, common_on_right, block_top, had_pixels, held_pixels}
+use Rattle.rd_area.proofs.Pixels.{IsBand, canvas_on, common_on_right, band_top, had_pixels, held_pixels}
 use Rattle.rd_area.proofs.area.Area.add.Goals as goal
 
 pub returns-then-is_within-clause-pixels : goal.returns-then-is_within-clause-pixels
@@ -19,9 +19,9 @@ returns-then-have-clause-pixels c =
     let o : IsOn c.meet-seen.result c.self.inside.size =
     rw (c.meet-seen.ensures.value, c.rect.ensures) (common_on_right c.args.r (canvas_of c.self.inside.size) c.self.inside.size c.self.invariant.0.canvas
     (canvas_on c.self.inside.size)) in
-    let k : IsBlock c.meet-seen.result c.rows_of-from.result.0 c.rows_of-from.result.1 c.columns.result =
+    let k : IsBand c.meet-seen.result c.rows_of-from.result.0 c.rows_of-from.result.1 c.columns.result =
     record { first = c.rows_of-from.ensures.first; last = c.rows_of-from.ensures.last; columns = c.columns.ensures } in
-    let top = block_top c.meet-seen.result c.rows_of-from.result.0 c.rows_of-from.result.1 c.columns.result c.self.inside.size k c.self.invariant.0.canvas o in
+    let top = band_top c.meet-seen.result c.rows_of-from.result.0 c.rows_of-from.result.1 c.columns.result c.self.inside.size k c.self.invariant.0.canvas o in
     let b = rw c.deref.ensures.value at c.between-first.ensures.bands in
     let e : c.meet-seen.result ≡ meet c.args.r (canvas_of c.self.inside.size) = c.meet-seen.ensures.value ∙ ap (λ s. meet c.args.r s) c.rect.ensures in
     rw (← c.self.view_is, ← e) (had_pixels c.meet-seen.result (unsigned_abs c.self.inside.size.h) c.rows_of-from.result.0 c.rows_of-from.result.1
@@ -41,9 +41,9 @@ between-first-requires-clause-all c = λ z l.
     let o : IsOn c.meet-seen.result c.self.inside.size =
     rw (c.meet-seen.ensures.value, c.rect.ensures) (common_on_right c.args.r (canvas_of c.self.inside.size) c.self.inside.size c.self.invariant.0.canvas
     (canvas_on c.self.inside.size)) in
-    let k : IsBlock c.meet-seen.result c.rows_of-from.result.0 c.rows_of-from.result.1 (record { x0 = c.meet-seen.result.x; x1 = right c.meet-seen.result }) =
+    let k : IsBand c.meet-seen.result c.rows_of-from.result.0 c.rows_of-from.result.1 (record { x0 = c.meet-seen.result.x; x1 = right c.meet-seen.result }) =
     record { first = c.rows_of-from.ensures.first; last = c.rows_of-from.ensures.last; columns = refl } in
-    let top = block_top c.meet-seen.result c.rows_of-from.result.0 c.rows_of-from.result.1 _ c.self.inside.size k c.self.invariant.0.canvas o in
+    let top = band_top c.meet-seen.result c.rows_of-from.result.0 c.rows_of-from.result.1 _ c.self.inside.size k c.self.invariant.0.canvas o in
     rw c.deref.ensures.value (c.self.invariant.1.all z (omega (arith, l, top)))
 
 pub returns-clause-pixels : goal.returns-clause-pixels

@@ -7,7 +7,7 @@ use Rattle.rd_geom.specs.Plane.{right}
 use Rattle.rd_area.specs.Internal.Normal.{spans_of}
 use Rattle.rd_area.specs.Internal.Bands.{row_at, rows_of}
 use Rattle.rd_area.proofs.Banded.{table_same}
-use Rattle.rd_area.proofs.Pixels.{HasEdges, IsBlock, IsGrown, block_top, grown_rows, grown_sound, grown_filled, grown_pixels, larger_filled, same_edges, some_edges}
+use Rattle.rd_area.proofs.Pixels.{HasEdges, IsBand, IsGrown, band_top, grown_rows, grown_sound, grown_filled, grown_pixels, larger_filled, same_edges, some_edges}
 use Rattle.rd_area.proofs.area.Area.join.Goals as goal
 
 abbrev region : Size → List (List Span) → Region
@@ -16,9 +16,9 @@ region size rows = record { size = size; rows = rows }
 pub invariant_of-self : goal.invariant_of-self
 invariant_of-self c =
     let h = unsigned_abs c.self.inside.size.h in
-    let k : IsBlock c.args.seen c.rows_of-from.result.0 c.rows_of-from.result.1 (record { x0 = c.args.seen.x; x1 = right c.args.seen }) =
+    let k : IsBand c.args.seen c.rows_of-from.result.0 c.rows_of-from.result.1 (record { x0 = c.args.seen.x; x1 = right c.args.seen }) =
     record { first = c.rows_of-from.ensures.first; last = c.rows_of-from.ensures.last; columns = refl } in
-    let top = block_top c.args.seen c.rows_of-from.result.0 c.rows_of-from.result.1 _ c.self.inside.size k c.self.invariant.0.canvas (rw (← c.self.view_is) at c.requires.on) in
+    let top = band_top c.args.seen c.rows_of-from.result.0 c.rows_of-from.result.1 _ c.self.inside.size k c.self.invariant.0.canvas (rw (← c.self.view_is) at c.requires.on) in
     let same : rows_of h c.prepare.new.ends.items (spans_of c.prepare.new.bands.items) ≡ rows_of h c.self.inside.ends.items (spans_of c.self.inside.bands.items) =
     table_same h (row_at c.prepare.new.ends.items (spans_of c.prepare.new.bands.items)) (row_at c.self.inside.ends.items (spans_of c.self.inside.bands.items))
     c.prepare.ensures.same in
@@ -27,9 +27,9 @@ invariant_of-self c =
 pub invariant_of-self-2 : goal.invariant_of-self-2
 invariant_of-self-2 c =
     let h = unsigned_abs c.self.inside.size.h in
-    let k : IsBlock c.args.seen c.rows_of-from.result.0 c.rows_of-from.result.1 c.columns.result =
+    let k : IsBand c.args.seen c.rows_of-from.result.0 c.rows_of-from.result.1 c.columns.result =
     record { first = c.rows_of-from.ensures.first; last = c.rows_of-from.ensures.last; columns = c.columns.ensures } in
-    let top = block_top c.args.seen c.rows_of-from.result.0 c.rows_of-from.result.1 c.columns.result c.self.inside.size k c.self.invariant.0.canvas (rw (← c.self.view_is) at c.requires.on) in
+    let top = band_top c.args.seen c.rows_of-from.result.0 c.rows_of-from.result.1 c.columns.result c.self.inside.size k c.self.invariant.0.canvas (rw (← c.self.view_is) at c.requires.on) in
     let g : IsGrown c.args.seen c.rows_of-from.result.0 c.rows_of-from.result.1 c.columns.result
     (rows_of h c.self.inside.ends.items (spans_of c.self.inside.bands.items)) (rows_of h c.prepare.new.ends.items (spans_of c.join.new.rows.items)) =
     grown_rows c.args.seen h c.rows_of-from.result.0 c.rows_of-from.result.1 c.in_ok-first.first c.in_ok-first.last c.columns.result c.self.inside.ends.items
@@ -68,9 +68,9 @@ returns-in_err-first-clause-refused c =
 pub returns-clause-pixels : goal.returns-clause-pixels
 returns-clause-pixels c =
     let h = unsigned_abs c.self.inside.size.h in
-    let k : IsBlock c.args.seen c.rows_of-from.result.0 c.rows_of-from.result.1 c.columns.result =
+    let k : IsBand c.args.seen c.rows_of-from.result.0 c.rows_of-from.result.1 c.columns.result =
     record { first = c.rows_of-from.ensures.first; last = c.rows_of-from.ensures.last; columns = c.columns.ensures } in
-    let top = block_top c.args.seen c.rows_of-from.result.0 c.rows_of-from.result.1 c.columns.result c.self.inside.size k c.self.invariant.0.canvas (rw (← c.self.view_is) at c.requires.on) in
+    let top = band_top c.args.seen c.rows_of-from.result.0 c.rows_of-from.result.1 c.columns.result c.self.inside.size k c.self.invariant.0.canvas (rw (← c.self.view_is) at c.requires.on) in
     let g : IsGrown c.args.seen c.rows_of-from.result.0 c.rows_of-from.result.1 c.columns.result
     (rows_of h c.self.inside.ends.items (spans_of c.self.inside.bands.items)) (rows_of h c.prepare.new.ends.items (spans_of c.join.new.rows.items)) =
     grown_rows c.args.seen h c.rows_of-from.result.0 c.rows_of-from.result.1 c.in_ok-first.first c.in_ok-first.last c.columns.result c.self.inside.ends.items

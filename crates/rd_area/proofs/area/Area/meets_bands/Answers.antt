@@ -6,7 +6,7 @@ use Rattle.rd_area.specs.Internal.Normal.{IsOn, spans_of}
 use Rattle.std.specs.Prelude.{unsigned_abs, IsTrue}
 use Rattle.rd_area.specs.Internal.Bands.{row_at, rows_of, HasRow}
 use Rattle.rd_area.proofs.Banded.{table_at}
-use Rattle.rd_area.proofs.Pixels.{IsBlock, common_on_left, apart_shares, filled_shares, some_there, block_top, row_of_band, found_shares, none_shares, true_unless}
+use Rattle.rd_area.proofs.Pixels.{IsBand, common_on_left, apart_shares, filled_shares, some_there, band_top, row_of_band, found_shares, none_shares, true_unless}
 use Rattle.rd_area.proofs.area.Area.meets_bands.Goals as goal
 
 pub rows_of-from-requires : goal.rows_of-from-requires
@@ -17,9 +17,9 @@ pub meets-requires-2-clause-all : goal.meets-requires-2-clause-all
 meets-requires-2-clause-all c = λ z l.
     let o : IsOn c.meet-seen.result c.self.inside.size =
     rw c.meet-seen.ensures.value (common_on_left c.self.inside.used c.args.r c.self.inside.size c.self.invariant.0.canvas c.self.invariant.0.on) in
-    let k : IsBlock c.meet-seen.result c.rows_of-from.result.0 c.rows_of-from.result.1 (record { x0 = c.meet-seen.result.x; x1 = right c.meet-seen.result }) =
+    let k : IsBand c.meet-seen.result c.rows_of-from.result.0 c.rows_of-from.result.1 (record { x0 = c.meet-seen.result.x; x1 = right c.meet-seen.result }) =
     record { first = c.rows_of-from.ensures.first; last = c.rows_of-from.ensures.last; columns = refl } in
-    let top = block_top c.meet-seen.result c.rows_of-from.result.0 c.rows_of-from.result.1 _ c.self.inside.size k c.self.invariant.0.canvas o in
+    let top = band_top c.meet-seen.result c.rows_of-from.result.0 c.rows_of-from.result.1 _ c.self.inside.size k c.self.invariant.0.canvas o in
     rw c.deref.ensures.value (c.self.invariant.1.all z (omega (arith, l, top)))
 
 -- where the rectangle lies off what is in use
@@ -53,9 +53,9 @@ returns c =
     let to = c.rows_of-from.result.1 in
     let o : IsOn (meet c.self.inside.used c.args.r) c.self.inside.size =
     common_on_left c.self.inside.used c.args.r c.self.inside.size c.self.invariant.0.canvas c.self.invariant.0.on in
-    let k : IsBlock (meet c.self.inside.used c.args.r) from to c.columns.result =
+    let k : IsBand (meet c.self.inside.used c.args.r) from to c.columns.result =
     rw (← c.meet-seen.ensures.value) (record { first = c.rows_of-from.ensures.first; last = c.rows_of-from.ensures.last; columns = c.columns.ensures }) in
-    let top : to ≤ height = block_top (meet c.self.inside.used c.args.r) from to c.columns.result c.self.inside.size k c.self.invariant.0.canvas o in
+    let top : to ≤ height = band_top (meet c.self.inside.used c.args.r) from to c.columns.result c.self.inside.size k c.self.invariant.0.canvas o in
     let found = rw c.deref.ensures.value at c.meets-2.ensures.found in
     let none = rw c.deref.ensures.value at c.meets-2.ensures.none in
     rw (← c.self.view_is) (same_test c.meets-2.result _

@@ -1,9 +1,0 @@
-use Rattle.std.proofs.Common.{sym, ap}
-use Rattle.rd_list.specs.declared.blocks.Block.{Block}
-use Rattle.rd_list.proofs.Covering.{at_next}
-use Rattle.rd_list.proofs.seeking.find_block.Goals as goal
-
-pub loop-now-preserved : goal.loop-now-preserved
-loop-now-preserved c =
-    let next = at_next c.args.blocks.now c.loop-now.now.at c.loop-now.now.start c.args.place _ c.index-blocks-now.result c.loop-now-test.true c.index-blocks-now.is (ap (λ (b : Block). b.count) (sym c.index-blocks-now.is)) c.loop-now.invariant.at c.loop-now.invariant.before c.if-place-now.false in
-    record { at = next.0; before = next.1 }

@@ -1,0 +1,18 @@
+use Rattle.std.proofs.Common.{◌+◌, inl, arith}
+use Rattle.rd_paint.specs.Internal.Rects.{over_around}
+use Rattle.rd_paint.proofs.Changing.{rect_off, rect_more}
+use Rattle.rd_paint.proofs.Strips.{rect_still}
+use Rattle.rd_paint.proofs.rects.lay_rows.Goals as goal
+
+pub lay_one_row-requires : goal.lay_one_row-requires
+lay_one_row-requires c = record {
+  rect = rect_still c.args.canvas.now c.loop-row.canvas c.args.rect c.loop-row.invariant.width c.loop-row.invariant.height c.requires;
+  from = omega arith;
+  to = omega arith;
+}
+
+pub loop-row-init : goal.loop-row-init
+loop-row-init c = rect_off c.args.rect.strip.corner (over_around c.args.px c.args.hole) c.args.rect.span c.args.rect.strip.y0 c.args.rect.strip.y0 c.args.canvas.now (inl (omega arith))
+
+pub loop-row-preserved : goal.loop-row-preserved
+loop-row-preserved c = rect_more c.args.rect.strip.corner (over_around c.args.px c.args.hole) c.args.rect.span c.args.rect.strip.y0 c.loop-row.row (c.loop-row.row + 1) c.args.canvas.now c.loop-row.canvas c.lay_one_row.new.canvas (omega arith) (omega arith) c.loop-row.invariant c.lay_one_row.ensures
