@@ -1,6 +1,7 @@
 -- Places of a line as runs of places that follow each other.
 -- All of it is this project's own choice.
-use Rattle.std.specs.Prelude.{◌≡◌, ℕ, zero, suc, ◌+◌, ◌-◌, ◌<◌, ◌≤◌, ◌⊎◌, true, false, if◌then◌else◌, List, [], ◌∷◌, ◌++◌, length, take, drop}
+use Rattle.std.specs.Prelude.{◌≡◌, ℕ, zero, suc, ◌+◌, ◌-◌, ◌<◌, ◌≤◌, ◌⊎◌, true, false, if◌then◌else◌, List, [], ◌∷◌, ◌++◌, length, take, drop, Option, Some, None, vec_len, vec_capacity}
+use Rattle.std.specs.declared.vec.Vec.{Vec}
 use Rattle.rd_graph.specs.Gathered.{gathered}
 use Rattle.rd_graph.specs.declared.runs.Run.{Run}
 
@@ -40,3 +41,8 @@ RunsRise n m old made (r ∷ rs) =
     ((r.aside ≡ true) × RunsRise n m old made rs)
     ⊎ ((r.aside ≡ false) × (r.from < n) × (old ≤ r.from) × (r.from + r.count ≤ n) × RunsRise n m (r.from + r.count) made rs)
     ⊎ ((r.aside ≡ false) × (n + made ≤ r.from) × (r.from + r.count ≤ n + m) × RunsRise n m old (r.from - n + r.count) rs)
+
+-- where there is a line, there is empty room for as many elements
+abbrev pub HasLineRoom : {E B : Type 0} → Option (List ℕ) → Vec E B → Type 0
+HasLineRoom None room = Unit {0}
+HasLineRoom (Some line) room = (vec_len room ≡ 0) × (length line ≤ vec_capacity room)

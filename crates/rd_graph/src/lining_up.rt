@@ -9,7 +9,7 @@ use std::vec::IntoIter;
 
 /// Do the runs of old elements rise, and those of made ones, which are counted on from this many old ones? Each run is of
 /// one kind, and there are so many made ones. A run that is set aside may be of any places.
-pub fn is_rising(runs: &[Run], old: usize, made: usize) -> bool
+pub(crate) fn is_rising(runs: &[Run], old: usize, made: usize) -> bool
     ensures { result ≡ true → RunsRise old made 0 0 runs.now }
 {
     let mut next_old = 0;
@@ -35,7 +35,7 @@ pub fn is_rising(runs: &[Run], old: usize, made: usize) -> bool
 }
 
 /// Are the runs one of all of so many made elements in their order, where there are no old ones?
-pub fn is_all_made(runs: &[Run], old: usize, made: usize) -> bool
+pub(crate) fn is_all_made(runs: &[Run], old: usize, made: usize) -> bool
     ensures none { result ≡ true → old ≡ 0 }
     ensures all { result ≡ true → places_of runs.now ≡ up_from 0 made }
 {
@@ -43,7 +43,7 @@ pub fn is_all_made(runs: &[Run], old: usize, made: usize) -> bool
 }
 
 /// Is nothing there as yet, and room for what is set aside?
-pub fn has_room_aside<T>(runs: &[Run], aside: &Vec<T>) -> bool
+pub(crate) fn has_room_aside<T>(runs: &[Run], aside: &Vec<T>) -> bool
     ensures none { result ≡ true → vec_len aside.now ≡ 0 }
     ensures room { result ≡ true → length (places_aside runs.now) ≤ vec_capacity aside.now }
 {
@@ -91,7 +91,7 @@ fn move_run<T: Drop>(rest: &mut IntoIter<T, Global>, count: usize, room: &mut Ve
 
 /// Moves old and made elements, each in rising order, and those that are set aside in theirs, to the end of `room`, which
 /// has capacity for them.
-pub fn gather_rising<T: Drop>(
+pub(crate) fn gather_rising<T: Drop>(
     old: Vec<T>,
     made: Vec<T>,
     aside: Vec<T>,

@@ -7,7 +7,7 @@ ghost use Rattle.rd_graph.specs.Internal.Seen.{seen};
 
 use crate::before::{Predecessors, nothing, one};
 use crate::graph::Node;
-use crate::runs::{Run, count_aside, count_of};
+use crate::runs::{Run, as_runs, line_room};
 use rd_keys::EntryKey;
 use std::alloc::{AllocError, Global};
 
@@ -67,20 +67,9 @@ pub(crate) fn make(
     Ok(made)
 }
 
-/// Room for the nodes of a line that are set aside.
-pub(crate) fn aside_room(alloc: Global, line: &Option<Vec<Run>>) -> Result<Vec<Node>, AllocError> {
-    match line {
-        Some(line) => Vec::with_capacity(alloc, count_aside(line)),
-        None => Ok(Vec::new(alloc)),
-    }
-}
-
 /// Room for the nodes of a line.
 pub(crate) fn room(alloc: Global, line: &Option<Vec<Run>>) -> Result<Vec<Node>, AllocError>
     ensures { IfOk result (λ r. HasRoom line.now r) }
 {
-    match line {
-        Some(line) => Vec::with_capacity(alloc, count_of(line)),
-        None => Ok(Vec::new(alloc)),
-    }
+    line_room(alloc, as_runs(line))
 }

@@ -8,8 +8,8 @@ use crate::arranging::arrange;
 use crate::before::Predecessors;
 use crate::changing::changed;
 use crate::graph::{Node, OrderGraph};
-use crate::making::{aside_room, make, room};
-use crate::runs::Run;
+use crate::making::{make, room};
+use crate::runs::{Run, as_runs, aside_room};
 use crate::thinning::{joined, thinned};
 use crate::trimming::trimmed;
 use rd_keys::EntryKey;
@@ -50,10 +50,7 @@ impl Patch {
     pub fn line(&self) -> Option<&[Run]>
         ensures { option_map (λ l. places_of l.now) result ≡ line_of self.now }
     {
-        match &self.line {
-            Some(line) => Some(line),
-            None => None,
-        }
+        as_runs(&self.line)
     }
 }
 
@@ -79,7 +76,7 @@ impl OrderGraph {
         let lists = trimmed(alloc, chain, relisted)?;
         let line = arrange(alloc, self, gone, chain, found)?;
         let made = make(alloc, chain, found)?;
-        let aside = aside_room(alloc, &line)?;
+        let aside = aside_room(alloc, as_runs(&line))?;
         let room = room(alloc, &line)?;
         Ok(Patch {
             alloc,

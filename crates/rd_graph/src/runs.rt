@@ -1,6 +1,6 @@
 //! Places as runs of places that follow each other.
-ghost use Rattle.std.specs.Prelude.{◌≡◌, ◌^◌, ◌+◌, ◌-◌, ◌<◌, ◌++◌, ◌∷◌, [], IsTrue, OnOk, IfOk, length, min};
-ghost use Rattle.rd_graph.specs.Runs.{places_aside, places_of, up_from};
+ghost use Rattle.std.specs.Prelude.{◌≡◌, ◌^◌, ◌+◌, ◌-◌, ◌<◌, ◌++◌, ◌∷◌, [], IsTrue, OnOk, IfOk, length, min, option_map};
+ghost use Rattle.rd_graph.specs.Runs.{HasLineRoom, places_aside, places_of, up_from};
 
 use std::alloc::{AllocError, Global};
 
@@ -79,7 +79,7 @@ pub(crate) fn runs_of(alloc: Global, places: &[usize], apart: usize) -> Result<V
 }
 
 /// How many places there are, or else the greatest number.
-pub fn count_of(runs: &[Run]) -> usize
+fn count_of(runs: &[Run]) -> usize
     ensures { result ≡ min (length (places_of runs.now)) (2 ^ 64 - 1) }
 {
     let mut count: usize = 0;
@@ -97,7 +97,7 @@ fn aside_of(run: Run) -> usize
 }
 
 /// How many places there are of runs that are set aside, or else the greatest number.
-pub fn count_aside(runs: &[Run]) -> usize
+pub(crate) fn count_aside(runs: &[Run]) -> usize
     ensures { result ≡ min (length (places_aside runs.now)) (2 ^ 64 - 1) }
 {
     let mut count: usize = 0;
@@ -105,4 +105,32 @@ pub fn count_aside(runs: &[Run]) -> usize
         count = count.saturating_add(aside_of(*run));
     }
     count
+}
+
+/// The runs of a line, where there is one.
+pub(crate) fn as_runs(line: &Option<Vec<Run>>) -> Option<&[Run]>
+    ensures { option_map (λ l. places_of l.now) result ≡ option_map (λ l. places_of l.items) line.now }
+{
+    match line {
+        Some(line) => Some(line),
+        None => None,
+    }
+}
+
+/// Empty room for the elements of a line, where there is one.
+pub fn line_room<T>(alloc: Global, line: Option<&[Run]>) -> Result<Vec<T>, AllocError>
+    ensures { IfOk result (λ r. HasLineRoom (option_map (λ l. places_of l.now) line.entry) r) }
+{
+    match line {
+        Some(line) => Vec::with_capacity(alloc, count_of(line)),
+        None => Ok(Vec::new(alloc)),
+    }
+}
+
+/// Room for those that are set aside before they are moved.
+pub fn aside_room<T>(alloc: Global, line: Option<&[Run]>) -> Result<Vec<T>, AllocError> {
+    match line {
+        Some(line) => Vec::with_capacity(alloc, count_aside(line)),
+        None => Ok(Vec::new(alloc)),
+    }
 }

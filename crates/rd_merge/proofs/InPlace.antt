@@ -10,7 +10,6 @@ use Rattle.rd_list.proofs.Admitting.{read_any}
 use Rattle.rd_graph.specs.Gathered.{gathered, arranged}
 use Rattle.rd_graph.specs.Internal.Taking.{KeepsOthers}
 use Rattle.rd_graph.specs.Runs.{up_from}
-use Rattle.rd_graph.proofs.LinedUp.AllMade.{only_made}
 use Rattle.rd_item.specs.Items.{Made}
 use Rattle.rd_keys.specs.declared.entry.EntryKey.{EntryKey}
 use Rattle.rd_list.specs.Wrappers.{Wrapper, wrapper}
@@ -25,7 +24,6 @@ use Rattle.rd_list.proofs.Joins.{join-nil, join_assoc}
 use Rattle.rd_list.proofs.News.{kept-append}
 use Rattle.rd_merge.specs.Plans.{arranged_entries, entry_at, gathered_entries, put_entry, size_of, with_entry, wrapper_at}
 use Rattle.rd_merge.specs.Internal.Moving.{ChangesAt, IsSameBut, NoneMade, PutsAt}
-use Rattle.rd_merge.specs.Internal.PlanRoom.{HasLineRoom}
 
 abbrev pub Olds : Type 0
 Olds = Entries (Ordered EntryKey Wrapper) Made
@@ -118,12 +116,9 @@ module _ {A : Type 0} where
   gathered_are [] es = refl
   gathered_are (p ∷ ps) es = kept-append (take 1 (drop p es)) (gathered ps es) ∙ ap (λ z. z ▷ kept_entries (gathered ps es)) (entry_is es p) ∙ ap (λ z. entry_at p (kept_entries es) ▷ z) (gathered_are ps es)
 
-  pub lined : {B : Type 0} (line : Option (List ℕ)) (l : List ℕ) (es ms start after : List (Entry A)) (room : Vec (Entry A) B) → line ≡ Some l → HasLineRoom line room
-      → length start ≡ vec_len room → after ≡ start ++ gathered l (es ++ ms) → kept_entries after ≡ arranged_entries line (kept_entries es ▷ kept_entries ms)
-  lined line l es ms start after room some has size e =
-      let roomy : HasLineRoom (Some l) room = subst (λ o. HasLineRoom o room) some has in
-      let empty : start ≡ [] = none_long start (omega (arith, size, roomy.0)) in
-      ap kept_entries (e ∙ ap (λ s. s ++ gathered l (es ++ ms)) empty) ∙ gathered_are l (es ++ ms) ∙ ap (gathered_entries l) (kept-append es ms) ∙ ap (λ o. arranged_entries o (kept_entries es ▷ kept_entries ms)) (sym some)
+  pub lined : (line : Option (List ℕ)) (l : List ℕ) (es ms after : List (Entry A)) → line ≡ Some l → after ≡ gathered l (es ++ ms) → kept_entries after ≡ arranged_entries line (kept_entries es ▷ kept_entries ms)
+  lined line l es ms after some e =
+      ap kept_entries e ∙ gathered_are l (es ++ ms) ∙ ap (gathered_entries l) (kept-append es ms) ∙ ap (λ o. arranged_entries o (kept_entries es ▷ kept_entries ms)) (sym some)
 
   pub unlined : (line : Option (List ℕ)) (es ms : List (Entry A)) (n : ℕ) → line ≡ None → NoneMade line n → length ms ≡ n → kept_entries es ≡ arranged_entries line (kept_entries es ▷ kept_entries ms)
   unlined line es ms n none still size =
@@ -131,28 +126,11 @@ module _ {A : Type 0} where
       let empty : ms ≡ [] = none_long ms (size ∙ zero_made) in
       sym (ap (λ o. arranged_entries o (kept_entries es ▷ kept_entries ms)) none ∙ ap (λ zs. kept_entries es ▷ kept_entries zs) empty ∙ join-nil (kept_entries es))
 
-  pub lined_items : {B : Type 0} (line : Option (List ℕ)) (l : List ℕ) (es ms start after : List (Entry A)) (room : Vec (Entry A) B) → line ≡ Some l → HasLineRoom line room
-      → length start ≡ vec_len room → after ≡ start ++ gathered l (es ++ ms) → after ≡ arranged line (es ++ ms)
-  lined_items line l es ms start after room some has size e =
-      let roomy : HasLineRoom (Some l) room = subst (λ o. HasLineRoom o room) some has in
-      let empty : start ≡ [] = none_long start (omega (arith, size, roomy.0)) in
-      e ∙ ap (λ s. s ++ gathered l (es ++ ms)) empty ∙ ap (λ o. arranged o (es ++ ms)) (sym some)
-
   pub unlined_items : (line : Option (List ℕ)) (es ms : List (Entry A)) (n : ℕ) → line ≡ None → NoneMade line n → length ms ≡ n → es ≡ arranged line (es ++ ms)
   unlined_items line es ms n none still size =
       let zero_made : n ≡ 0 = subst (λ o. NoneMade o n) none still in
       let empty : ms ≡ [] = none_long ms (size ∙ zero_made) in
       sym (ap (λ o. arranged o (es ++ ms)) none ∙ ap (λ zs. es ++ zs) empty ∙ append-nil es)
-
-  -- ---- made entries alone
-
-  pub alone_items : (line : Option (List ℕ)) (l : List ℕ) (es ms : List (Entry A)) (n m : ℕ) → line ≡ Some l → n ≡ 0 → length es ≡ n → length ms ≡ m → l ≡ up_from 0 m → ms ≡ arranged line (es ++ ms)
-  alone_items line l es ms n m some z u v e = only_made es ms l n m z u v e ∙ ap (λ o. arranged o (es ++ ms)) (sym some)
-
-  pub alone : (line : Option (List ℕ)) (l : List ℕ) (es ms : List (Entry A)) (n m : ℕ) → line ≡ Some l → n ≡ 0 → length es ≡ n → length ms ≡ m → l ≡ up_from 0 m
-      → kept_entries ms ≡ arranged_entries line (kept_entries es ▷ kept_entries ms)
-  alone line l es ms n m some z u v e =
-      ap kept_entries (only_made es ms l n m z u v e) ∙ gathered_are l (es ++ ms) ∙ ap (gathered_entries l) (kept-append es ms) ∙ ap (λ o. arranged_entries o (kept_entries es ▷ kept_entries ms)) (sym some)
 
   -- ---- a group is taken
 

@@ -11,7 +11,7 @@ use Rattle.rd_list.specs.Kept.{KeptList}
 use Rattle.rd_merge.specs.Plans.{PlanList, Steps, IsGroupPlace, IsNamed, IsPlace, MakesNone, PlacesFit, StepsFit, filled, first_leaf, grouped_as, list_for, made_count, old_list, put_entry, size_of, stepped, wrapper_for}
 use Rattle.rd_merge.specs.PlanView.{steps_seen}
 use Rattle.rd_merge.specs.Internal.Moving.{IsSameBut, NoneMade, left_after}
-use Rattle.rd_merge.specs.Internal.PlanRoom.{HasLineRoom}
+use Rattle.rd_graph.specs.Runs.{HasLineRoom}
 use Rattle.rd_merge.specs.declared.plan.Plan.{Plan}
 use Rattle.rd_merge.specs.declared.plan.Step.{Step}
 use Rattle.rd_merge.specs.declared.plan.Step.TheVariants as step

@@ -8,7 +8,6 @@ pub mod Passes
 pub mod PlanCode
 pub mod PlanFalls
 pub mod Planning
-pub mod PlanRoom
 pub mod Sought
 pub mod Telling
 pub mod Untaken

@@ -10,9 +10,9 @@ ghost use Rattle.rd_merge.specs.Plans.{IsGroupPlace, IsNamed, IsPlace, first_lea
 ghost use Rattle.rd_merge.specs.Internal.Moving.{ChangesAt, IsSameBut};
 ghost use Rattle.rd_merge.specs.Internal.Untaken.{untaken};
 
-use crate::moving::take_at;
 use crate::taking::NewEntries;
 use rd_geom::Blend;
+use rd_graph::take_at;
 use rd_item::Item;
 use rd_keys::BoxKey;
 use rd_list::{Entry, Group, Kept, NewEntry, NewList};

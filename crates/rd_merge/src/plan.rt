@@ -39,7 +39,7 @@ impl<A: Ledger> Model for Plan<A> {
     ghost use Rattle.std.specs.Prelude.{◌≡◌, ◌≤◌, [], length, vec_len, vec_capacity};
     ghost use Rattle.rd_merge.specs.Plans.{PlanList, made_count};
     ghost use Rattle.rd_merge.specs.Internal.PlanCode.{plan_code};
-    ghost use Rattle.rd_merge.specs.Internal.PlanRoom.{HasLineRoom};
+    ghost use Rattle.rd_graph.specs.Runs.{HasLineRoom};
     ghost use Rattle.rd_graph.specs.Patches.{line_of};
     ghost use Rattle.rd_graph.specs.contracts.patch.Patch as patch_row;
     ghost use Rattle.rd_list.specs.Entries.{list_size};

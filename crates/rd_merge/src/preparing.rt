@@ -1,6 +1,7 @@
 //! The first half of a merge: all memory is taken, and nothing is changed.
 ghost use Rattle.std.specs.Prelude.{◌≡◌, ◌∷◌, [], Some, IfOk, OnOk, map};
 ghost use Rattle.rd_graph.specs.Patches.{line_of};
+ghost use Rattle.rd_graph.specs.Runs.{HasLineRoom};
 ghost use Rattle.rd_list.specs.Entries as list;
 ghost use Rattle.rd_list.specs.EntryNames.{new_names};
 ghost use Rattle.rd_list.specs.NewView.{new_entries, in_runs};
@@ -10,13 +11,12 @@ ghost use Rattle.rd_merge.specs.Merging.{CanBeMerged, IsPlan, MergedInto, Stands
 ghost use Rattle.rd_merge.specs.Plans.{PlacesFit, filled, old_list};
 ghost use Rattle.rd_merge.specs.PlanView.{steps_seen};
 ghost use Rattle.rd_merge.specs.Internal.Adding.{AddsSteps};
-ghost use Rattle.rd_merge.specs.Internal.PlanRoom.{HasLineRoom};
 ghost use Rattle.rd_merge.specs.Internal.Planning.{EntriesFit, GroupFits, GroupsFit, InnerSteps, IsGroupStep, NewSteps, place_in};
 
 use crate::going::Touches;
 use crate::looking::look;
 use crate::plan::{Plan, Step};
-use rd_graph::{Patch, count_aside, count_of};
+use rd_graph::{Patch, aside_room, line_room};
 use rd_list::{Chunk, Entry, Kept, NewEntry, NewList, new_keys};
 use std::alloc::{AllocError, Global};
 use std::sync::ledger::Ledger;
@@ -40,22 +40,11 @@ pub fn prepare<A: Ledger, T: Touches>(
     Ok(plan)
 }
 
-/// Room for the entries of a line, if there is one.
-fn line_room<A: Ledger>(alloc: Global, patch: &Patch) -> Result<Vec<Entry<A>>, AllocError>
+/// Room for the entries of a patch's line, if there is one.
+fn entry_room<A: Ledger>(alloc: Global, patch: &Patch) -> Result<Vec<Entry<A>>, AllocError>
     ensures { IfOk result (λ r. HasLineRoom (line_of patch.now) r) }
 {
-    match patch.line() {
-        Some(line) => Vec::with_capacity(alloc, count_of(line)),
-        None => Ok(Vec::new(alloc)),
-    }
-}
-
-/// Room for the entries of a line that are set aside, if there is one.
-fn aside_room<A: Ledger>(alloc: Global, patch: &Patch) -> Result<Vec<Entry<A>>, AllocError> {
-    match patch.line() {
-        Some(line) => Vec::with_capacity(alloc, count_aside(line)),
-        None => Ok(Vec::new(alloc)),
-    }
+    line_room(alloc, patch.line())
 }
 
 /// Into how many runs the entries go.
@@ -119,8 +108,8 @@ fn plan_level<A: Ledger, T: Touches>(
     let mut inner = plan_groups(alloc, kept, &looked.inner, tree)?;
     steps.append(&mut inner)?;
     let made = Vec::with_capacity(alloc, names.len())?;
-    let aside = aside_room(alloc, &patch)?;
-    let room = line_room(alloc, &patch)?;
+    let aside = aside_room(alloc, patch.line())?;
+    let room = entry_room(alloc, &patch)?;
     let parts = part_room(alloc, &patch, kept.chunks.len())?;
     let groups = planned.groups.saturating_add(looked.inner.len());
     let chunks = chunk_room(alloc, &patch, kept.chunks.len(), steps.len(), groups)?;

@@ -27,10 +27,3 @@ module _ {T : Type 0} where
   pub only_made : (old made : List T) (ps : List ℕ) (n m : ℕ) → n ≡ 0 → length old ≡ n → length made ≡ m → ps ≡ up_from 0 m → made ≡ gathered ps (old ++ made)
   only_made old made ps n m z l k e =
       sym (ap (λ qs. gathered qs (old ++ made)) (e ∙ ap (up_from 0) (sym k)) ∙ ap (λ zs. gathered (up_from 0 (length made)) (zs ++ made)) (none_long old (l ∙ z)) ∙ whole_up made)
-
-pub made_alone : {A : Type 0} (line : Option (Vec Run A)) (l : Vec Run A) (nodes made : List Node) (now : List Run) (n m : ℕ) → line ≡ Some l → now ≡ l.items
-    → n ≡ 0 → length nodes ≡ n → length made ≡ m → places_of now ≡ up_from 0 m → seen made ≡ arranged (option_map (λ v. places_of v.items) line) (seen nodes ++ seen made)
-made_alone line l nodes made now n m some is z u v e =
-    ap seen (only_made nodes made (places_of now) n m z u v e ∙ ap (λ rs. gathered (places_of rs) (nodes ++ made)) is)
-    ∙ sym (gathered_map (λ (x : Node). (x.key, x.before.items)) (places_of l.items) (nodes ++ made)) ∙ ap (gathered (places_of l.items)) (map-append (λ (x : Node). (x.key, x.before.items)) nodes made)
-    ∙ sym (ap (λ o. arranged (option_map (λ v. places_of v.items) o) (seen nodes ++ seen made)) some)

@@ -95,12 +95,10 @@ none_long : {T : Type 0} (xs : List T) → length xs ≡ 0 → xs ≡ []
 none_long [] e = refl
 none_long (x ∷ xs) e = absurd (omega (arith, e))
 
-pub placed : {A B : Type 0} (line : Option (Vec Run A)) (l : Vec Run A) (nodes made start after : List Node) (room : Vec Node B) (now : List Run) → line ≡ Some l → HasRoom line room
-    → length start ≡ vec_len room → now ≡ l.items → after ≡ start ++ gathered (places_of now) (nodes ++ made) → seen after ≡ arranged (option_map (λ v. places_of v.items) line) (seen nodes ++ seen made)
-placed line l nodes made start after room now some has size is e =
-    let roomy : HasRoom (Some l) room = subst (λ o. HasRoom o room) some has in
-    let empty : start ≡ [] = none_long start (omega (arith, size, roomy.0)) in
-    let gave : after ≡ gathered (places_of l.items) (nodes ++ made) = e ∙ ap (λ s. s ++ gathered (places_of now) (nodes ++ made)) empty ∙ ap (λ rs. gathered (places_of rs) (nodes ++ made)) is in
+pub placed : {A : Type 0} (line : Option (Vec Run A)) (l : Vec Run A) (nodes made after : List Node) (now : List Run) → line ≡ Some l → now ≡ l.items
+    → after ≡ gathered (places_of now) (nodes ++ made) → seen after ≡ arranged (option_map (λ v. places_of v.items) line) (seen nodes ++ seen made)
+placed line l nodes made after now some is e =
+    let gave : after ≡ gathered (places_of l.items) (nodes ++ made) = e ∙ ap (λ rs. gathered (places_of rs) (nodes ++ made)) is in
     ap seen gave ∙ sym (gathered_map (λ (n : Node). (n.key, n.before.items)) (places_of l.items) (nodes ++ made)) ∙ ap (gathered (places_of l.items)) (map-append (λ (n : Node). (n.key, n.before.items)) nodes made)
     ∙ sym (ap (λ o. arranged (option_map (λ v. places_of v.items) o) (seen nodes ++ seen made)) some)
 

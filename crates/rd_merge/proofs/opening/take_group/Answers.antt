@@ -20,4 +20,4 @@ returns-clause-inner g c =
     inner_there c.args.entries.now.items c.args.place c.take_at.result c.in-Group.group (group_within c.args.entries.now.items c.args.place c.requires) c.take_at.ensures.taken c.in-Group.is
 
 pub returns-clause-others : goal.returns-clause-others
-returns-clause-others g c = same_but c.args.place c.args.entries.now.items c.take_at.new.entries.items (group_within c.args.entries.now.items c.args.place c.requires) c.take_at.ensures.kept
+returns-clause-others g c = same_but c.args.place c.args.entries.now.items c.take_at.new.elements.items (group_within c.args.entries.now.items c.args.place c.requires) c.take_at.ensures.kept

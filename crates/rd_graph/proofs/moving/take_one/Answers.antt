@@ -1,8 +1,8 @@
 use Rattle.std.proofs.Common.{arith}
-use Rattle.rd_graph.proofs.applying.take_node.Goals as goal
+use Rattle.rd_graph.proofs.moving.take_one.Goals as goal
 
 pub take_at-requires-2 : goal.take_at-requires-2
-take_at-requires-2 c =
+take_at-requires-2 g c =
     let within = c.requires in
     let above = c.if-i-len.false in
     let first = c.len.ensures in
