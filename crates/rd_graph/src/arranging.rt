@@ -7,6 +7,7 @@ ghost use Rattle.rd_graph.specs.Internal.Seen.{seen};
 ghost use Rattle.rd_graph.specs.Runs.{places_of, up_from};
 ghost use Rattle.rd_graph.specs.Internal.Walks.{counted, place_or, free_after, IsMet, RisesTo};
 
+use crate::change::Change;
 use crate::graph::{Node, OrderGraph};
 use crate::ranking::ranked_line;
 use crate::runs::{Run, push_run};
@@ -113,20 +114,18 @@ fn stands_still(gone: &[usize], places: &[usize], end: usize) -> bool
 fn moving_line(
     alloc: Global,
     nodes: &[Node],
-    gone: &[usize],
-    chain: &[EntryKey],
-    found: &[Option<usize>],
+    change: Change<'_>,
     places: &[usize],
 ) -> Result<Vec<Run>, AllocError>
     requires sound { IsInOrder (seen nodes.now) }
-    requires can { CanBePatched gone.now chain.now found.now (seen nodes.now) }
-    requires places { places.now ≡ counted (length nodes.now) found.now }
-    ensures { IfOk result (IsLineOf gone.now chain.now found.now (seen nodes.now)) }
+    requires can { CanBePatched change.removed.now change.chain.now change.old_places.now (seen nodes.now) }
+    requires places { places.now ≡ counted (length nodes.now) change.old_places.now }
+    ensures { IfOk result (IsLineOf change.entry.removed.now change.entry.chain.now change.entry.old_places.now (seen nodes.now)) }
 {
-    if let Some(line) = walked_line(alloc, nodes, gone, chain, found, places)? {
+    if let Some(line) = walked_line(alloc, nodes, change, places)? {
         return Ok(line);
     }
-    ranked_line(alloc, nodes, gone, chain, found, places)
+    ranked_line(alloc, nodes, change, places)
 }
 
 /// So many places from the first one on, as a run: the line of made nodes alone.
@@ -143,22 +142,21 @@ fn first_places(alloc: Global, count: usize) -> Result<Vec<Run>, AllocError>
 pub(crate) fn arrange(
     alloc: Global,
     graph: &OrderGraph,
-    gone: &[usize],
-    chain: &[EntryKey],
-    found: &[Option<usize>],
+    change: Change<'_>,
 ) -> Result<Option<Vec<Run>>, AllocError>
-    requires { CanBePatched gone.now chain.now found.now graph.now }
-    ensures { IfOk result (λ l. IsArranged gone.now chain.now found.now graph.now (option_map (λ v. places_of v.items) l)) }
+    requires { CanBePatched change.removed.now change.chain.now change.old_places.now graph.now }
+    ensures { IfOk result (λ l. IsArranged change.entry.removed.now change.entry.chain.now change.entry.old_places.now graph.now (option_map (λ v. places_of v.items) l)) }
 {
     let nodes: &[Node] = &graph.nodes;
+    let found = change.old_places;
     if nodes.is_empty() && !found.is_empty() {
         let line = first_places(alloc, found.len())?;
         return Ok(Some(line));
     }
     let places = counted_places(alloc, nodes, found)?;
-    if stands_still(gone, &places, nodes.len()) {
+    if stands_still(change.removed, &places, nodes.len()) {
         return Ok(None);
     }
-    let line = moving_line(alloc, nodes, gone, chain, found, &places)?;
+    let line = moving_line(alloc, nodes, change, &places)?;
     Ok(Some(line))
 }

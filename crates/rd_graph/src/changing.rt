@@ -13,7 +13,8 @@ ghost use Rattle.rd_graph.specs.Internal.Tables.{at, fits_list, has_it};
 ghost use Rattle.rd_graph.specs.Internal.Words.{NotesBy, note_at, resolved_by};
 
 use crate::arranging::advance_past;
-use crate::before::{Predecessors, Name, copied, is_among, nothing, push};
+use crate::before::{Name, Predecessors, copied, is_among, nothing, push};
+use crate::change::Change;
 use crate::gone::{Gone, goes, gone_at, mark_of, number_of, some_goes};
 use crate::graph::Node;
 use crate::resolving::resolve;
@@ -295,7 +296,12 @@ fn with_edge(keys: Predecessors, name: Option<EntryKey>) -> Result<Predecessors,
 }
 
 /// What a node that stays has before the edge of the chain.
-fn own(alloc: Global, gone: &Gone, notes: &[Predecessors], node: &Node) -> Result<Predecessors, AllocError>
+fn own(
+    alloc: Global,
+    gone: &Gone,
+    notes: &[Predecessors],
+    node: &Node,
+) -> Result<Predecessors, AllocError>
     requires marked { AreMarked gone.now.marks.items gone.now.names }
     requires stays { has_it gone.now.names node.now.key ≡ false }
     ensures { IfOk result (λ v. v.items
@@ -498,15 +504,13 @@ fn changed_by(
 pub(crate) fn changed(
     alloc: Global,
     nodes: &[Node],
-    gone: &[usize],
-    chain: &[EntryKey],
-    found: &[Option<usize>],
+    change: Change<'_>,
 ) -> Result<Vec<(usize, Predecessors)>, AllocError>
     requires sound { IsInOrder (seen nodes.now) }
-    requires can { CanBePatched gone.now chain.now found.now (seen nodes.now) }
-    ensures { IfOk result (λ v. IsRelisted gone.now chain.now (seen nodes.now) (lists_seen v.items)) }
+    requires can { CanBePatched change.removed.now change.chain.now change.old_places.now (seen nodes.now) }
+    ensures { IfOk result (λ v. IsRelisted change.entry.removed.now change.entry.chain.now (seen nodes.now) (lists_seen v.items)) }
 {
-    let places = gone;
+    let places = change.removed;
     let gone = gone_at(alloc, nodes, places)?;
-    changed_by(alloc, nodes, places, &gone, chain, found)
+    changed_by(alloc, nodes, places, &gone, change.chain, change.old_places)
 }

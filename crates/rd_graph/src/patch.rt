@@ -6,6 +6,7 @@ ghost use Rattle.rd_graph.specs.Patches.{CanBePatched, FitsPatch, IsPatched, pat
 use crate::applying::{in_line, put_lists};
 use crate::arranging::arrange;
 use crate::before::Predecessors;
+use crate::change::Change;
 use crate::changing::changed;
 use crate::graph::{Node, OrderGraph};
 use crate::making::{make, room};
@@ -61,21 +62,15 @@ impl OrderGraph {
     }
 
     /// The patch of a merge, over the edges of the graph as they are.
-    fn patch_as_is(
-        &self,
-        alloc: Global,
-        gone: &[usize],
-        chain: &[EntryKey],
-        found: &[Option<usize>],
-    ) -> Result<Patch, AllocError>
-        requires { CanBePatched gone.now chain.now found.now self.now }
+    fn patch_as_is(&self, alloc: Global, change: Change<'_>) -> Result<Patch, AllocError>
+        requires { CanBePatched change.removed.now change.chain.now change.old_places.now self.now }
         ensures fits { IfOk result (λ p. FitsPatch p self.now) }
-        ensures patched { IfOk result (λ p. IsPatched gone.now chain.now found.now self.now p) }
+        ensures patched { IfOk result (λ p. IsPatched change.entry.removed.now change.entry.chain.now change.entry.old_places.now self.now p) }
     {
-        let relisted = changed(alloc, &self.nodes, gone, chain, found)?;
-        let lists = trimmed(alloc, chain, relisted)?;
-        let line = arrange(alloc, self, gone, chain, found)?;
-        let made = make(alloc, chain, found)?;
+        let relisted = changed(alloc, &self.nodes, change)?;
+        let lists = trimmed(alloc, change.chain, relisted)?;
+        let line = arrange(alloc, self, change)?;
+        let made = make(alloc, change.chain, change.old_places)?;
         let aside = aside_room(alloc, as_runs(&line))?;
         let room = room(alloc, &line)?;
         Ok(Patch {
@@ -90,26 +85,20 @@ impl OrderGraph {
 
     /// The patch of a merge: without the nodes at some places, which rise, and with the nodes and the edges of a chain, whose names stand
     /// at the places `found`. It only reads the graph, and takes all memory that the change will need.
-    pub fn patch(
-        &self,
-        alloc: Global,
-        gone: &[usize],
-        chain: &[EntryKey],
-        found: &[Option<usize>],
-    ) -> Result<Patch, AllocError>
-        requires { CanBePatched gone.now chain.now found.now self.now }
+    pub fn patch(&self, alloc: Global, change: Change<'_>) -> Result<Patch, AllocError>
+        requires { CanBePatched change.removed.now change.chain.now change.old_places.now self.now }
         ensures fits { IfOk result (λ p. FitsPatch p self.now) }
-        ensures patched { IfOk result (λ p. IsPatched gone.now chain.now found.now self.now p) }
+        ensures patched { IfOk result (λ p. IsPatched change.entry.removed.now change.entry.chain.now change.entry.old_places.now self.now p) }
     {
         if !self.is_due() {
-            return self.patch_as_is(alloc, gone, chain, found);
+            return self.patch_as_is(alloc, change);
         }
         let thin = thinned(alloc, &self.nodes)?;
         let graph = OrderGraph {
             nodes: thin.nodes,
             patches: 0,
         };
-        let patch = graph.patch_as_is(alloc, gone, chain, found)?;
+        let patch = graph.patch_as_is(alloc, change)?;
         let lists = joined(thin.lists, patch.lists)?;
         Ok(Patch {
             alloc,

@@ -9,6 +9,7 @@ ghost use Rattle.rd_graph.specs.Internal.Seen.{seen};
 ghost use Rattle.rd_graph.specs.Internal.Walks.{counted};
 ghost use Rattle.rd_graph.specs.Internal.Ranks.{fixed, rank_after, loose_one, loose, AreNamesAt, PutsRanked, AreByRank, ArePlacesByRank, IsLineOf};
 
+use crate::change::Change;
 use crate::counting::push_ranked;
 use crate::graph::Node;
 use crate::runs::{Run, runs_of};
@@ -185,17 +186,15 @@ fn sorted_places(
 pub(crate) fn ranked_line(
     alloc: Global,
     nodes: &[Node],
-    gone: &[usize],
-    chain: &[EntryKey],
-    found: &[Option<usize>],
+    change: Change<'_>,
     places: &[usize],
 ) -> Result<Vec<Run>, AllocError>
     requires sound { IsInOrder (seen nodes.now) }
-    requires can { CanBePatched gone.now chain.now found.now (seen nodes.now) }
-    requires places { places.now ≡ counted (length nodes.now) found.now }
-    ensures { IfOk result (IsLineOf gone.now chain.now found.now (seen nodes.now)) }
+    requires can { CanBePatched change.removed.now change.chain.now change.old_places.now (seen nodes.now) }
+    requires places { places.now ≡ counted (length nodes.now) change.old_places.now }
+    ensures { IfOk result (IsLineOf change.entry.removed.now change.entry.chain.now change.entry.old_places.now (seen nodes.now)) }
 {
-    let stays = marks(alloc, nodes.len(), gone)?;
-    let line = sorted_places(alloc, nodes, &stays, places, chain)?;
+    let stays = marks(alloc, nodes.len(), change.removed)?;
+    let line = sorted_places(alloc, nodes, &stays, places, change.chain)?;
     runs_of(alloc, &line, nodes.len())
 }

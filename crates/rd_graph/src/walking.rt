@@ -7,6 +7,7 @@ ghost use Rattle.rd_graph.specs.Internal.Seen.{seen};
 ghost use Rattle.rd_graph.specs.Runs.{places_of};
 ghost use Rattle.rd_graph.specs.Internal.Walks.{stays_at, staying, counted, from_after, led_to, walk, RisesWhere, IsBehind, IsAhead};
 
+use crate::change::Change;
 use crate::graph::Node;
 use crate::runs::{Run, push_place, push_run};
 use rd_keys::EntryKey;
@@ -137,17 +138,15 @@ pub(crate) fn rises_where(stays: &[bool], places: &[usize]) -> bool
 pub(crate) fn walked_line(
     alloc: Global,
     nodes: &[Node],
-    gone: &[usize],
-    chain: &[EntryKey],
-    found: &[Option<usize>],
+    change: Change<'_>,
     places: &[usize],
 ) -> Result<Option<Vec<Run>>, AllocError>
     requires sound { IsInOrder (seen nodes.now) }
-    requires can { CanBePatched gone.now chain.now found.now (seen nodes.now) }
-    requires places { places.now ≡ counted (length nodes.now) found.now }
-    ensures { IfOk result (λ l. IfSome l (IsLineOf gone.now chain.now found.now (seen nodes.now))) }
+    requires can { CanBePatched change.removed.now change.chain.now change.old_places.now (seen nodes.now) }
+    requires places { places.now ≡ counted (length nodes.now) change.old_places.now }
+    ensures { IfOk result (λ l. IfSome l (IsLineOf change.entry.removed.now change.entry.chain.now change.entry.old_places.now (seen nodes.now))) }
 {
-    let stays = marks(alloc, nodes.len(), gone)?;
+    let stays = marks(alloc, nodes.len(), change.removed)?;
     if !rises_where(&stays, places) {
         return Ok(None);
     }

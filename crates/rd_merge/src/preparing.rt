@@ -16,7 +16,7 @@ ghost use Rattle.rd_merge.specs.Internal.Planning.{EntriesFit, GroupFits, Groups
 use crate::going::Touches;
 use crate::looking::look;
 use crate::plan::{Plan, Step};
-use rd_graph::{Patch, aside_room, line_room};
+use rd_graph::{Change, Patch, aside_room, line_room};
 use rd_list::{Chunk, Entry, Kept, NewEntry, NewList, new_keys};
 use std::alloc::{AllocError, Global};
 use std::sync::ledger::Ledger;
@@ -100,9 +100,12 @@ fn plan_level<A: Ledger, T: Touches>(
 {
     let names = new_keys(alloc, new)?;
     let looked = look(alloc, &kept.entries, &kept.chunks, &names, tree)?;
-    let patch = kept
-        .graph
-        .patch(alloc, &looked.gone, &names, &looked.found)?;
+    let change = Change {
+        removed: &looked.gone,
+        chain: &names,
+        old_places: &looked.found,
+    };
+    let patch = kept.graph.patch(alloc, change)?;
     let planned = plan_entries(alloc, kept, &new.runs, &looked.found, tree)?;
     let mut steps = planned.steps;
     let mut inner = plan_groups(alloc, kept, &looked.inner, tree)?;

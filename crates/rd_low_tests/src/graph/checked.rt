@@ -6,7 +6,7 @@ ghost use Rattle.rd_graph.specs.Names.{is_in, place_of, same_entry};
 ghost use Rattle.rd_graph.specs.Orders.{Once};
 ghost use Rattle.rd_graph.specs.Patches.{AreRising, found_in, is_gone};
 
-use rd_graph::{OrderGraph, Places};
+use rd_graph::{Change, OrderGraph, Places};
 use rd_keys::EntryKey;
 use std::alloc::{AllocError, Global};
 
@@ -207,7 +207,12 @@ pub(super) fn by_patch(
         return Ok(None);
     }
     let found = found(alloc, &graph, chain)?;
-    let patch = graph.patch(alloc, &gone, chain, &found)?;
+    let change = Change {
+        removed: &gone,
+        chain,
+        old_places: &found,
+    };
+    let patch = graph.patch(alloc, change)?;
     let moves = patch.line().is_some();
     Ok(Some((graph.apply(patch), moves)))
 }

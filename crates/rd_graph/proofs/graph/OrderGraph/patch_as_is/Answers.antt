@@ -12,23 +12,23 @@ use Rattle.rd_graph.proofs.graph.OrderGraph.patch_as_is.Goals as goal
 
 pub returns-clause-fits : goal.returns-clause-fits
 returns-clause-fits c =
-    (short_by c.args.gone.now c.args.chain.now c.args.found.now c.args.self.now (seen c.in_ok-made.made.items) (lists_seen c.in_ok-relisted.relisted.items) (lists_seen c.in_ok-lists.lists.items) (option_map (λ v. places_of v.items) c.in_ok-line.line)
+    (short_by c.args.change.removed.now c.args.change.chain.now c.args.change.old_places.now c.args.self.now (seen c.in_ok-made.made.items) (lists_seen c.in_ok-relisted.relisted.items) (lists_seen c.in_ok-lists.lists.items) (option_map (λ v. places_of v.items) c.in_ok-line.line)
     c.in_ok-lists.ensures
-    (patched_by c.args.gone.now c.args.chain.now c.args.found.now c.args.self.now c.deref.result.now c.self.inside.nodes.items (lists_seen c.in_ok-relisted.relisted.items) (seen c.in_ok-made.made.items) (option_map (λ v. places_of v.items) c.in_ok-line.line)
+    (patched_by c.args.change.removed.now c.args.change.chain.now c.args.change.old_places.now c.args.self.now c.deref.result.now c.self.inside.nodes.items (lists_seen c.in_ok-relisted.relisted.items) (seen c.in_ok-made.made.items) (option_map (λ v. places_of v.items) c.in_ok-line.line)
     c.requires c.self.invariant c.self.view_is c.deref.ensures.value c.in_ok-relisted.ensures c.in_ok-line.ensures c.in_ok-made.ensures)).0
 
 pub returns-clause-patched : goal.returns-clause-patched
 returns-clause-patched c =
-    (short_by c.args.gone.now c.args.chain.now c.args.found.now c.args.self.now (seen c.in_ok-made.made.items) (lists_seen c.in_ok-relisted.relisted.items) (lists_seen c.in_ok-lists.lists.items) (option_map (λ v. places_of v.items) c.in_ok-line.line)
+    (short_by c.args.change.removed.now c.args.change.chain.now c.args.change.old_places.now c.args.self.now (seen c.in_ok-made.made.items) (lists_seen c.in_ok-relisted.relisted.items) (lists_seen c.in_ok-lists.lists.items) (option_map (λ v. places_of v.items) c.in_ok-line.line)
     c.in_ok-lists.ensures
-    (patched_by c.args.gone.now c.args.chain.now c.args.found.now c.args.self.now c.deref.result.now c.self.inside.nodes.items (lists_seen c.in_ok-relisted.relisted.items) (seen c.in_ok-made.made.items) (option_map (λ v. places_of v.items) c.in_ok-line.line)
+    (patched_by c.args.change.removed.now c.args.change.chain.now c.args.change.old_places.now c.args.self.now c.deref.result.now c.self.inside.nodes.items (lists_seen c.in_ok-relisted.relisted.items) (seen c.in_ok-made.made.items) (option_map (λ v. places_of v.items) c.in_ok-line.line)
     c.requires c.self.invariant c.self.view_is c.deref.ensures.value c.in_ok-relisted.ensures c.in_ok-line.ensures c.in_ok-made.ensures)).1
 
 pub changed-requires-clause-sound : goal.changed-requires-clause-sound
 changed-requires-clause-sound c = subst (λ (ns : List Node). IsInOrder (seen ns)) (sym c.deref.ensures.value) c.self.invariant
 
 pub changed-requires-clause-can : goal.changed-requires-clause-can
-changed-requires-clause-can c = subst (CanBePatched c.args.gone.now c.args.chain.now c.args.found.now) (sym (ap seen c.deref.ensures.value ∙ c.self.view_is)) c.requires
+changed-requires-clause-can c = subst (CanBePatched c.args.change.removed.now c.args.change.chain.now c.args.change.old_places.now) (sym (ap seen c.deref.ensures.value ∙ c.self.view_is)) c.requires
 
 pub trimmed-requires : goal.trimmed-requires
 trimmed-requires c = c.requires.once
