@@ -18,34 +18,12 @@ fn position_unless(value: Position) -> Option<Position>
     }
 }
 
-pub(crate) fn position_word(value: Position) -> &'static str
-    ensures { result.now ≡ words.position_word value }
-{
-    match value {
-        Position::Static => "static",
-        Position::Relative => "relative",
-        Position::Absolute => "absolute",
-        Position::Fixed => "fixed",
-    }
-}
-
 fn overflow_unless(value: Overflow) -> Option<Overflow>
     ensures { result ≡ spec.overflow_unless value }
 {
     match value {
         Overflow::Visible => None,
         other => Some(other),
-    }
-}
-
-pub(crate) fn overflow_word(value: Overflow) -> &'static str
-    ensures { result.now ≡ words.overflow_word value }
-{
-    match value {
-        Overflow::Visible => "visible",
-        Overflow::Hidden => "hidden",
-        Overflow::Scroll => "scroll",
-        Overflow::Auto => "auto",
     }
 }
 
@@ -58,32 +36,12 @@ fn display_unless(value: Display) -> Option<Display>
     }
 }
 
-pub(crate) fn display_word(value: Display) -> &'static str
-    ensures { result.now ≡ words.display_word value }
-{
-    match value {
-        Display::Block => "block",
-        Display::Inline => "inline",
-        Display::InlineBlock => "inline-block",
-    }
-}
-
 fn float_unless(value: Floating) -> Option<Floating>
     ensures { result ≡ spec.float_unless value }
 {
     match value {
         Floating::No => None,
         other => Some(other),
-    }
-}
-
-pub(crate) fn float_word(value: Floating) -> &'static str
-    ensures { result.now ≡ words.float_word value }
-{
-    match value {
-        Floating::No => "none",
-        Floating::Left => "left",
-        Floating::Right => "right",
     }
 }
 
@@ -96,31 +54,12 @@ fn visibility_unless(value: Visibility) -> Option<Visibility>
     }
 }
 
-pub(crate) fn visibility_word(value: Visibility) -> &'static str
-    ensures { result.now ≡ words.visibility_word value }
-{
-    match value {
-        Visibility::Visible => "visible",
-        Visibility::Hidden => "hidden",
-        Visibility::Collapse => "collapse",
-    }
-}
-
 fn pointer_unless(value: Pointer) -> Option<Pointer>
     ensures { result ≡ spec.pointer_unless value }
 {
     match value {
         Pointer::Auto => None,
         other => Some(other),
-    }
-}
-
-pub(crate) fn pointer_word(value: Pointer) -> &'static str
-    ensures { result.now ≡ words.pointer_word value }
-{
-    match value {
-        Pointer::Auto => "auto",
-        Pointer::Off => "none",
     }
 }
 
@@ -133,33 +72,12 @@ fn blend_unless(value: Blend) -> Option<Blend>
     }
 }
 
-pub(crate) fn blend_word(value: Blend) -> &'static str
-    ensures { result.now ≡ words.blend_word value }
-{
-    match value {
-        Blend::Normal => "normal",
-        Blend::Multiply => "multiply",
-        Blend::Screen => "screen",
-        Blend::Darken => "darken",
-        Blend::Lighten => "lighten",
-    }
-}
-
 fn isolation_unless(value: Isolation) -> Option<Isolation>
     ensures { result ≡ spec.isolation_unless value }
 {
     match value {
         Isolation::Auto => None,
         other => Some(other),
-    }
-}
-
-pub(crate) fn isolation_word(value: Isolation) -> &'static str
-    ensures { result.now ≡ words.isolation_word value }
-{
-    match value {
-        Isolation::Auto => "auto",
-        Isolation::Isolate => "isolate",
     }
 }
 

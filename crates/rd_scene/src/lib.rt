@@ -22,6 +22,7 @@ mod script;
 mod styles;
 mod types;
 mod version;
+mod words;
 mod writing;
 
 pub use fault::{Place, SceneFault, Why};

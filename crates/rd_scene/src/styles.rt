@@ -16,27 +16,16 @@ ghost use Rattle.rd_scene.specs.Internal.Widths.{AreWidths};
 
 use crate::colors::{color_of, content_of};
 use crate::fault::Why;
-use crate::members::{known, member, members, number, string};
+use crate::members::{known, member, members, number};
 use crate::rects::{outline_width_of, sides_of};
 use crate::version::Version;
+use crate::words::Word;
 use rd_geom::{Blend, Color, Sides};
 use rd_style::{
     Display, Floating, Isolation, Overflow, Pointer, Position, Style, StyleChange, Visibility,
     changed,
 };
 use serde_json::{Map, Value};
-
-fn position_of(v: &Value) -> Result<Position, Why>
-    ensures { result ≡ (spec.position_of (view v.now)).first }
-{
-    match string(v)? {
-        "static" => Ok(Position::Static),
-        "relative" => Ok(Position::Relative),
-        "absolute" => Ok(Position::Absolute),
-        "fixed" => Ok(Position::Fixed),
-        _ => Err(Why::Kind),
-    }
-}
 
 fn is_auto(v: &Value) -> bool
     ensures { result ≡ spec.is_auto (as_str (view v.now)) }
@@ -64,88 +53,17 @@ fn opacity_of(v: &Value) -> Result<u8, Why>
     Ok(z as u8)
 }
 
-fn overflow_of(v: &Value) -> Result<Overflow, Why>
-    ensures { result ≡ (spec.overflow_of (view v.now)).first }
+/// The member of this name, a word, where there is one.
+fn word_at<W: Word>(v: &Value, name: &str) -> Result<Option<W>, Why>
+    ensures { result ≡ (if_given W.read name.now (view v.now)).first }
 {
-    match string(v)? {
-        "visible" => Ok(Overflow::Visible),
-        "hidden" => Ok(Overflow::Hidden),
-        "scroll" => Ok(Overflow::Scroll),
-        "auto" => Ok(Overflow::Auto),
-        _ => Err(Why::Kind),
+    match member(v, name) {
+        Some(there) => {
+            let word = W::of(there)?;
+            Ok(Some(word))
+        }
+        None => Ok(None),
     }
-}
-
-fn display_of(v: &Value) -> Result<Display, Why>
-    ensures { result ≡ (spec.display_of (view v.now)).first }
-{
-    match string(v)? {
-        "block" => Ok(Display::Block),
-        "inline" => Ok(Display::Inline),
-        "inline-block" => Ok(Display::InlineBlock),
-        _ => Err(Why::Kind),
-    }
-}
-
-fn float_of(v: &Value) -> Result<Floating, Why>
-    ensures { result ≡ (spec.float_of (view v.now)).first }
-{
-    match string(v)? {
-        "none" => Ok(Floating::No),
-        "left" => Ok(Floating::Left),
-        "right" => Ok(Floating::Right),
-        _ => Err(Why::Kind),
-    }
-}
-
-fn visibility_of(v: &Value) -> Result<Visibility, Why>
-    ensures { result ≡ (spec.visibility_of (view v.now)).first }
-{
-    match string(v)? {
-        "visible" => Ok(Visibility::Visible),
-        "hidden" => Ok(Visibility::Hidden),
-        "collapse" => Ok(Visibility::Collapse),
-        _ => Err(Why::Kind),
-    }
-}
-
-fn pointer_of(v: &Value) -> Result<Pointer, Why>
-    ensures { result ≡ (spec.pointer_of (view v.now)).first }
-{
-    match string(v)? {
-        "auto" => Ok(Pointer::Auto),
-        "none" => Ok(Pointer::Off),
-        _ => Err(Why::Kind),
-    }
-}
-
-fn blend_of(v: &Value) -> Result<Blend, Why>
-    ensures { result ≡ (spec.blend_of (view v.now)).first }
-{
-    match string(v)? {
-        "normal" => Ok(Blend::Normal),
-        "multiply" => Ok(Blend::Multiply),
-        "screen" => Ok(Blend::Screen),
-        "darken" => Ok(Blend::Darken),
-        "lighten" => Ok(Blend::Lighten),
-        _ => Err(Why::Kind),
-    }
-}
-
-fn isolation_of(v: &Value) -> Result<Isolation, Why>
-    ensures { result ≡ (spec.isolation_of (view v.now)).first }
-{
-    match string(v)? {
-        "auto" => Ok(Isolation::Auto),
-        "isolate" => Ok(Isolation::Isolate),
-        _ => Err(Why::Kind),
-    }
-}
-
-fn position_at(v: &Value) -> Result<Option<Position>, Why>
-    ensures { result ≡ (if_given spec.position_of (codes "position") (view v.now)).first }
-{
-    member(v, "position").map(position_of).transpose()
 }
 
 fn z_at(v: &Value) -> Result<Option<Option<i32>>, Why>
@@ -158,24 +76,6 @@ fn opacity_at(v: &Value) -> Result<Option<u8>, Why>
     ensures { result ≡ (if_given spec.opacity_of (codes "opacity") (view v.now)).first }
 {
     member(v, "opacity").map(opacity_of).transpose()
-}
-
-fn overflow_at(v: &Value) -> Result<Option<Overflow>, Why>
-    ensures { result ≡ (if_given spec.overflow_of (codes "overflow") (view v.now)).first }
-{
-    member(v, "overflow").map(overflow_of).transpose()
-}
-
-fn display_at(v: &Value) -> Result<Option<Display>, Why>
-    ensures { result ≡ (if_given spec.display_of (codes "display") (view v.now)).first }
-{
-    member(v, "display").map(display_of).transpose()
-}
-
-fn float_at(v: &Value) -> Result<Option<Floating>, Why>
-    ensures { result ≡ (if_given spec.float_of (codes "float") (view v.now)).first }
-{
-    member(v, "float").map(float_of).transpose()
 }
 
 fn color_at(v: &Value, name: &str) -> Result<Option<Color>, Why>
@@ -202,30 +102,6 @@ fn outline_width_at(v: &Value) -> Result<Option<u16>, Why>
     ensures most { IfOk result (λ o. IfSome o (λ n. n ≤ max_line_width)) }
 {
     member(v, "outline-width").map(outline_width_of).transpose()
-}
-
-fn visibility_at(v: &Value) -> Result<Option<Visibility>, Why>
-    ensures { result ≡ (if_given spec.visibility_of (codes "visibility") (view v.now)).first }
-{
-    member(v, "visibility").map(visibility_of).transpose()
-}
-
-fn pointer_at(v: &Value) -> Result<Option<Pointer>, Why>
-    ensures { result ≡ (if_given spec.pointer_of (codes "pointer-events") (view v.now)).first }
-{
-    member(v, "pointer-events").map(pointer_of).transpose()
-}
-
-fn blend_at(v: &Value) -> Result<Option<Blend>, Why>
-    ensures { result ≡ (if_given spec.blend_of (codes "mix-blend-mode") (view v.now)).first }
-{
-    member(v, "mix-blend-mode").map(blend_of).transpose()
-}
-
-fn isolation_at(v: &Value) -> Result<Option<Isolation>, Why>
-    ensures { result ≡ (if_given spec.isolation_of (codes "isolation") (view v.now)).first }
-{
-    member(v, "isolation").map(isolation_of).transpose()
 }
 
 /// A change that names these members, which place a box.
@@ -317,12 +193,12 @@ fn joined(
 fn placing_of(v: &Value) -> Result<StyleChange, Why>
     ensures { result ≡ (spec.placing_of (view v.now)).first }
 {
-    let position = position_at(v)?;
+    let position = word_at(v, "position")?;
     let z = z_at(v)?;
     let opacity = opacity_at(v)?;
-    let overflow = overflow_at(v)?;
-    let display = display_at(v)?;
-    let float = float_at(v)?;
+    let overflow = word_at(v, "overflow")?;
+    let display = word_at(v, "display")?;
+    let float = word_at(v, "float")?;
     Ok(placing(position, z, opacity, overflow, display, float))
 }
 
@@ -357,8 +233,8 @@ fn blending_of(version: Version, v: &Value) -> Result<StyleChange, Why>
     match version {
         Version::One => Ok(StyleChange::none()),
         Version::Two => {
-            let blend = blend_at(v)?;
-            let isolation = isolation_at(v)?;
+            let blend = word_at(v, "mix-blend-mode")?;
+            let isolation = word_at(v, "isolation")?;
             Ok(blending(blend, isolation))
         }
     }
@@ -404,8 +280,8 @@ pub(crate) fn change_of(version: Version, v: &Value) -> Result<StyleChange, Why>
     style_known(version, members)?;
     let places = placing_of(v)?;
     let paints = painting_of(v)?;
-    let visibility = visibility_at(v)?;
-    let pointer = pointer_at(v)?;
+    let visibility = word_at(v, "visibility")?;
+    let pointer = word_at(v, "pointer-events")?;
     let blends = blending_of(version, v)?;
     Ok(joined(places, paints, visibility, pointer, blends))
 }

@@ -10,17 +10,13 @@ ghost use Rattle.rd_edits.specs.declared.edit.Edit.TheVariants.{Insert, Remove, 
 ghost use Rattle.rd_scene.specs.Reading.{Reads, IsScriptText};
 ghost use Rattle.rd_scene.specs.Writing as spec;
 
-use crate::differing::{
-    blend_word, differing, display_word, float_word, isolation_word, overflow_word, pointer_word,
-    position_word, visibility_word,
-};
+use crate::differing::differing;
 use crate::script::{Command, SceneBox, Script};
 use crate::types;
+use crate::words::Word;
 use rd_edits::Edit;
-use rd_geom::{Blend, Color, NoMemory, Rect, Sides, Size};
-use rd_style::{
-    Display, Floating, Isolation, Overflow, Pointer, Position, Style, StyleChange, Visibility,
-};
+use rd_geom::{Color, NoMemory, Rect, Sides, Size};
+use rd_style::{Style, StyleChange};
 use rd_tree::Id;
 use serde_json::{Map, Value, json, put};
 use std::alloc::{AllocError, Global};
@@ -100,162 +96,18 @@ fn id_value(alloc: Global, id: &Option<Id>) -> Result<Value, AllocError>
     }
 }
 
-fn add_position(
+/// A member with the word of a value, where there is one.
+fn add_word<W: Word>(
     alloc: Global,
     map: &mut Map<String, Value>,
-    value: Option<Position>,
+    name: &str,
+    value: Option<W>,
 ) -> Result<(), AllocError>
     ensures { OnOk result (members_view map.new.entries
-        ≡ spec.with_given (codes "position") (option_map (λ w. string (spec.position_word w)) value)
-        (members_view map.old.entries)) }
+        ≡ spec.with_given name.now (option_map (λ w. string (W.written w)) value) (members_view map.old.entries)) }
 {
     match value {
-        Some(value) => put(
-            map,
-            alloc,
-            "position",
-            Value::try_from_str(alloc, position_word(value))?,
-        ),
-        None => Ok(()),
-    }
-}
-
-fn add_overflow(
-    alloc: Global,
-    map: &mut Map<String, Value>,
-    value: Option<Overflow>,
-) -> Result<(), AllocError>
-    ensures { OnOk result (members_view map.new.entries
-        ≡ spec.with_given (codes "overflow") (option_map (λ w. string (spec.overflow_word w)) value)
-        (members_view map.old.entries)) }
-{
-    match value {
-        Some(value) => put(
-            map,
-            alloc,
-            "overflow",
-            Value::try_from_str(alloc, overflow_word(value))?,
-        ),
-        None => Ok(()),
-    }
-}
-
-fn add_display(
-    alloc: Global,
-    map: &mut Map<String, Value>,
-    value: Option<Display>,
-) -> Result<(), AllocError>
-    ensures { OnOk result (members_view map.new.entries
-        ≡ spec.with_given (codes "display") (option_map (λ w. string (spec.display_word w)) value)
-        (members_view map.old.entries)) }
-{
-    match value {
-        Some(value) => put(
-            map,
-            alloc,
-            "display",
-            Value::try_from_str(alloc, display_word(value))?,
-        ),
-        None => Ok(()),
-    }
-}
-
-fn add_float(
-    alloc: Global,
-    map: &mut Map<String, Value>,
-    value: Option<Floating>,
-) -> Result<(), AllocError>
-    ensures { OnOk result (members_view map.new.entries
-        ≡ spec.with_given (codes "float") (option_map (λ w. string (spec.float_word w)) value)
-        (members_view map.old.entries)) }
-{
-    match value {
-        Some(value) => put(
-            map,
-            alloc,
-            "float",
-            Value::try_from_str(alloc, float_word(value))?,
-        ),
-        None => Ok(()),
-    }
-}
-
-fn add_visibility(
-    alloc: Global,
-    map: &mut Map<String, Value>,
-    value: Option<Visibility>,
-) -> Result<(), AllocError>
-    ensures { OnOk result (members_view map.new.entries
-        ≡ spec.with_given (codes "visibility") (option_map (λ w. string (spec.visibility_word w)) value)
-        (members_view map.old.entries)) }
-{
-    match value {
-        Some(value) => put(
-            map,
-            alloc,
-            "visibility",
-            Value::try_from_str(alloc, visibility_word(value))?,
-        ),
-        None => Ok(()),
-    }
-}
-
-fn add_pointer(
-    alloc: Global,
-    map: &mut Map<String, Value>,
-    value: Option<Pointer>,
-) -> Result<(), AllocError>
-    ensures { OnOk result (members_view map.new.entries
-        ≡ spec.with_given (codes "pointer-events") (option_map (λ w. string (spec.pointer_word w)) value)
-        (members_view map.old.entries)) }
-{
-    match value {
-        Some(value) => put(
-            map,
-            alloc,
-            "pointer-events",
-            Value::try_from_str(alloc, pointer_word(value))?,
-        ),
-        None => Ok(()),
-    }
-}
-
-fn add_blend(
-    alloc: Global,
-    map: &mut Map<String, Value>,
-    value: Option<Blend>,
-) -> Result<(), AllocError>
-    ensures { OnOk result (members_view map.new.entries
-        ≡ spec.with_given (codes "mix-blend-mode") (option_map (λ w. string (spec.blend_word w)) value)
-        (members_view map.old.entries)) }
-{
-    match value {
-        Some(value) => put(
-            map,
-            alloc,
-            "mix-blend-mode",
-            Value::try_from_str(alloc, blend_word(value))?,
-        ),
-        None => Ok(()),
-    }
-}
-
-fn add_isolation(
-    alloc: Global,
-    map: &mut Map<String, Value>,
-    value: Option<Isolation>,
-) -> Result<(), AllocError>
-    ensures { OnOk result (members_view map.new.entries
-        ≡ spec.with_given (codes "isolation") (option_map (λ w. string (spec.isolation_word w)) value)
-        (members_view map.old.entries)) }
-{
-    match value {
-        Some(value) => put(
-            map,
-            alloc,
-            "isolation",
-            Value::try_from_str(alloc, isolation_word(value))?,
-        ),
+        Some(value) => put(map, alloc, name, Value::try_from_str(alloc, value.word())?),
         None => Ok(()),
     }
 }
@@ -353,11 +205,11 @@ fn add_placing(
 ) -> Result<(), AllocError>
     ensures { OnOk result (members_view map.new.entries ≡ spec.with_placing c.now (members_view map.old.entries)) }
 {
-    add_display(alloc, map, c.display)?;
-    add_float(alloc, map, c.float)?;
+    add_word(alloc, map, "display", c.display)?;
+    add_word(alloc, map, "float", c.float)?;
     add_opacity(alloc, map, c.opacity)?;
-    add_overflow(alloc, map, c.overflow)?;
-    add_position(alloc, map, c.position)?;
+    add_word(alloc, map, "overflow", c.overflow)?;
+    add_word(alloc, map, "position", c.position)?;
     add_z(alloc, map, c.z)
 }
 
@@ -387,8 +239,8 @@ fn add_blending(
 ) -> Result<(), AllocError>
     ensures { OnOk result (members_view map.new.entries ≡ spec.with_blending c.now (members_view map.old.entries)) }
 {
-    add_isolation(alloc, map, c.isolation)?;
-    add_blend(alloc, map, c.blend)
+    add_word(alloc, map, "isolation", c.isolation)?;
+    add_word(alloc, map, "mix-blend-mode", c.blend)
 }
 
 /// A style object of the members that a change names.
@@ -399,8 +251,8 @@ fn change_value(alloc: Global, c: &StyleChange) -> Result<Value, AllocError>
     let mut map = Map::new(alloc);
     add_placing(alloc, &mut map, c)?;
     add_painting(alloc, &mut map, c)?;
-    add_pointer(alloc, &mut map, c.pointer)?;
-    add_visibility(alloc, &mut map, c.visibility)?;
+    add_word(alloc, &mut map, "pointer-events", c.pointer)?;
+    add_word(alloc, &mut map, "visibility", c.visibility)?;
     add_blending(alloc, &mut map, c)?;
     Ok(Value::Object(map))
 }
