@@ -21,7 +21,7 @@ const UNDONE: &str = r##"{"version":2,"canvas":{"w":10,"h":10},"boxes":[
 {"do":"remove","id":"r"},{"do":"dump"}]}"##;
 
 /// The script that a text is.
-fn read_text(rt: &impl Abort, alloc: Global, text: &str) -> Result<Script, Status> {
+pub(crate) fn read_text(rt: &impl Abort, alloc: Global, text: &str) -> Result<Script, Status> {
     let bytes = Vec::from_slice(alloc, text.as_bytes()).expect(rt, "bytes");
     let mut source = MemorySource::new(bytes, Vec::new(alloc));
     read_input(alloc, &mut source)

@@ -1,0 +1,9 @@
+pub mod Told
+pub mod Alike
+pub mod TenTold
+pub mod Placed
+pub mod Hits
+pub mod Going
+pub mod Passing
+pub mod Ordering
+pub mod Sorting
