@@ -1,0 +1,12 @@
+use Rattle.std.proofs.Common.{refl}
+use Rattle.rd_why.specs.Json.{leaves_json}
+use Rattle.rd_why.proofs.Growing.{leaf_json_more, none_left}
+use Rattle.rd_why.proofs.json.push_leaves.Goals as goal
+
+pub loop-i-preserved : goal.loop-i-preserved
+loop-i-preserved g c =
+    leaf_json_more c.args.tree.now.boxes c.loop-i.found _ c.args.ts.now c.loop-i.i c.index-ts-i.result _ _ _ _ _
+    c.loop-i-test.true c.index-ts-i.is c.found_by-found.ensures c.loop-i.invariant c.in_ok-push_leaf.ensures c.comma.ensures c.in_ok-push_str.ensures.bytes
+
+pub returns : goal.returns
+returns g c = none_left (leaves_json c.args.tree.now.boxes c.loop-i.found) c.args.ts.now c.loop-i.i _ _ c.loop-i-test.false refl c.loop-i.invariant
