@@ -27,7 +27,8 @@ pub struct RdName {
 }
 
 /// An edit. `kind` is 0 for an insertion, 1 for a removal, 2 for a move, 3 for a style, 4 for a rectangle, 5 for a shift by
-/// `dx` and `dy`, and 6 for the scroll offset `dx` and `dy`; what an edit of that kind has no use for is not read.
+/// `dx` and `dy`, and 6 for the scroll offset `dx` and `dy`; what an edit of that kind has no use for is not read, but its
+/// names are.
 #[repr(C)]
 #[derive(Clone, Copy)]
 pub struct RdEdit {

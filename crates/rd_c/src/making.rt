@@ -2,7 +2,7 @@
 
 ghost use Rattle.std.specs.Prelude.{◌≡◌, ◌<◌, IfOk, IfSome, None, true};
 ghost use Rattle.rd_geom.specs.Canvas.{IsCanvas};
-ghost use Rattle.rd_c.specs.Handles.{IsSound};
+ghost use Rattle.rd_c.specs.Handles.{IsHeld, IsSound};
 ghost use Rattle.rd_c.specs.Held.{Holds};
 ghost use Rattle.rd_c.specs.Made.{IsMade, IsStarted};
 ghost use Rattle.rd_style.specs.Limits.{Fits, FitsRect};
@@ -128,6 +128,7 @@ pub extern "C" fn rd_c_free(handle: &mut RdEngine, alloc: Global) -> u32
     ensures sound { IsSound handle.new.held.value handle.new.full }
     ensures freed { handle.new.held.value ≡ None }
     ensures none { handle.old.held.value ≡ None → result ≡ 13 }
+    ensures done { IsHeld handle.old.held.value → result ≡ 0 }
 {
     match handle.take(alloc) {
         Some(_) => 0,

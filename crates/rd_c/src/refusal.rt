@@ -56,18 +56,7 @@ pub(crate) fn of_edit(fault: EditFault) -> u32
     ensures value { result ≡ fault_number fault }
     ensures some { 0 < result }
 {
-    match fault {
-        EditFault::UnknownId => 1,
-        EditFault::UnknownParent => 2,
-        EditFault::IsRoot => 3,
-        EditFault::IntoItself => 4,
-        EditFault::NotAChild => 5,
-        EditFault::DuplicateId => 6,
-        EditFault::TooDeep => 7,
-        EditFault::TooMany => 8,
-        EditFault::OutOfRange => 9,
-        EditFault::NoMemory => 10,
-    }
+    u32::from(fault.number())
 }
 
 /// The number that a call answers: 0 where it was done.
