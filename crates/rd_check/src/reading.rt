@@ -9,7 +9,7 @@ use crate::fields::{
     byte_before, color_before, ending_at, id_before, number_before, part_before, pointer_before,
     rect_before,
 };
-use crate::row::{Painted, Row, What};
+use crate::row::{LeafLine, Row, What};
 use crate::words::word_before;
 use rd_geom::{Color, Rect};
 use rd_item::Shape;
@@ -65,7 +65,7 @@ fn item_at(alloc: Global, bytes: &[u8]) -> Result<(Row, &[u8]), CheckFault>
         return Err(CheckFault::Dump);
     };
     let (color, hits, made_at, rest) = paint_at(rest).ok_or(CheckFault::Dump)?;
-    let what = What::Item(Painted {
+    let what = What::Item(LeafLine {
         part,
         visible,
         shape: Shape { outer, inner },

@@ -16,7 +16,7 @@ pub(crate) struct Row {
 /// A leaf, or a group with its opacity, its blend mode and the number of its own entries.
 #[derive(Clone, Copy)]
 pub(crate) enum What {
-    Item(Painted),
+    Item(LeafLine),
     Group {
         opacity: u8,
         blend: Blend,
@@ -26,7 +26,7 @@ pub(crate) enum What {
 
 /// What a line says of a leaf.
 #[derive(Clone, Copy)]
-pub(crate) struct Painted {
+pub(crate) struct LeafLine {
     pub(crate) part: Part,
     pub(crate) visible: Rect,
     pub(crate) shape: Shape,
