@@ -1,16 +1,19 @@
 #!/usr/bin/env python3
-"""What one edit with its paint costs: `python3 bench/paints.py [--instructions|--long] PROGRAM [NAME=PROGRAM ..]`.
+"""What one edit with its paint costs: `python3 bench/paints.py [--instructions|--cost|--long] PROGRAM [NAME=PROGRAM ..]`.
 
 Each scene is painted once, and then a paint follows each edit, or every tenth. A scene comes with K and with 2K edits,
 the first K of them the same, and the difference of the two runs over K is the cost of one edit with its paint, or a tenth
 of a paint, without start, reading and the first paint. It prints processor time (the least of three runs); with --instructions also what callgrind of
-valgrind counts, which is the same on every run. Any program that reads the same scripts may stand beside.
+valgrind counts, which is the same on every run. With --cost it prints what cachegrind of valgrind counts in place of time:
+instructions, first-level misses of both caches, and the cost, which is the instructions and ten times the misses.
+Any program that reads the same scripts may stand beside.
 With --long it prints what an edit with its paint costs in each of five stretches of 2,000 paints, from one run each.
 Run by hand; nothing in the gate looks at time.
 """
 import json
 import os
 import random
+import re
 import resource
 import subprocess
 import sys
@@ -190,6 +193,17 @@ def instructions(program, path):
     return int(run.stderr.split(b"Collected :")[1].split()[0])
 
 
+def costs(program, path):
+    """Instructions, first-level misses, and the cost, which is the instructions and ten times the misses."""
+    words = ["valgrind", "--tool=cachegrind", "--cache-sim=yes", "--cachegrind-out-file=/dev/null", program, "replay"]
+    with open(path, "rb") as text:
+        run = subprocess.run(words, stdin=text, stdout=subprocess.DEVNULL, stderr=subprocess.PIPE, check=True)
+    said = run.stderr.decode()
+    count = lambda name: int(re.search(rf"{name}:? +([\d,]+)", said).group(1).replace(",", ""))
+    instructions, misses = count("I +refs"), count("I1 +misses") + count("D1 +misses")
+    return instructions, misses, instructions + 10 * misses
+
+
 def written(folder, name, text):
     path = os.path.join(folder, name)
     with open(path, "w", encoding="utf-8") as file:
@@ -213,13 +227,15 @@ def long_runs(programs):
 def main():
     flags = [word for word in sys.argv[1:] if word.startswith("--")]
     words = [word for word in sys.argv[1:] if not word.startswith("--")]
-    if not words or not set(flags) <= {"--instructions", "--long"}:
+    if not words or not set(flags) <= {"--instructions", "--cost", "--long"}:
         sys.exit(__doc__)
     programs = [word.split("=", 1) if "=" in word else ["this program", word] for word in words]
     if "--long" in flags:
         return long_runs(programs)
-    counts = "--instructions" in flags
+    counts, is_cost = "--instructions" in flags, "--cost" in flags
     units = ["ms"] + (["thousand instructions"] if counts else [])
+    if is_cost:
+        units = ["thousand instructions", "thousand misses", "thousand of cost"]
     columns = [f"{name}, {unit}" for name, _ in programs for unit in units]
     print("| Scene, boxes | " + " | ".join(columns) + " |")
     print("|---|" + "---|" * len(columns))
@@ -228,6 +244,10 @@ def main():
             paths = [written(folder, str(k), scene(kind, count, k * edits, edit, each)) for k in (1, 2)]
             cells = []
             for _, program in programs:
+                if is_cost:
+                    pairs = zip(*(costs(program, path) for path in paths))
+                    cells += [f"{(second - first) / edits / 1000:.1f}" for first, second in pairs]
+                    continue
                 first, second = (seconds(program, path) for path in paths)
                 cells.append(f"{1000 * (second - first) / edits:.3f}")
                 if counts:
