@@ -198,9 +198,10 @@ def costs(program, path):
     words = ["valgrind", "--tool=cachegrind", "--cache-sim=yes", "--cachegrind-out-file=/dev/null", program, "replay"]
     with open(path, "rb") as text:
         run = subprocess.run(words, stdin=text, stdout=subprocess.DEVNULL, stderr=subprocess.PIPE, check=True)
-    said = run.stderr.decode()
-    count = lambda name: int(re.search(rf"{name}:? +([\d,]+)", said).group(1).replace(",", ""))
-    instructions, misses = count("I +refs"), count("I1 +misses") + count("D1 +misses")
+    said = run.stderr.decode().replace(",", "")
+    instructions = int(re.search(r"I +refs: +(\d+)", said).group(1))
+    # a line for the first cache of instructions and one for that of data
+    misses = sum(int(count) for count in re.findall(r"[ID]1 +misses: +(\d+)", said))
     return instructions, misses, instructions + 10 * misses
 
 
