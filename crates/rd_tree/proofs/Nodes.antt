@@ -1,6 +1,8 @@
 -- The arena of nodes and the index of ids, as each call leaves them.
 pub mod Marks
 pub mod Glances
+pub mod Calm
+pub mod Passing
 pub mod Shared
 pub mod Grow
 pub mod Looking

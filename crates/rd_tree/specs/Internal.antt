@@ -1,6 +1,7 @@
 -- What private contracts, invariants and codings say. No public clause cites it, so a reader need not read it.
 pub mod Coding
 pub mod Glances
+pub mod Calm
 pub mod Links
 pub mod Linked
 pub mod Summaries

@@ -45,7 +45,8 @@ use crate::links::{ends_of, graft, left_of, parent_of, unlink};
 use crate::node::{Item, Links, Node};
 use crate::redrawing::{draw_at, redraw, redraw_where};
 use crate::scroll::Scroll;
-use crate::searching::first_in_reach;
+use crate::searching::{first_in_reach, tick_times};
+use crate::shared::PAGE;
 use crate::table::blends::{blends_at, given, given_at, put_count, recount};
 use crate::table::extent::own_hull;
 use crate::table::hulls::extent_of;
@@ -460,6 +461,11 @@ impl<B: Ledger> DrawnTree<B> {
         }
         let mut at = first;
         while let Some(key) = at {
+            if let Some(next) = self.nodes.after_page(key) {
+                tick_times(steps, PAGE);
+                at = next;
+                continue;
+            }
             let glance = self.nodes.glance_at_live(key);
             steps.tick();
             let row = row_at(&self.table, key);

@@ -1,10 +1,12 @@
 //! What walks read of all boxes. Beside each row stands one word that tells at once whether a key's box is live and untouched,
-//! and beside each page of rows one that tells so of all of them.
-ghost use Rattle.std.specs.Prelude.{◌≡◌, ◌<◌, ◌⊎◌, [], false, true, length, slice_set, IsTrue, OnOk};
+//! and beside each page of rows one that tells so of all of them, and whether a walk among siblings may pass the page at once.
+ghost use Rattle.std.specs.Prelude.{◌≡◌, ◌<◌, ◌⊎◌, [], false, true, length, slice_set, IfSome, IsTrue, OnOk};
 ghost use Rattle.rd_keys.specs.Keys.{BoxKey as Box};
 ghost use Rattle.rd_keys.specs.Ranges.{IsAmong};
+ghost use Rattle.rd_tree.specs.Internal.Calm.{IsPassed, IsRun};
 ghost use Rattle.rd_tree.specs.Internal.Glances.{HasRoom, quiet_word, seen_at, told_touched, untouched, with_glance};
 
+use crate::calm;
 use crate::glance::Glance;
 use crate::shared::{NOT_QUIET, all_share, extend, forget, renew};
 use rd_keys::{BoxKey, KeyRange};
@@ -19,11 +21,14 @@ pub(crate) struct Glances {
     words: Vec<u64>,
     /// Of each page of rows the word that all of them have, or `NOT_QUIET`.
     shared: Vec<u64>,
+    /// Of each page of rows, is it known to be calm?
+    calm: Vec<bool>,
 }
 
 impl Model for Glances {
     ghost use Rattle.std.specs.Prelude.{vec_capacity};
-    ghost use Rattle.rd_tree.specs.Internal.Glances.{AreWords, Rows};
+    ghost use Rattle.rd_tree.specs.Internal.Glances.{Rows};
+    ghost use Rattle.rd_tree.specs.Internal.Calm.{AreKnown};
 
     ghost Value = { Rows };
 
@@ -32,9 +37,10 @@ impl Model for Glances {
       room = vec_capacity g.rows;
       word_room = vec_capacity g.words;
       page_room = vec_capacity g.shared;
+      calm_room = vec_capacity g.calm;
     } };
 
-    ghost invariant = { λ g. AreWords g.rows.items g.words.items g.shared.items };
+    ghost invariant = { λ g. AreKnown g.rows.items g.words.items g.shared.items g.calm.items };
 }
 
 /// The word of a row.
@@ -57,6 +63,7 @@ impl Glances {
             rows: Vec::new(alloc),
             words: Vec::new(alloc),
             shared: Vec::new(alloc),
+            calm: Vec::new(alloc),
         }
     }
 
@@ -75,6 +82,33 @@ impl Glances {
         ensures { result ≡ seen_at self.now.rows slot }
     {
         self.rows[slot as usize]
+    }
+
+    /// How many boxes stand from a slot on, up to the end of its page, where that is known to be calm. 0 where it is not.
+    #[inline(always)]
+    pub(crate) fn run_from(&self, slot: u32) -> usize
+        requires { slot < length self.now.rows }
+        ensures { IsRun self.now.rows slot result }
+    {
+        calm::run_from(&self.rows, &self.calm, slot as usize)
+    }
+
+    /// The sibling after the box of a slot.
+    #[inline(always)]
+    pub(crate) fn next_at(&self, slot: usize) -> Option<BoxKey>
+        requires { slot < length self.now.rows }
+        ensures { result ≡ (seen_at self.now.rows slot).next }
+    {
+        self.rows[slot].next
+    }
+
+    /// Where a slot is the first of a page that is known to be calm: which sibling comes after the last box of the page, if any.
+    #[inline(always)]
+    pub(crate) fn after_page(&self, slot: u32) -> Option<Option<BoxKey>>
+        requires { slot < length self.now.rows }
+        ensures { IfSome result (IsPassed self.now.rows slot) }
+    {
+        calm::after_page(&self.rows, &self.calm, slot as usize)
     }
 
     /// Is a key not the one of its row, or its box touched?
@@ -112,6 +146,7 @@ impl Glances {
         self.rows.reserve(1)?;
         self.words.reserve(1)?;
         self.shared.reserve(1)?;
+        self.calm.reserve(1)?;
         Ok(())
     }
 
@@ -121,6 +156,7 @@ impl Glances {
         ensures { self.new.rows ≡ slice_set self.old.rows slot glance }
     {
         forget(&self.words, &mut self.shared, slot as usize);
+        calm::stir(&self.rows, &mut self.calm, slot as usize);
         self.words[slot as usize] = word_of(&glance);
         self.rows[slot as usize] = glance;
     }
@@ -146,15 +182,17 @@ impl Glances {
             self.write(slot, glance);
         } else {
             extend(&self.words, &mut self.shared);
+            calm::extend(&self.rows, &mut self.calm);
             self.words.push_reserved(word_of(&glance));
             self.rows.push_reserved(glance);
         }
     }
 
-    /// Works out anew which pages of rows share a word, where that is not known.
+    /// Works out anew which pages of rows share a word, and which are calm, where that is not known.
     pub(crate) fn renew(&mut self)
         ensures { self.new.rows ≡ self.old.rows }
     {
+        calm::renew(&self.rows, &self.shared, &mut self.calm);
         renew(&self.words, &mut self.shared);
     }
 }

@@ -1,12 +1,13 @@
 //! The nodes of a tree. Beside each stands what a walk reads of its box, in a table by slot, so that a walk opens only the
 //! nodes of boxes with which it has something to do.
-ghost use Rattle.std.specs.Prelude.{◌≡◌, ◌+◌, ◌<◌, ◌≤◌, IfOk, IfNone, IsTrue, OnErr, OnSome, option_copied, option_map, Some, is_some, true, false};
+ghost use Rattle.std.specs.Prelude.{◌≡◌, ◌+◌, ◌<◌, ◌≤◌, IfOk, IfNone, IfSome, IsTrue, OnErr, OnSome, option_copied, option_map, Some, is_some, length, true, false};
 ghost use Rattle.std.specs.Option.{option_map_or};
 ghost use Rattle.rd_keys.specs.Arena.{empty_arena, live, occupied, retired, value, without_value, Enters};
 ghost use Rattle.rd_keys.specs.Keys.{BoxKey as Box, same_key};
 ghost use Rattle.rd_keys.specs.Ranges.{IsAmong};
 ghost use Rattle.rd_style.specs.Classes as classes;
 ghost use Rattle.rd_tree.specs.Changes as changes;
+ghost use Rattle.rd_tree.specs.Internal.Calm.{next_at, Passes, Runs};
 ghost use Rattle.rd_tree.specs.Internal.Glances.{glance_of};
 ghost use Rattle.rd_tree.specs.Internal.Linked.{linked, Relinks};
 ghost use Rattle.rd_tree.specs.Internal.Links.{child_and_sibling, edit, edit_if, with_ends, with_item, with_next, with_place, with_prev};
@@ -112,6 +113,34 @@ impl Nodes {
         self.glances.at(key.slot())
     }
 
+    /// How many boxes stand from that of a live key on, up to the end of its page, where that is known to be calm. 0 where it is not.
+    #[inline(always)]
+    pub(crate) fn run_from(&self, key: BoxKey) -> usize
+        requires live { is_some (value self.now key.slot key.generation) ≡ true }
+        ensures { Runs self.now key result }
+    {
+        self.glances.run_from(key.slot())
+    }
+
+    /// The sibling after the box of a slot.
+    #[inline(always)]
+    pub(crate) fn next_at(&self, slot: usize) -> Option<BoxKey>
+        requires { slot < length self.now.slots }
+        ensures { result ≡ next_at self.now slot }
+    {
+        self.glances.next_at(slot)
+    }
+
+    /// Where a live key is that of the first box of a page that is known to be calm: which sibling comes after the last box of the
+    /// page, if any.
+    #[inline(always)]
+    pub(crate) fn after_page(&self, key: BoxKey) -> Option<Option<BoxKey>>
+        requires live { is_some (value self.now key.slot key.generation) ≡ true }
+        ensures { IfSome result (Passes self.now key) }
+    {
+        self.glances.after_page(key.slot())
+    }
+
     /// Is a key live, if there is one?
     #[inline(always)]
     pub(crate) fn is_live_or_none(&self, key: Option<BoxKey>) -> bool
@@ -142,7 +171,7 @@ impl Nodes {
         self.glances.none_touched(keys)
     }
 
-    /// Works out anew of which pages of slots `none_touched` can say so. No node changes.
+    /// Works out anew of which pages of slots `none_touched` can say so, and which are calm. No node changes.
     pub(crate) fn note_quiet(&mut self)
         ensures { self.new ≡ self.old }
     {

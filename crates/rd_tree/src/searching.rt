@@ -1,12 +1,15 @@
 //! A search among siblings by the rows that stand beside their nodes.
-ghost use Rattle.std.specs.Prelude.{◌≡◌, ◌+◌, is_some, true};
+ghost use Rattle.std.specs.Prelude.{◌≡◌, ℕ, ◌+◌, ◌-◌, ◌<◌, ◌≤◌, is_some, length, true, false};
 ghost use Rattle.std.specs.Option.{option_map_or};
 ghost use Rattle.rd_keys.specs.Arena.{value};
 ghost use Rattle.rd_keys.specs.Keys.{same_key};
 ghost use Rattle.rd_tree.specs.Forest.{from_some};
 ghost use Rattle.rd_tree.specs.Seeking.{siblings_from, looks_until, hull_reaches};
+ghost use Rattle.rd_tree.specs.Seeking as seeking;
+ghost use Rattle.rd_tree.specs.Internal.Calm.{place_on};
 ghost use Rattle.rd_tree.specs.Internal.Linked.{IsTree, seen};
 ghost use Rattle.rd_tree.specs.Internal.Rows.{IsTabled};
+ghost use Rattle.rd_tree.specs.Internal.Summaries.{row_at};
 
 use crate::held::Nodes;
 use crate::table::row::{Summary, row_of};
@@ -14,6 +17,47 @@ use crate::view::reaches;
 use rd_geom::{Rect, Steps};
 use rd_keys::BoxKey;
 use std::sync::ledger::Ledger;
+
+/// So many looks are counted.
+#[inline(always)]
+pub(crate) fn tick_times<B: Ledger>(steps: &mut Steps<B>, times: usize)
+    ensures { steps.new ≡ steps.old + times }
+{
+    for _ in 0..times {
+        steps.tick();
+    }
+}
+
+/// The first slot from one on, and before an end, whose row has a hull that reaches into a rectangle; the end, where there is none.
+fn first_reaching(table: &[Summary], from: usize, end: usize, rect: &Rect) -> usize
+    requires order { from ≤ end }
+    requires rows { end ≤ length table.now }
+    ensures from { from ≤ result }
+    ensures end { result ≤ end }
+    ensures apart { (s : ℕ) → from ≤ s → s < result → seeking.reaches rect.now (row_at table.now s).hull ≡ false }
+    ensures found { result < end → seeking.reaches rect.now (row_at table.now result).hull ≡ true }
+{
+    for slot in from..end {
+        if reaches(rect, &table[slot].hull) {
+            return slot;
+        }
+    }
+    end
+}
+
+/// In a page that is known to be calm, from a box on: the box of a slot, or the sibling after the last box before it.
+#[inline(always)]
+fn sibling_in(nodes: &Nodes, key: BoxKey, slot: usize) -> Option<BoxKey>
+    requires from { key.slot ≤ slot }
+    requires end { slot ≤ length nodes.now.slots }
+    ensures { result ≡ place_on nodes.now key (slot - key.slot) }
+{
+    if slot == key.slot() as usize {
+        Some(key)
+    } else {
+        nodes.next_at(slot - 1)
+    }
+}
 
 /// The first of some siblings, from one on, whose hull reaches into a rectangle. Each look is counted once.
 #[inline(never)]
@@ -36,6 +80,19 @@ fn pass_to_hull<B: Ledger>(
 {
     let mut at = first;
     while let Some(key) = at {
+        let run = nodes.run_from(key);
+        if run > 0 {
+            let start = key.slot() as usize;
+            let end = start + run;
+            let stop = first_reaching(table, start, end, rect);
+            tick_times(steps, stop - start);
+            at = sibling_in(nodes, key, stop);
+            if stop < end {
+                steps.tick();
+                return at;
+            }
+            continue;
+        }
         steps.tick();
         let row = row_of(table, key);
         if reaches(rect, &row.hull) {

@@ -7,7 +7,7 @@ ghost use Rattle.rd_tree.specs.Internal.Glances.{AreShared, pages};
 pub(crate) const NOT_QUIET: u64 = 4294967296;
 
 /// How many rows a page has, but for the last.
-const PAGE: usize = 64;
+pub(crate) const PAGE: usize = 64;
 
 /// Of how many pages `all_share` tells at most.
 const MOST: usize = 64;

@@ -1,5 +1,5 @@
 -- Marks that are taken off, one sibling after the other.
-use Rattle.std.proofs.Common.{◌≡◌, refl, ap, ◌∙◌, sym, subst, ℕ, ◌+◌, ◌<◌, ◌≤◌, Bool, true, false, ◌||◌, ◌&&◌, not, cond, List, length, arith, ◌⊎◌, inl, inr}
+use Rattle.std.proofs.Common.{◌≡◌, refl, ap, ◌∙◌, sym, subst, ℕ, zero, suc, ◌+◌, ◌<◌, ◌≤◌, Bool, true, false, ◌||◌, ◌&&◌, not, cond, List, length, arith, ◌⊎◌, inl, inr}
 use Rattle.std.specs.Prelude.{◌==◌, Option, Some, None, option_map, is_some}
 use Rattle.rd_keys.specs.Keys.{same_key}
 use Rattle.rd_keys.specs.Arena.{Arena, value}
@@ -12,6 +12,8 @@ use Rattle.rd_tree.specs.Internal.Links.{Node, node, with_item, Stands, edit, on
 use Rattle.rd_tree.specs.Document.{BoxKey, Item, BoxForest}
 use Rattle.rd_tree.specs.Touching.{settled}
 use Rattle.rd_tree.specs.Internal.Linked.{linked, plain, Relinks, IsRead, IsTree, seen, seen_from}
+use Rattle.rd_tree.specs.declared.shared.TheConstants.{PAGE}
+use Rattle.rd_tree.specs.Internal.Calm.{place_on, IsCalmBox, Passes}
 use Rattle.rd_tree.specs.Internal.Works.{Allows}
 use Rattle.rd_tree.specs.Hulls.{touched_in}
 use Rattle.rd_tree.specs.Internal.Summaries.{summary_of, summary_at}
@@ -443,3 +445,73 @@ all_marks a root rows t table =
       whole =
           let r = rooted_seen a root t in
           subst (λ f. branch same_key root f ≡ f) (sym r.2) (rw (same_key-refl root) refl)
+
+-- What holds at first, and from one step to the next, holds after so many.
+upto : (P : ℕ → Type 0) (n : ℕ) → P 0 → ((i : ℕ) → i < n → P i → P (suc i)) → P n
+upto P zero z s = z
+upto P (suc n) z s = s n (omega arith) (upto P n z (λ i l p. s i (omega (arith, l)) p))
+
+-- The loop comes to a box past a page.
+pub record SettlePassed (a0 a : Arena inner.Node) (old new : List Summary) (first from to : Option BoxKey) : Type 0 where
+  pub next : Settling a0 a old new first to
+  pub less : size (seen_from a to) < size (seen_from a from)
+  pub marks : touched_in (seen_from a from) ≡ touched_in (seen_from a to)
+
+-- An untouched box stays as it is.
+stays_settled : (a : Arena inner.Node) (k : BoxKey) (x : Node BoxKey Item) → linked a k ≡ Some x → x.item.touched ≡ false
+    → Relinks a a (edit same_key k (with_item settled) (linked a))
+stays_settled a k x f u = record {
+  links = λ j. at j (same_key k j) refl;
+  same_slots = refl;
+  same_live = refl;
+  limit = refl;
+  first = refl;
+} where
+  at : (j : BoxKey) (b : Bool) → same_key k j ≡ b → linked a j ≡ cond (same_key k j) (option_map (with_item settled) (linked a j)) (linked a j)
+  at j false e = rw e refl
+  at j true e =
+      let n : linked a j ≡ Some x = ap (linked a) (sym (same_key-sound k j e)) ∙ f in
+      rw (e, n) (ap (λ d. Some (record x { item = d })) (sym (as_it_is x.item u)))
+
+-- The loop passes one box of a page: it is untouched and has no children.
+settle_calm : (a0 a : Arena inner.Node) (old new : List Summary) (first : Option BoxKey) (s : ℕ) (at to : Option BoxKey) → Settling a0 a old new first at
+    → IsCalmBox a s at to → SettlePassed a0 a old new first at to
+settle_calm a0 a old new first s at to w b =
+    let f : linked a b.key ≡ Some (plain b.node) = ap (option_map plain) b.found in
+    let low : None ≡ (child_and_sibling (linked a b.key)).0 = sym (ap (λ o. (child_and_sibling o).0) f ∙ b.alone) in
+    let next : (child_and_sibling (linked a b.key)).1 ≡ to = ap (λ o. (child_and_sibling o).1) f ∙ b.after in
+    let none : touched_under (linked a b.key) ≡ 0 = ap touched_under f ∙ rw b.untouched refl in
+    let v : Settling a0 a old new first (Some b.key) = subst (Settling a0 a old new first) b.is w in
+    let r : Relinks a a (edit same_key b.key (with_item settled) (linked a)) = stays_settled a b.key (plain b.node) f b.untouched in
+    let count : (summary_at new b.key).touched ≡ 0 = marks_below a0 a old new first b.key v a r (child_and_sibling (linked a b.key)) refl None
+    (either ((summary_at new b.key).touched == 0) (child_and_sibling (linked a b.key)).0 low) ∙ ap touched_in (nothing_seen a) in
+    let p : Settling a0 a old new first (child_and_sibling (linked a b.key)).1 × (size (seen_from a (child_and_sibling (linked a b.key)).1) < size (seen_from a (Some b.key)))
+    × (touched_in (seen_from a (Some b.key)) ≡ touched_under (linked a b.key) + touched_in (seen_from a (child_and_sibling (linked a b.key)).1)) =
+    settle_passed a0 a old new first b.key v a r (child_and_sibling (linked a b.key)) refl count in
+    subst (λ o. SettlePassed a0 a old new first o to) (sym b.is) (subst (λ o. SettlePassed a0 a old new first (Some b.key) o) next (record {
+      next = p.0;
+      less = p.1;
+      marks = omega (arith, p.2, none);
+    })) where
+      either : (c : Bool) (o : Option BoxKey) → None ≡ o → None ≡ cond c None o
+      either true o e = refl
+      either false o e = e
+
+-- The loop has passed so many boxes of a page.
+record Past (a0 a : Arena inner.Node) (old new : List Summary) (first at o : Option BoxKey) (i : ℕ) : Type 0 where
+  next : Settling a0 a old new first o
+  less : size (seen_from a o) + i ≤ size (seen_from a at)
+  marks : touched_in (seen_from a at) ≡ touched_in (seen_from a o)
+
+-- The loop passes a page.
+pub settle_over : (a0 a : Arena inner.Node) (old new : List Summary) (first at to : Option BoxKey) (k : BoxKey) → Settling a0 a old new first at → at ≡ Some k
+    → Passes a k to → SettlePassed a0 a old new first at to
+settle_over a0 a old new first at to k w e p =
+    let begun : Past a0 a old new first at at 0 = record { next = w; less = omega arith; marks = refl } in
+    let all : Past a0 a old new first at (place_on a k PAGE) PAGE = upto (λ i. Past a0 a old new first at (place_on a k i) i) PAGE
+    (subst (λ o. Past a0 a old new first at o 0) e begun) (λ i u o.
+    let s : SettlePassed a0 a old new first (place_on a k i) (place_on a k (suc i)) = settle_calm a0 a old new first (k.slot + i) (place_on a k i)
+    (place_on a k (suc i)) o.next (p.runs.each i u) in
+    record { next = s.next; less = omega (arith, o.less, s.less); marks = o.marks ∙ s.marks }) in
+    let end : Past a0 a old new first at to PAGE = subst (λ o. Past a0 a old new first at o PAGE) p.ends all in
+    record { next = end.next; less = omega (arith, end.less); marks = end.marks }

@@ -51,12 +51,14 @@ pub record Rows : Type 0 where
   pub room : ℕ
   pub word_room : ℕ
   pub page_room : ℕ
+  pub calm_room : ℕ
 
 -- there is room for a row more
 pub record HasRoom (r : Rows) : Type 0 where
   pub row : length r.rows < r.room
   pub word : length r.rows < r.word_room
   pub page : pages (length r.rows) < r.page_room
+  pub calm : pages (length r.rows) < r.calm_room
 
 -- the word of a row: the generation where its box is untouched, and otherwise a number that no generation is
 abbrev pub quiet_word : Glance → ℕ

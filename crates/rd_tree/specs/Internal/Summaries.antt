@@ -1,5 +1,5 @@
 -- What the table of a tree has for each box.
-use Rattle.std.specs.Prelude.{Bool, false, List, slice_index_or, Option, Some, None}
+use Rattle.std.specs.Prelude.{ℕ, Bool, false, List, slice_index_or, Option, Some, None}
 use Rattle.rd_geom.specs.Plane.{no_pixels, hull_of}
 use Rattle.rd_keys.specs.Keys.{same_key}
 use Rattle.rd_tree.specs.Forest.{empty, tree, starting_at, in_subtree}
@@ -20,6 +20,10 @@ summary_first (tree k d below rest) = record {
 -- the same of k
 abbrev pub summary_of : BoxKey → BoxForest → Summary
 summary_of k f = summary_first (starting_at same_key k f)
+
+-- what a table by slots has for the slot of this number
+abbrev pub row_at : List Summary → ℕ → Summary
+row_at rows s = slice_index_or rows s (record { children = 0; touched = 0; hull = no_pixels })
 
 -- what a table by slots has for k
 abbrev pub summary_at : List Summary → BoxKey → Summary

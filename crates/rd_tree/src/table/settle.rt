@@ -90,6 +90,10 @@ pub(crate) fn settle_from(
     let mut left = marks;
     let mut at = where_left(left, first);
     while let Some(key) = at {
+        if let Some(next) = nodes.after_page(key) {
+            at = next;
+            continue;
+        }
         let marks_below = row_at(table, key).touched;
         let here = settle_on(nodes, key);
         if here.own == 0 && marks_below == 0 {

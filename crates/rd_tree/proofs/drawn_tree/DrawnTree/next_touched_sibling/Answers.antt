@@ -11,7 +11,7 @@ use Rattle.rd_tree.proofs.Blending.Counts.{blends_here}
 use Rattle.rd_tree.proofs.Nodes.Glances.{glance_within}
 use Rattle.rd_tree.proofs.Nodes.Looking.{looks, apart_seen}
 use Rattle.rd_tree.proofs.Nodes.Naming.{fits_seen}
-use Rattle.rd_tree.proofs.Nodes.Seeking.{IsLiveIfAny, Met, met, dead_begins, next_live, seek_on, seek_found, seek_fewer}
+use Rattle.rd_tree.proofs.Nodes.Seeking.{IsLiveIfAny, Seeks, Met, met, dead_begins, next_live, pass_unmarked, seek_on, seek_found, seek_fewer}
 use Rattle.rd_tree.proofs.drawn_tree.DrawnTree.next_touched_sibling.Goals as goal
 
 pub returns-then-is_marked-clause-seen : goal.returns-then-is_marked-clause-seen
@@ -112,3 +112,19 @@ blends_at-blend-requires g c = omega (
   c.self.invariant.blending.all_rows,
   glance_within c.self.inside.nodes c.in-Some.key c.glance_at_live-glance.result c.glance_at_live-glance.ensures,
 )
+
+pub loop-at-smaller-in-Some-after_page : goal.loop-at-smaller-in-Some-after_page
+loop-at-smaller-in-Some-after_page g c =
+    let p = pass_unmarked c.self.inside.nodes c.self.inside.root c.args.first c.loop-at.at c.in-Some-after_page.next c.in-Some.key c.args.steps.now c.loop-at.steps
+    c.self.invariant.sound.tree c.loop-at.invariant.seeks c.loop-at.invariant.live c.in-Some.is c.in-Some-after_page.ensures in
+    omega (arith, p.fewer)
+
+pub loop-at-preserved-in-Some-after_page : goal.loop-at-preserved-in-Some-after_page
+loop-at-preserved-in-Some-after_page g c =
+    let p = pass_unmarked c.self.inside.nodes c.self.inside.root c.args.first c.loop-at.at c.in-Some-after_page.next c.in-Some.key c.args.steps.now c.loop-at.steps
+    c.self.invariant.sound.tree c.loop-at.invariant.seeks c.loop-at.invariant.live c.in-Some.is c.in-Some-after_page.ensures in
+    record {
+      seeks = subst (λ n. Seeks is_marked (seen c.self.inside.nodes c.self.inside.root) c.args.first c.in-Some-after_page.next c.args.steps.now n)
+          (sym c.tick_times.ensures) p.seeks;
+      live = p.live;
+    }

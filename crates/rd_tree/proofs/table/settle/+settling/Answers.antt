@@ -3,7 +3,7 @@ use Rattle.std.specs.Prelude.{◌==◌, None}
 use Rattle.rd_tree.specs.Internal.Summaries.{summary_at}
 use Rattle.rd_tree.proofs.Nodes.Works.{ended}
 use Rattle.rd_tree.specs.declared.links.walk.Work.TheVariants.{Settle}
-use Rattle.rd_tree.proofs.Tables.Settling.{Settling, settling_begun, settling_ended, settling_on, walked, live_key, here_row, below_settle, marks_below, row_stays, settle_next, settle_passed, settling_rest}
+use Rattle.rd_tree.proofs.Tables.Settling.{Settling, settling_begun, settling_ended, settling_on, walked, live_key, here_row, below_settle, marks_below, row_stays, settle_next, settle_passed, settle_over, settling_rest}
 use Rattle.rd_tree.proofs.table.settle.+settling.Goals as goal
 
 pub settle_from-loop-at-init : goal.settle_from-loop-at-init
@@ -190,3 +190,21 @@ settle_from-returns-clause-rows t c = settling_ended c.args.nodes.now c.loop-at.
 
 pub settle_from-returns-clause-same_length : goal.settle_from-returns-clause-same_length
 settle_from-returns-clause-same_length t c = c.loop-at.invariant.0.same_length
+
+pub settle_from-after_page-requires : goal.settle_from-after_page-requires
+settle_from-after_page-requires t c =
+    let w = walked c.args.nodes.now c.loop-at.nodes c.args.table.now.items c.loop-at.table.items c.args.first c.loop-at.at c.in-Some.key c.loop-at.left
+    c.in-Some.is c.loop-at.invariant in
+    record { live = live_key c.args.nodes.now c.loop-at.nodes c.args.table.now.items c.loop-at.table.items c.args.first c.in-Some.key w.0 }
+
+pub settle_from-loop-at-smaller-in-Some-after_page : goal.settle_from-loop-at-smaller-in-Some-after_page
+settle_from-loop-at-smaller-in-Some-after_page t c =
+    let p = settle_over c.args.nodes.now c.loop-at.nodes c.args.table.now.items c.loop-at.table.items c.args.first c.loop-at.at c.in-Some-after_page.next c.in-Some.key
+    c.loop-at.invariant.0 c.in-Some.is c.in-Some-after_page.ensures in
+    p.less
+
+pub settle_from-loop-at-preserved-in-Some-after_page : goal.settle_from-loop-at-preserved-in-Some-after_page
+settle_from-loop-at-preserved-in-Some-after_page t c =
+    let p = settle_over c.args.nodes.now c.loop-at.nodes c.args.table.now.items c.loop-at.table.items c.args.first c.loop-at.at c.in-Some-after_page.next c.in-Some.key
+    c.loop-at.invariant.0 c.in-Some.is c.in-Some-after_page.ensures in
+    (p.next, c.loop-at.invariant.1 ∙ p.marks)
