@@ -10,3 +10,4 @@ pub mod WalkedLines
 pub mod MadeLines
 pub mod PlacedLines
 pub mod RunGathering
+pub mod MovedNodes

@@ -10,4 +10,5 @@ pub mod Numbers
 pub mod SeenAt
 pub mod Along
 pub mod Namings
+pub mod Kinds
 pub mod AskedPlaces

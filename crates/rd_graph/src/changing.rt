@@ -7,6 +7,7 @@ ghost use Rattle.rd_graph.specs.Gathered.{gathered};
 ghost use Rattle.rd_graph.specs.Names.{same_entry};
 ghost use Rattle.rd_graph.specs.Orders.{Once};
 ghost use Rattle.rd_graph.specs.Internal.Chains.{before_place};
+ghost use Rattle.rd_graph.specs.Internal.Chunks.{HasKindsOf, IsInOne, Tells};
 ghost use Rattle.rd_graph.specs.Internal.Patching.{lists_seen};
 ghost use Rattle.rd_graph.specs.Internal.Relisting.{AddsAlong, AreMarked, AreNoted, AreNumbered, AreQuiet, GoesAlong, GoesAlongAt, Relists, has_all, has_mark, is_late, joined, keeps, listed, own, some_gone};
 ghost use Rattle.rd_graph.specs.Internal.Tables.{at, fits_list, has_it};
@@ -15,6 +16,7 @@ ghost use Rattle.rd_graph.specs.Internal.Words.{NotesBy, note_at, resolved_by};
 use crate::arranging::advance_past;
 use crate::before::{Name, Predecessors, copied, is_among, nothing, push};
 use crate::change::Change;
+use crate::chunks::{chunk_end, is_apart};
 use crate::gone::{Gone, goes, gone_at, mark_of, number_of, some_goes};
 use crate::graph::Node;
 use crate::resolving::resolve;
@@ -200,9 +202,8 @@ fn past_runs(nodes: &[Node], from: usize, end: usize, marks: &[bool]) -> usize
     place
 }
 
-/// The first place of a stretch of places whose node may be late. The end of the stretch where there is none.
-#[inline(never)]
-fn next_late(nodes: &[Node], from: usize, end: usize, marks: &[bool]) -> usize
+/// The first place of a stretch of places whose node may be late, by its predecessors. The end of the stretch where there is none.
+fn late_among(nodes: &[Node], from: usize, end: usize, marks: &[bool]) -> usize
     requires marks { length marks.now ≡ 4096 }
     requires from { from ≤ end }
     requires end { end ≤ length nodes.now }
@@ -213,6 +214,49 @@ fn next_late(nodes: &[Node], from: usize, end: usize, marks: &[bool]) -> usize
     let mut place = past_runs(nodes, from, end, marks);
     while place < end && !some_marked(marks, &nodes[place]) {
         place = past_runs(nodes, place + 1, end, marks);
+    }
+    place
+}
+
+/// The same. Nothing is looked at in a chunk that has no names of the kinds of those that go.
+fn late_in_chunk(nodes: &[Node], chunks: &[u64], from: usize, end: usize, gone: &Gone) -> usize
+    requires told { Tells chunks.now (seen nodes.now) }
+    requires marked { AreMarked gone.now.marks.items gone.now.names }
+    requires whole { length gone.now.marks.items ≡ 4096 }
+    requires kinds { HasKindsOf gone.now.kinds gone.now.names }
+    requires from { from ≤ end }
+    requires end { end ≤ length nodes.now }
+    requires one { IsInOne from end }
+    ensures after { from ≤ result }
+    ensures within { result ≤ end }
+    ensures quiet { AreQuiet (has_it gone.now.names) (seen nodes.now) from result }
+{
+    if is_apart(chunks, from, gone.kinds) {
+        return end;
+    }
+    late_among(nodes, from, end, &gone.marks)
+}
+
+/// The first place of a stretch of places whose node may be late. The end of the stretch where there is none.
+#[inline(never)]
+fn next_late(nodes: &[Node], chunks: &[u64], from: usize, end: usize, gone: &Gone) -> usize
+    requires told { Tells chunks.now (seen nodes.now) }
+    requires marked { AreMarked gone.now.marks.items gone.now.names }
+    requires whole { length gone.now.marks.items ≡ 4096 }
+    requires kinds { HasKindsOf gone.now.kinds gone.now.names }
+    requires from { from ≤ end }
+    requires end { end ≤ length nodes.now }
+    ensures after { from ≤ result }
+    ensures within { result ≤ end }
+    ensures quiet { AreQuiet (has_it gone.now.names) (seen nodes.now) from result }
+{
+    let mut place = from;
+    while place < end {
+        let stop = chunk_end(place, end);
+        place = late_in_chunk(nodes, chunks, place, stop, gone);
+        if place < stop {
+            return place;
+        }
     }
     place
 }
@@ -232,15 +276,18 @@ fn place_or(places: &[usize], i: usize, count: usize) -> usize
 fn pass_all(
     alloc: Global,
     nodes: &[Node],
+    chunks: &[u64],
     places: &[usize],
     gone: &Gone,
 ) -> Result<Passed, AllocError>
     requires sound { IsInOrder (seen nodes.now) }
+    requires told { Tells chunks.now (seen nodes.now) }
     requires rising { AreRising places.now }
     requires within { (k : ℕ) → k < length places.now → slice_index_or places.now k 0 < length nodes.now }
     requires named { fits_list gone.now.names (gathered places.now (nodes_of (seen nodes.now))) }
     requires marked { AreMarked gone.now.marks.items gone.now.names }
     requires whole { 0 < length places.now → length gone.now.marks.items ≡ 4096 }
+    requires kinds { HasKindsOf gone.now.kinds gone.now.names }
     requires numbered { AreNumbered gone.now.names (length places.now) }
     ensures noted { IfOk result (λ p. AreNoted (has_it gone.now.names) (resolved_by gone.now.names p.notes.items)
         (seen nodes.now)) }
@@ -254,7 +301,7 @@ fn pass_all(
     while place < nodes.len() {
         pass(alloc, gone, &mut notes, &mut lists, place, &nodes[place])?;
         let stop = place_or(places, met, nodes.len());
-        place = next_late(nodes, place + 1, stop, &gone.marks);
+        place = next_late(nodes, chunks, place + 1, stop, gone);
         met = advance_past(places, met, place);
     }
     Ok(Passed { notes, lists })
@@ -482,20 +529,23 @@ fn led_along(
 fn changed_by(
     alloc: Global,
     nodes: &[Node],
+    chunks: &[u64],
     places: &[usize],
     gone: &Gone,
     chain: &[EntryKey],
     found: &[Option<usize>],
 ) -> Result<Vec<(usize, Predecessors)>, AllocError>
     requires sound { IsInOrder (seen nodes.now) }
+    requires told { Tells chunks.now (seen nodes.now) }
     requires can { CanBePatched places.now chain.now found.now (seen nodes.now) }
     requires named { fits_list gone.now.names (gathered places.now (nodes_of (seen nodes.now))) }
     requires marked { AreMarked gone.now.marks.items gone.now.names }
     requires whole { 0 < length places.now → length gone.now.marks.items ≡ 4096 }
+    requires kinds { HasKindsOf gone.now.kinds gone.now.names }
     requires numbered { AreNumbered gone.now.names (length places.now) }
     ensures { IfOk result (λ v. IsRelisted places.now chain.now (seen nodes.now) (lists_seen v.items)) }
 {
-    let passed = pass_all(alloc, nodes, places, gone)?;
+    let passed = pass_all(alloc, nodes, chunks, places, gone)?;
     led_along(alloc, nodes, gone, chain, found, passed)
 }
 
@@ -504,13 +554,23 @@ fn changed_by(
 pub(crate) fn changed(
     alloc: Global,
     nodes: &[Node],
+    chunks: &[u64],
     change: Change<'_>,
 ) -> Result<Vec<(usize, Predecessors)>, AllocError>
     requires sound { IsInOrder (seen nodes.now) }
+    requires told { Tells chunks.now (seen nodes.now) }
     requires can { CanBePatched change.removed.now change.chain.now change.old_places.now (seen nodes.now) }
     ensures { IfOk result (λ v. IsRelisted change.entry.removed.now change.entry.chain.now (seen nodes.now) (lists_seen v.items)) }
 {
     let places = change.removed;
     let gone = gone_at(alloc, nodes, places)?;
-    changed_by(alloc, nodes, places, &gone, change.chain, change.old_places)
+    changed_by(
+        alloc,
+        nodes,
+        chunks,
+        places,
+        &gone,
+        change.chain,
+        change.old_places,
+    )
 }

@@ -2,22 +2,25 @@
 ghost use Rattle.std.specs.Prelude.{◌≡◌, ℕ, ◌<◌, IfOk, true, false, slice_index_or, length, Contains};
 ghost use Rattle.rd_graph.specs.Gathered.{gathered};
 ghost use Rattle.rd_graph.specs.Graphs.{nodes as nodes_of};
+ghost use Rattle.rd_graph.specs.Internal.Chunks.{HasKind, HasKindsOf};
 ghost use Rattle.rd_graph.specs.Internal.Relisting.{AreMarked, AreNumbered, mark_of, some_gone};
 ghost use Rattle.rd_graph.specs.Internal.Seen.{seen};
 ghost use Rattle.rd_graph.specs.Internal.Tables.{at, fits_list, has_it};
 
 use crate::before::Name;
+use crate::chunks::with_kind;
 use crate::graph::Node;
 use crate::tables::{find, has, put};
 use indexmap::IndexMap;
 use rd_keys::EntryKey;
 use std::alloc::{AllocError, Global};
 
-/// The names that go, each with its number. The marks tell most others at once.
+/// The names that go, each with its number. The marks tell most others at once, and the kinds whole chunks of nodes.
 #[derive(Drop)]
 pub(crate) struct Gone {
     pub(crate) names: IndexMap<EntryKey, usize>,
     pub(crate) marks: Vec<bool>,
+    pub(crate) kinds: u64,
 }
 
 /// Where a name has its mark.
@@ -64,17 +67,35 @@ fn marks_at(alloc: Global, nodes: &[Node], gone: &[usize]) -> Result<Vec<bool>, 
     Ok(marks)
 }
 
-/// The names of the nodes at these places, with their numbers and marks.
+/// The kinds of the names of the nodes at these places.
+fn kinds_at(nodes: &[Node], gone: &[usize]) -> u64
+    requires { (k : ℕ) → k < length gone.now → slice_index_or gone.now k 0 < length nodes.now }
+    ensures { (k : EntryKey) → Contains (gathered gone.now (nodes_of (seen nodes.now))) k → HasKind result k }
+{
+    let mut kinds = 0;
+    for place in gone {
+        kinds = with_kind(kinds, &nodes[*place].key);
+    }
+    kinds
+}
+
+/// The names of the nodes at these places, with their numbers, marks and kinds.
 pub(crate) fn gone_at(alloc: Global, nodes: &[Node], gone: &[usize]) -> Result<Gone, AllocError>
     requires { (k : ℕ) → k < length gone.now → slice_index_or gone.now k 0 < length nodes.now }
     ensures marked { IfOk result (λ g. AreMarked g.marks.items g.names) }
     ensures whole { IfOk result (λ g. 0 < length gone.now → length g.marks.items ≡ 4096) }
+    ensures kinds { IfOk result (λ g. HasKindsOf g.kinds g.names) }
     ensures named { IfOk result (λ g. fits_list g.names (gathered gone.now (nodes_of (seen nodes.now)))) }
     ensures numbered { IfOk result (λ g. AreNumbered g.names (length gone.now)) }
 {
     let names = names_at(alloc, nodes, gone)?;
     let marks = marks_at(alloc, nodes, gone)?;
-    Ok(Gone { names, marks })
+    let kinds = kinds_at(nodes, gone);
+    Ok(Gone {
+        names,
+        marks,
+        kinds,
+    })
 }
 
 /// The number of a name that goes. None where it stays.

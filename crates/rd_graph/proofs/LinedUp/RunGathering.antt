@@ -39,6 +39,15 @@ apart_once (p ∷ ps) h = (
   apart_once ps (λ j k l m e. h (suc j) (suc k) (omega (arith, l)) (omega (arith, m)) e),
 )
 
+get_after : (ps qs : List ℕ) (k : ℕ) → get_or (ps ++ qs) (length ps + k) 0 ≡ get_or qs k 0
+get_after [] qs k = ap (λ j. get_or qs j 0) (let e : 0 + k ≡ k = omega arith in e)
+get_after (p ∷ ps) qs k = ap (λ j. get_or (p ∷ (ps ++ qs)) j 0) (let e : suc (length ps) + k ≡ suc (length ps + k) = omega arith in e) ∙ get_after ps qs k
+
+get_up : (p count k : ℕ) (rest : List ℕ) → k < count → get_or (up_from p count ++ rest) k 0 ≡ p + k
+get_up p zero k rest l = absurd (omega (arith, l))
+get_up p (suc count) zero rest l = let e : p ≡ p + 0 = omega arith in e
+get_up p (suc count) (suc k) rest l = get_up (p + 1) count k rest (omega (arith, l)) ∙ (let e : p + 1 + k ≡ p + suc k = omega arith in e)
+
 module _ (rs : List Run) (i n : ℕ) (r : Run) (l : i < length rs) (is : r ≡ get_or rs i r) (are : ArePlaces (places_of rs) n) where
   two_parts : places_of rs ≡ places_of (take i rs) ++ places_of (drop i rs)
   two_parts = ap places_of (sym (take-append-drop i rs)) ∙ places-append (take i rs) (drop i rs)
@@ -60,6 +69,13 @@ module _ (rs : List Run) (i n : ℕ) (r : Run) (l : i < length rs) (is : r ≡ g
   run_within k w =
       below_has n (places_of rs) (r.from + k) (at_below n (places_of rs) are.within)
       (subst (λ ps. Has ps (r.from + k)) (sym two_parts) (has_right (places_of (take i rs)) (places_of (drop i rs)) (r.from + k) (in_rest (r.from + k) (has_up r.from r.count k w))))
+
+  -- its places come after those of the runs before it
+  pub place_in_line : (k : ℕ) → k < r.count → get_or (places_of rs) (length (places_of (take i rs)) + k) 0 ≡ r.from + k
+  place_in_line k w =
+      ap (λ ps. get_or ps (length (places_of (take i rs)) + k) 0) (two_parts ∙ ap (λ ps. places_of (take i rs) ++ ps) rest_parts)
+      ∙ get_after (places_of (take i rs)) (up_from r.from r.count ++ places_of (drop (i + 1) rs)) k
+      ∙ get_up r.from r.count k (places_of (drop (i + 1) rs)) w
 
   -- a place that comes later is none of the run
   pub later_outside : (k : ℕ) → Has (places_of (drop (i + 1) rs)) k → (k < r.from) ⊎ (r.from + r.count ≤ k)

@@ -1,7 +1,7 @@
 -- Nodes that get new lists, and nodes that are moved to their places.
 use Rattle.std.proofs.Common.{◌≡◌, refl, ap, ◌∙◌, sym, subst, List, [], ◌∷◌, ◌++◌, ℕ, zero, suc, ◌<◌, ◌+◌, length, take, drop, get_or, set, arith, append_assoc, inl}
 use Rattle.std.proofs.lemmas.List.{take_more, append-nil, map-append}
-use Rattle.std.specs.Prelude.{map, Option, Some, option_map, vec_len}
+use Rattle.std.specs.Prelude.{◌^◌, IfSome, map, Option, None, Some, option_map, vec_capacity, vec_len}
 use Rattle.std.specs.declared.vec.Vec.{Vec}
 use Rattle.smallvec.specs.SmallVec.{SmallVec}
 use Rattle.rd_keys.specs.declared.entry.EntryKey.{EntryKey}
@@ -114,3 +114,8 @@ line_fits line ls nodes now made n m is put ln lm =
     let d = seen-length made in
     let e : length (seen nodes) + length (seen made) ≡ n + m = omega (arith, a, b, c, d, ln, lm) in
     subst (IsLine line) e is
+
+-- where there is room for a line, it is no longer than a number may be
+pub few_in_room : {A B : Type 0} (line : Option (Vec Run A)) (room : Vec Node B) → vec_capacity room < 2 ^ 64 → HasRoom line room → IfSome line (λ l. length (places_of l.items) < 2 ^ 64)
+few_in_room None room c h = tt
+few_in_room (Some l) room c h = let m = h.1 in omega (arith, c, m)

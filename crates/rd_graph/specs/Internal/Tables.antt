@@ -19,6 +19,11 @@ label_in m d k = unwrap_or (at m k) d
 abbrev pub fits_list : {V S : Type 0} → IndexMap EntryKey V S → List EntryKey → Type 0
 fits_list m xs = (k : EntryKey) → is_some (at m k) ≡ is_in same_entry xs k
 
+-- so has a table, where there is one
+abbrev pub fits_table : {V S : Type 0} → Option (IndexMap EntryKey V S) → List EntryKey → Type 0
+fits_table None xs = Unit {0}
+fits_table (Some m) xs = fits_list m xs
+
 -- what a table notes of a name
 abbrev pub items_of : {V : Type 0} → Option (SmallVec V) → List V
 items_of None = []

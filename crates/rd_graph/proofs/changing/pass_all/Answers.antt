@@ -61,7 +61,7 @@ loop-place-preserved c =
       met = met_next ps c.requires.rising i c.loop-place.met c.next_late-place.result c.advance_past-met.result (length ns) inv.met (omega (arith, past)) (omega (arith, before, stop)) c.advance_past-met.ensures;
       so_far = so_to gone (seen ns) c.requires.sound (noted_by c.args.gone.now.names c.pass.new.notes.items) (lists_seen c.pass.new.lists.items) (i + 1) c.next_late-place.result past (omega (arith, before, within, size))
           (λ k x h l m. stays_between ps c.requires.rising gone (seen ns) c.requires.sound inside c.requires.named i c.loop-place.met (length ns) inv.met k x h (omega (arith, l)) (omega (arith, m, before, stop)))
-          (quiet_where gone _ (subst (λ (ms : List Bool). AreMarked ms c.args.gone.now.names) (sym c.deref.ensures.value) c.requires.marked) (seen ns) _ _ next.quiet) passed;
+          next.quiet passed;
     }
 
 pub returns-clause-noted : goal.returns-clause-noted

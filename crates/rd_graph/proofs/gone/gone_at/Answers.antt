@@ -9,3 +9,6 @@ use Rattle.rd_graph.proofs.gone.gone_at.Goals as goal
 
 pub returns-clause-marked : goal.returns-clause-marked
 returns-clause-marked c = λ k h. c.in_ok-marks.ensures.marked k (contains_from _ k (in_has same_entry same_entry-sound (gathered c.args.gone.now (nodes (seen c.args.nodes.now))) k (sym (c.in_ok-names.ensures.named k) ∙ h)))
+
+pub returns-clause-kinds : goal.returns-clause-kinds
+returns-clause-kinds c = λ k h. c.kinds_at-kinds.ensures k (contains_from _ k (in_has same_entry same_entry-sound (gathered c.args.gone.now (nodes (seen c.args.nodes.now))) k (sym (c.in_ok-names.ensures.named k) ∙ h)))

@@ -1,8 +1,9 @@
-use Rattle.std.proofs.Common.{ap, ◌∙◌, sym, subst, List}
+use Rattle.std.proofs.Common.{ap, ◌∙◌, sym, subst, ℕ, List}
 use Rattle.std.specs.Prelude.{option_map}
 use Rattle.rd_graph.specs.Graphs.{IsInOrder}
 use Rattle.rd_graph.specs.Patches.{CanBePatched}
 use Rattle.rd_graph.specs.declared.graph.Node.{Node}
+use Rattle.rd_graph.specs.Internal.Chunks.{Tells}
 use Rattle.rd_graph.specs.Internal.Patching.{lists_seen}
 use Rattle.rd_graph.specs.Internal.Seen.{seen}
 use Rattle.rd_graph.specs.Runs.{places_of}
@@ -15,17 +16,17 @@ returns-clause-fits c =
     (short_by c.args.change.removed.now c.args.change.chain.now c.args.change.old_places.now c.args.self.now (seen c.in_ok-made.made.items) (lists_seen c.in_ok-relisted.relisted.items) (lists_seen c.in_ok-lists.lists.items) (option_map (λ v. places_of v.items) c.in_ok-line.line)
     c.in_ok-lists.ensures
     (patched_by c.args.change.removed.now c.args.change.chain.now c.args.change.old_places.now c.args.self.now c.deref.result.now c.self.inside.nodes.items (lists_seen c.in_ok-relisted.relisted.items) (seen c.in_ok-made.made.items) (option_map (λ v. places_of v.items) c.in_ok-line.line)
-    c.requires c.self.invariant c.self.view_is c.deref.ensures.value c.in_ok-relisted.ensures c.in_ok-line.ensures c.in_ok-made.ensures)).0
+    c.requires c.self.invariant.0 c.self.view_is c.deref.ensures.value c.in_ok-relisted.ensures c.in_ok-line.ensures c.in_ok-made.ensures)).0
 
 pub returns-clause-patched : goal.returns-clause-patched
 returns-clause-patched c =
     (short_by c.args.change.removed.now c.args.change.chain.now c.args.change.old_places.now c.args.self.now (seen c.in_ok-made.made.items) (lists_seen c.in_ok-relisted.relisted.items) (lists_seen c.in_ok-lists.lists.items) (option_map (λ v. places_of v.items) c.in_ok-line.line)
     c.in_ok-lists.ensures
     (patched_by c.args.change.removed.now c.args.change.chain.now c.args.change.old_places.now c.args.self.now c.deref.result.now c.self.inside.nodes.items (lists_seen c.in_ok-relisted.relisted.items) (seen c.in_ok-made.made.items) (option_map (λ v. places_of v.items) c.in_ok-line.line)
-    c.requires c.self.invariant c.self.view_is c.deref.ensures.value c.in_ok-relisted.ensures c.in_ok-line.ensures c.in_ok-made.ensures)).1
+    c.requires c.self.invariant.0 c.self.view_is c.deref.ensures.value c.in_ok-relisted.ensures c.in_ok-line.ensures c.in_ok-made.ensures)).1
 
 pub changed-requires-clause-sound : goal.changed-requires-clause-sound
-changed-requires-clause-sound c = subst (λ (ns : List Node). IsInOrder (seen ns)) (sym c.deref.ensures.value) c.self.invariant
+changed-requires-clause-sound c = subst (λ (ns : List Node). IsInOrder (seen ns)) (sym c.deref.ensures.value) c.self.invariant.0
 
 pub changed-requires-clause-can : goal.changed-requires-clause-can
 changed-requires-clause-can c = subst (CanBePatched c.args.change.removed.now c.args.change.chain.now c.args.change.old_places.now) (sym (ap seen c.deref.ensures.value ∙ c.self.view_is)) c.requires
@@ -35,3 +36,6 @@ trimmed-requires c = c.requires.once
 
 pub arrange-requires : goal.arrange-requires
 arrange-requires c = c.requires
+
+pub changed-requires-clause-told : goal.changed-requires-clause-told
+changed-requires-clause-told c = subst (λ (ns : List Node). Tells c.deref-2.result.now (seen ns)) (sym c.deref.ensures.value) (subst (λ (cs : List ℕ). Tells cs (seen c.self.inside.nodes.items)) (sym c.deref-2.ensures.value) c.self.invariant.1)
