@@ -6,16 +6,10 @@ pub mod Pieces
 pub mod SpanTests
 pub mod Picking
 pub mod Choosing
-pub mod Showing
-pub mod Transparent
-pub mod Passing
-pub mod OffChunks
-pub mod Hiding
+pub mod Shown
 pub mod Banding
 pub mod Framing
-pub mod Seen
 pub mod Changing
-pub mod Beside
 pub mod Changes
 pub mod Cutting
 pub mod Casting

@@ -20,7 +20,7 @@ use Rattle.rd_paint.proofs.Choosing.{laid_on, laid_off}
 use Rattle.rd_paint.proofs.Depths.{group_levels, join_has, levels_by, rows_levels, rows_by, rows_same, rows_left, rows_within, no_rows, nothing_shown}
 use Rattle.rd_paint.proofs.Laying.{laid_along-nil, laid_none, group_from}
 use Rattle.rd_paint.proofs.Picking.{entry_at-shown, entry_at-past, entry_at-leaf, entry_at-group}
-use Rattle.rd_paint.proofs.Seen.{seen_laid, unseen_laid}
+use Rattle.rd_paint.proofs.Shown.Seen.{seen_laid, unseen_laid}
 use Rattle.rd_paint.proofs.chosen.+choosing.Goals as goal
 
 all_behind : (i : ℕ) (ps : List Pick) → i ≤ length ps → take (length ps - i) (drop i ps) ≡ drop i ps

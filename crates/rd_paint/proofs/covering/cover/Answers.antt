@@ -2,7 +2,7 @@ use Rattle.std.proofs.Common.{◌+◌, length, drop, FitsSigned, w32, rules}
 use Rattle.std.proofs.lemmas.Int.{to_z-of_z}
 use Rattle.rd_list.specs.Displayed.{shown}
 use Rattle.rd_paint.specs.Internal.Picks.{picked, chosen}
-use Rattle.rd_paint.proofs.Hiding.{upper_more, upper_levels, hidden_below}
+use Rattle.rd_paint.proofs.Shown.Hiding.{upper_more, upper_levels, hidden_below}
 use Rattle.rd_paint.proofs.covering.cover.Goals as goal
 use Rattle.rd_paint.proofs.covering.cover.Goals.{then-hides_at, else-hides_at}
 

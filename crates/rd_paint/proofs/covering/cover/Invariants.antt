@@ -5,7 +5,7 @@ use Rattle.rd_list.specs.Displayed.{shown}
 use Rattle.rd_list.specs.Lists.{composed}
 use Rattle.rd_list.specs.Views.{levels}
 use Rattle.rd_paint.specs.Internal.Picks.{picked}
-use Rattle.rd_paint.proofs.Hiding.{IsUpper}
+use Rattle.rd_paint.proofs.Shown.Hiding.{IsUpper}
 use Rattle.rd_paint.proofs.covering.cover.Given as goal
 
 abbrev pub invariant-loop-i : goal.invariant-loop-i

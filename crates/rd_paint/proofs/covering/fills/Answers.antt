@@ -2,7 +2,7 @@ use Rattle.std.proofs.Common.{◌∙◌, ap, ◌+ℤ◌, pos, FitsSigned, w32, r
 use Rattle.std.proofs.lemmas.Int.{to_z-of_z}
 use Rattle.rd_geom.specs.Plane.{Rectangle, right}
 use Rattle.rd_geom.specs.declared.span.Span.{Span}
-use Rattle.rd_paint.proofs.Hiding.{shown_fills, no_row, no_column}
+use Rattle.rd_paint.proofs.Shown.Hiding.{shown_fills, no_row, no_column}
 use Rattle.rd_paint.proofs.covering.fills.Goals as goal
 
 abbrev columns_of : Rectangle → Span

@@ -1,6 +1,6 @@
 use Rattle.std.proofs.Common.{◌+ℤ◌, pos, FitsSigned, w32, rules}
 use Rattle.std.proofs.lemmas.Int.{to_z-of_z}
-use Rattle.rd_paint.proofs.Hiding.{leaf_hides}
+use Rattle.rd_paint.proofs.Shown.Hiding.{leaf_hides}
 use Rattle.rd_paint.proofs.covering.item_hides.Goals as goal
 
 pub returns-then-color : goal.returns-then-color

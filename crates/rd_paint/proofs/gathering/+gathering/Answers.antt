@@ -16,7 +16,7 @@ use Rattle.rd_list.proofs.Joins.{join-nil}
 use Rattle.rd_list.proofs.Viewing.{size_at}
 use Rattle.rd_paint.specs.Internal.Picks.{InAreaWithin, ServesWhere, picked}
 use Rattle.rd_paint.proofs.Picking.{closed_none, closed_by, put_first, put_fits, picked-none, entry_at-shown}
-use Rattle.rd_paint.proofs.Showing.{serves_by, serves_less, written_past, none_named, group_named, group_unseen, nothing_left, some_group}
+use Rattle.rd_paint.proofs.Shown.Showing.{serves_by, serves_less, written_past, none_named, group_named, group_unseen, nothing_left, some_group}
 use Rattle.rd_paint.proofs.Depths.{join_has}
 use Rattle.rd_paint.proofs.gathering.+gathering.Goals as goal
 

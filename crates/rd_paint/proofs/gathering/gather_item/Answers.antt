@@ -2,7 +2,7 @@ use Rattle.std.proofs.Common.{refl, sym, ◌∙◌, []}
 use Rattle.rd_list.specs.Entries.{leaf, nil}
 use Rattle.rd_paint.specs.Internal.Picks.{InAreaWithin}
 use Rattle.rd_paint.proofs.Picking.{closed_none, closed_one}
-use Rattle.rd_paint.proofs.Showing.{leaf_named, none_named, leaf_outside}
+use Rattle.rd_paint.proofs.Shown.Showing.{leaf_named, none_named, leaf_outside}
 use Rattle.rd_paint.proofs.gathering.gather_item.Goals as goal
 
 pub returns-then-not-meets-clause-closed : goal.returns-then-not-meets-clause-closed

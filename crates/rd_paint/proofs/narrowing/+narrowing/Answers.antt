@@ -13,7 +13,7 @@ use Rattle.rd_list.specs.Wrappers.{Wrapper}
 use Rattle.rd_list.proofs.Viewing.{size_at}
 use Rattle.rd_paint.specs.Internal.Picks.{InRows, ServesWhere, picked, chosen}
 use Rattle.rd_paint.proofs.Picking.{closed_none, closed_by, put_first, picked-none, entry_at-shown, entry_at-past, entry_at-leaf, entry_at-group}
-use Rattle.rd_paint.proofs.Showing.{serves_by, same_last, written_more, none_named, group_named, group_unseen, nothing_inside, some_inside}
+use Rattle.rd_paint.proofs.Shown.Showing.{serves_by, same_last, written_more, none_named, group_named, group_unseen, nothing_inside, some_inside}
 use Rattle.rd_paint.proofs.narrowing.+narrowing.Goals as goal
 
 pub narrow-loop-i-init : goal.narrow-loop-i-init

@@ -1,6 +1,6 @@
 use Rattle.std.proofs.Common.{◌≡◌, ◌+ℤ◌, arith, FitsSigned, w32, to_z, of_z, rules}
 use Rattle.std.proofs.lemmas.Int.{to_z-of_z, ints}
-use Rattle.rd_paint.proofs.Showing.{below_rows}
+use Rattle.rd_paint.proofs.Shown.Showing.{below_rows}
 use Rattle.rd_paint.proofs.narrowing.has_rows.Goals as goal
 
 pub returns-then-top-y1 : goal.returns-then-top-y1

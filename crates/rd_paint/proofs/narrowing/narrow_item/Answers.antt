@@ -3,7 +3,7 @@ use Rattle.std.proofs.lemmas.Int.{to_z-of_z}
 use Rattle.rd_list.specs.Entries.{leaf, nil}
 use Rattle.rd_paint.specs.Internal.Picks.{InRows}
 use Rattle.rd_paint.proofs.Picking.{closed_none, closed_one}
-use Rattle.rd_paint.proofs.Showing.{leaf_named, none_named, leaf_unseen}
+use Rattle.rd_paint.proofs.Shown.Showing.{leaf_named, none_named, leaf_unseen}
 use Rattle.rd_paint.proofs.narrowing.narrow_item.Goals as goal
 
 pub returns-then-has_rows-clause-closed : goal.returns-then-has_rows-clause-closed

@@ -13,8 +13,8 @@ use Rattle.rd_list.specs.Wrappers.{Wrapper}
 use Rattle.rd_list.proofs.Viewing.{size_at}
 use Rattle.rd_paint.specs.Internal.Picks.{OffSpan, picked, chosen}
 use Rattle.rd_paint.proofs.Picking.{entry_at-shown, entry_at-past, entry_at-leaf, entry_at-group}
-use Rattle.rd_paint.proofs.Seen.{unseen_more, unseen_last, where_found}
-use Rattle.rd_paint.proofs.Showing.{same_by, group_unseen}
+use Rattle.rd_paint.proofs.Shown.Seen.{unseen_more, unseen_last, where_found}
+use Rattle.rd_paint.proofs.Shown.Showing.{same_by, group_unseen}
 use Rattle.rd_paint.proofs.reaching.+reaching.Goals as goal
 
 pub reach-loop-i-init : goal.reach-loop-i-init

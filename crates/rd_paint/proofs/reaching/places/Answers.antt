@@ -9,7 +9,7 @@ use Rattle.rd_list.specs.Kept.{KeptList, Ordered}
 use Rattle.rd_list.specs.KeptView.{kept_entries}
 use Rattle.rd_list.specs.Wrappers.{Wrapper}
 use Rattle.rd_paint.specs.Internal.Picks.{picked}
-use Rattle.rd_paint.proofs.Seen.{off_places, all_places}
+use Rattle.rd_paint.proofs.Shown.Seen.{off_places, all_places}
 use Rattle.rd_paint.proofs.reaching.places.Goals as goal
 
 abbrev entries_of : KeptList EntryKey Wrapper Made → Entries (Ordered EntryKey Wrapper) Made

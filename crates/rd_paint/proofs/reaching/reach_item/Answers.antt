@@ -1,6 +1,6 @@
 use Rattle.std.proofs.Common.{◌∙◌, sym, FitsSigned, w32, rules}
 use Rattle.std.proofs.lemmas.Int.{to_z-of_z}
-use Rattle.rd_paint.proofs.Seen.{leaf_off_columns, leaf_off_row}
+use Rattle.rd_paint.proofs.Shown.Seen.{leaf_off_columns, leaf_off_row}
 use Rattle.rd_paint.proofs.reaching.reach_item.Goals as goal
 
 pub returns-then-has_row : goal.returns-then-has_row

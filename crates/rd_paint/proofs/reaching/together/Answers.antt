@@ -1,6 +1,6 @@
 use Rattle.std.proofs.Common.{FitsSigned, w32, rules}
 use Rattle.std.proofs.lemmas.Int.{to_z-of_z}
-use Rattle.rd_paint.proofs.Seen.{wider}
+use Rattle.rd_paint.proofs.Shown.Seen.{wider}
 use Rattle.rd_paint.proofs.reaching.together.Goals as goal
 
 pub returns-clause-first : goal.returns-clause-first

@@ -5,7 +5,7 @@ use Rattle.rd_geom.specs.Areas.{in_span}
 use Rattle.rd_geom.specs.Plane.{Rectangle, right}
 use Rattle.rd_geom.specs.declared.span.Span.{Span}
 use Rattle.rd_paint.proofs.Pieces.{unshown}
-use Rattle.rd_paint.proofs.Seen.{columns_uncovered}
+use Rattle.rd_paint.proofs.Shown.Seen.{columns_uncovered}
 use Rattle.rd_paint.proofs.rects.is_off.Goals as goal
 
 abbrev columns_of : Rectangle → Span

@@ -4,7 +4,7 @@ use Rattle.std.proofs.lemmas.Int.{ints}
 use Rattle.rd_geom.specs.Colors.{premultiplied, scaled, Premultiplied}
 use Rattle.rd_list.specs.EntryNames.{kept_leaves}
 use Rattle.rd_paint.specs.Internal.Picks.{picked}
-use Rattle.rd_paint.proofs.Beside.{leaf_alone, uncovered}
+use Rattle.rd_paint.proofs.Shown.Beside.{leaf_alone, uncovered}
 use Rattle.rd_paint.proofs.rects.lay_inner_in.Goals as goal
 
 pub returns-then-not-is_off : goal.returns-then-not-is_off

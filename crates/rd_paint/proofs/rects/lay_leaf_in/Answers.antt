@@ -2,7 +2,7 @@ use Rattle.std.proofs.Common.{arith}
 use Rattle.std.specs.Prelude.{unsigned_abs}
 use Rattle.std.proofs.lemmas.Int.{ints}
 use Rattle.rd_geom.specs.Colors.{premultiplied}
-use Rattle.rd_paint.proofs.Beside.{uncovered}
+use Rattle.rd_paint.proofs.Shown.Beside.{uncovered}
 use Rattle.rd_paint.proofs.rects.lay_leaf_in.Goals as goal
 
 pub returns-then-not-is_off : goal.returns-then-not-is_off

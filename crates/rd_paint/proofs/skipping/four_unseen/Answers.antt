@@ -1,6 +1,6 @@
 use Rattle.std.proofs.Common.{◌+◌, arith}
 use Rattle.rd_paint.specs.Internal.Picks.{InSpans}
-use Rattle.rd_paint.proofs.Passing.{past_one, past_four}
+use Rattle.rd_paint.proofs.Shown.Passing.{past_one, past_four}
 use Rattle.rd_paint.proofs.skipping.four_unseen.Goals as goal
 
 pub returns : goal.returns

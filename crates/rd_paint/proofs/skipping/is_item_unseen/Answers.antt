@@ -1,6 +1,6 @@
 use Rattle.rd_paint.specs.Internal.Picks.{InSpans}
-use Rattle.rd_paint.proofs.Showing.{leaf_beside}
-use Rattle.rd_paint.proofs.Transparent.{leaf_clear}
+use Rattle.rd_paint.proofs.Shown.Showing.{leaf_beside}
+use Rattle.rd_paint.proofs.Shown.Transparent.{leaf_clear}
 use Rattle.rd_paint.proofs.skipping.is_item_unseen.Goals as goal
 
 pub returns-then-color-eq0 : goal.returns-then-color-eq0

@@ -1,5 +1,5 @@
 use Rattle.std.proofs.Common.{◌≡◌, ◌∙◌, sym, refl, Bool, true, false, not, IsTrue}
-use Rattle.rd_paint.proofs.OffChunks.{off_area}
+use Rattle.rd_paint.proofs.Shown.OffChunks.{off_area}
 use Rattle.rd_paint.proofs.skipping.is_off.Goals as goal
 
 not_true : (b : Bool) → IsTrue (not b) → b ≡ false

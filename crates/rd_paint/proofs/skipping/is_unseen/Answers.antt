@@ -1,6 +1,6 @@
 use Rattle.rd_list.specs.EntryNames.{kept_leaves}
 use Rattle.rd_paint.specs.Internal.Picks.{InSpans}
-use Rattle.rd_paint.proofs.Transparent.{group_clear}
+use Rattle.rd_paint.proofs.Shown.Transparent.{group_clear}
 use Rattle.rd_paint.proofs.skipping.is_unseen.Goals as goal
 
 pub returns-in-Leaf : goal.returns-in-Leaf

@@ -1,6 +1,6 @@
 use Rattle.std.proofs.Common.{arith, FitsSigned, w32, rules}
 use Rattle.std.proofs.lemmas.Int.{ints, to_z-of_z}
-use Rattle.rd_paint.proofs.Showing.{right_of, left_of, below, above}
+use Rattle.rd_paint.proofs.Shown.Showing.{right_of, left_of, below, above}
 use Rattle.rd_paint.proofs.skipping.misses.Goals as goal
 
 pub returns-then-columns-x : goal.returns-then-columns-x

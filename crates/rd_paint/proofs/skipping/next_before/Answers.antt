@@ -1,6 +1,6 @@
 use Rattle.std.proofs.Common.{◌+◌, refl, arith}
 use Rattle.rd_paint.specs.Internal.Picks.{InSpans}
-use Rattle.rd_paint.proofs.Passing.{past_none, past_one, past_more}
+use Rattle.rd_paint.proofs.Shown.Passing.{past_none, past_one, past_more}
 use Rattle.rd_paint.proofs.skipping.next_before.Goals as goal
 
 pub loop-i-init : goal.loop-i-init

@@ -2,7 +2,7 @@ use Rattle.std.proofs.Common.{◌≡◌, ◌+◌, ℕ, arith, drop, subst, sym, 
 use Rattle.rd_list.specs.Chunks.{AreHeld}
 use Rattle.rd_list.specs.Displayed.{shown}
 use Rattle.rd_paint.specs.Internal.Picks.{InAreaWithin, ServesWhere}
-use Rattle.rd_paint.proofs.OffChunks.{chunk_past}
+use Rattle.rd_paint.proofs.Shown.OffChunks.{chunk_past}
 use Rattle.rd_paint.proofs.skipping.next_in_chunk.Goals as goal
 
 pub returns-then-is_off-clause-same : goal.returns-then-is_off-clause-same

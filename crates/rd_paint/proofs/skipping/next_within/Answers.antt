@@ -2,7 +2,7 @@ use Rattle.std.proofs.Common.{◌+◌, refl, rules, arith}
 use Rattle.rd_list.proofs.Admitting.{found_told}
 use Rattle.rd_list.proofs.Covering.{at_next}
 use Rattle.rd_paint.specs.Internal.Picks.{InAreaWithin}
-use Rattle.rd_paint.proofs.Passing.{past_more}
+use Rattle.rd_paint.proofs.Shown.Passing.{past_more}
 use Rattle.rd_paint.proofs.skipping.next_within.Goals as goal
 
 pub overflow_add-end : goal.overflow_add-end

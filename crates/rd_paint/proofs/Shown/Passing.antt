@@ -5,7 +5,7 @@ use Rattle.rd_list.specs.Entries.{nil}
 use Rattle.rd_list.specs.declared.kept.Entry.{Entry}
 use Rattle.rd_list.proofs.Displaying.{shown_from}
 use Rattle.rd_paint.specs.Internal.Picks.{SameWhere, ServesWhere}
-use Rattle.rd_paint.proofs.Showing.{serves_by, serves_past, serves_then}
+use Rattle.rd_paint.proofs.Shown.Showing.{serves_by, serves_past, serves_then}
 
 module _ {A : Type 0} (p : ℤ → ℤ → Type 0) (es : List (Entry A)) where
   pub past_one : (i : ℕ) (x : Entry A) → i < length es → x ≡ get_or es i x → SameWhere p nil (shown (x ∷ []))

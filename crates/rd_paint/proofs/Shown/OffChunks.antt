@@ -19,7 +19,7 @@ use Rattle.rd_list.proofs.Covering.{held_leaves}
 use Rattle.rd_list.proofs.Displaying.{shown-append}
 use Rattle.rd_list.proofs.Parting.{within_left, within_right}
 use Rattle.rd_paint.specs.Internal.Picks.{InArea, SameWhere, ServesWhere}
-use Rattle.rd_paint.proofs.Showing.{group_unseen, last_false, same_join, serves_past}
+use Rattle.rd_paint.proofs.Shown.Showing.{group_unseen, last_false, same_join, serves_past}
 
 -- a pixel that an area has is not in a rectangle that shares none with it
 pub off_area : (a : Region) (r : Rectangle) → meets_area a r ≡ false → (x y : ℤ) → InArea a x y → holds_pixel r x y ≡ false
