@@ -22,8 +22,7 @@ const isGroup = (entry) => typeof entry !== "number";
 const itemsOf = (of) => of.list.filter((entry) => !isGroup(entry)).map((number) => data.items[number]);
 const takesHits = (item) => item.hits && item.part !== "outline";
 
-// The items that cover a pixel, the topmost first; the first of them that takes hits is hit. Each row says what stands in
-// it; the lines that say why one stands above the next belong between them.
+// The items that cover a pixel, the topmost first; the first of them that takes hits is hit.
 function pile(x, y) {
   const items = paint() ? itemsOf(paint()).filter((item) => covers(item, x, y)).reverse() : [];
   const hit = items.findIndex(takesHits);
@@ -44,6 +43,8 @@ function element(name, className, ...inner) {
   made.append(...inner.filter((each) => each !== null && each !== undefined));
   return made;
 }
+
+const sentence = (text) => text[0].toUpperCase() + text.slice(1);
 
 // Names stand between grave accents.
 const inWords = (text) => text.split("`").map((each, place) => (place % 2 ? element("code", "", each) : each));
@@ -119,7 +120,7 @@ function showBox() {
 }
 
 // ---------------------------------------------------------------------------------------------------------------------
-// The list and the pixel
+// The list
 
 const isBuilt = (item) => item.made === paint().number;
 
@@ -166,28 +167,6 @@ function topmostFirst(list) {
 function showList() {
   const nothing = element("li", "row", element("span", "note", "Nothing is painted yet."));
   fill(by("list"), paint() ? topmostFirst(paint().list).map(listRow) : [nothing]);
-}
-
-function pileRow({ item, isHit, isPast }) {
-  const why = item.part === "outline" ? "an outline" : item.hits ? "" : "takes no hits";
-  const made = itemRow(item, 0, isHit ? "hit" : isPast ? why : "");
-  made.classList.add(...(isHit ? ["hit"] : isPast ? ["past"] : ["under"]));
-  return made;
-}
-
-function showPixel() {
-  if (!now.pixel || !paint()) {
-    const ask = "Click in the picture: which box is hit, and what lies under that pixel.";
-    const what = paint() ? ask : "There is nothing to hit before the first paint.";
-    by("pixel").replaceChildren(element("h3", "", "A pixel"), element("p", "", what));
-    return;
-  }
-  const [x, y] = now.pixel;
-  const hit = hitAt(x, y);
-  by("pixel").dataset.hit = hit || "";
-  const told = hit ? ["hits ", element("code", "", hit)] : ["hits no box"];
-  const rows = element("ol", "", ...pile(x, y).map(pileRow));
-  by("pixel").replaceChildren(element("h3", "", `Pixel ${x}, ${y} `, ...told), rows);
 }
 
 // ---------------------------------------------------------------------------------------------------------------------
@@ -372,7 +351,7 @@ function moreInWords() {
 function showSays() {
   const [title, more] = by("says").children;
   const at = step();
-  const words = at.kind === "paint" ? paintInWords(paint()) : at.words[0].toUpperCase() + at.words.slice(1);
+  const words = at.kind === "paint" ? paintInWords(paint()) : sentence(at.words);
   title.replaceChildren(...inWords(words + (at.words.endsWith("?") ? ` ${at.answers.at(-1)}` : "")));
   more.replaceChildren(...inWords(moreInWords()));
 }
@@ -432,7 +411,7 @@ function showWhere() {
 // Going on
 
 function showMarks() {
-  for (const made of document.querySelectorAll(".row[data-id]")) {
+  for (const made of document.querySelectorAll("[data-id]")) {
     made.classList.toggle("over", made.dataset.id === now.over);
     made.classList.toggle("chosen", made.dataset.id === now.box);
     made.classList.toggle("subject", made.dataset.id === step().box);
@@ -494,10 +473,10 @@ function clickAt(event) {
 
 function listen() {
   for (const list of ["tree", "list", "pixel"]) {
-    by(list).addEventListener("mouseover", (event) => pointAt(event.target.closest(".row")?.dataset.id ?? null));
+    by(list).addEventListener("mouseover", (event) => pointAt(event.target.closest("[data-id]")?.dataset.id ?? null));
     by(list).addEventListener("mouseleave", () => pointAt(null));
     by(list).addEventListener("click", (event) => {
-      const id = event.target.closest(".row")?.dataset.id;
+      const id = event.target.closest("[data-id]")?.dataset.id;
       if (id) choose(id === now.box ? null : id);
     });
   }
@@ -537,9 +516,10 @@ function onKey(event) {
 }
 
 function start() {
-  const { version, canvas, steps, cut } = data;
+  const { version, canvas, steps, cuts } = data;
   const about = `version ${version}, ${canvas.join(" × ")} pixels, ${count(steps.length - 1, "command")}`;
-  by("about").textContent = cut ? `${about}. Cut: ${cut}.` : about;
+  const told = [cuts.length > 0 ? `${about}.` : about, ...cuts.map((cut) => `Cut: ${cut}.`)];
+  by("about").replaceChildren(...inWords(told.join(" ")));
   by("steps").replaceChildren(...steps.map(stepRow));
   listen();
   fit();

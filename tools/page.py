@@ -1,10 +1,13 @@
 #!/usr/bin/env python3
-"""Makes a page that shows what a script does, step by step: `tools/page.py SCRIPT [--program PROGRAM] > page.html`.
+"""Makes a page that shows what a script does, step by step.
+
+usage: tools/page.py SCRIPT [--program PROGRAM] [--why PROGRAM] > page.html
 
 The page is one file without dependencies that opens from disk. All that it shows of paints, items, pictures and refusals
-are the program's own lines: the script is replayed with a dump after each paint, and rendered up to each paint. It has the
-first 300 commands at most, ends where a tree has more than 1,000 boxes or the pictures more than 200 million pixels, and
-says where it was cut. docs/WHY.md says how to read it.
+are the program's own lines: the script is replayed with a dump after each paint, and rendered up to each paint. Why a leaf
+is above another is what `rd_why` answers to the script up to a paint. The page has the first 300 commands at most, ends
+where a tree has more than 1,000 boxes or the pictures more than 200 million pixels, tells why of at most 10,000 stacks of
+leaves, and says where it was cut. docs/WHY.md says how to read it.
 """
 import argparse
 import base64
@@ -17,6 +20,7 @@ import sys
 TOP = os.path.dirname(os.path.dirname(os.path.abspath(__file__)))
 sys.path.insert(0, os.path.join(TOP, "examples"))
 sys.dont_write_bytecode = True
+from page_why import OtherLeaves, Why, leaves_of  # noqa: E402
 from png import png_bytes, read_p6  # noqa: E402
 
 MOST_STEPS = 300
@@ -385,17 +389,47 @@ class Table:
         return self.numbers[text]
 
 
+class Stacks:
+    """The answers of `rd_why` to the stacks of leaves of a tree, with their leaves, places and reasons written once."""
+
+    def __init__(self, why):
+        self.why = why
+        self.places, self.leaves, self.reasons = Table(), Table(), Table()
+        self.answers, self.numbers = [], {}
+
+    def told(self, tree, number, entries, commands):
+        """The number of the answers about a tree, which the paint of a number showed; None where that is not told of."""
+        answers = None if tree in self.numbers else self.why.answers(number, leaves_of(entries), commands)
+        if answers is not None:
+            self.numbers[tree] = len(self.answers)
+            self.answers.append([[self.leaf(**leaf) for leaf in answer["leaves"]] for answer in answers])
+        return None if self.why.silence else self.numbers[tree]
+
+    def leaf(self, way, above_next, **rest):
+        """A leaf as it is in the page: its number, and that of why it is above the next."""
+        leaf = self.leaves.number({**rest, "way": list(map(self.places.number, way))})
+        return [leaf, None if above_next is None else self.reasons.number(self.reason(**above_next))]
+
+    def reason(self, by, **places):
+        return {"by": by, **{which: self.places.number(place) for which, place in places.items()}}
+
+    def data(self):
+        tables = {"places": self.places, "leaves": self.leaves, "reasons": self.reasons}
+        return {**{key: table.values for key, table in tables.items()}, "stacks": self.answers}
+
+
 class Story:
     """Follows the lines of a run, command by command."""
 
-    def __init__(self, program, script):
-        self.program, self.script = program, script
+    def __init__(self, program, why, script):
+        self.program, self.why, self.script = program, why, script
         self.commands = script["script"][:MOST_STEPS]
         commands, self.dumped = with_dumps(self.commands)
         self.lines = Lines(program.lines(commands))
-        self.tree = Tree(script["boxes"])
+        self.tree, self.tree_now = Tree(script["boxes"]), None
         self.probes = Probes(program, script["boxes"])
         self.items, self.boxes, self.trees, self.pictures = Table(), Table(), Table(), Table()
+        self.stacks = Stacks(why)
         self.paints, self.lists, self.places, self.is_pending = [], [], [], True
         self.steps = [self.step("The script is read: nothing is painted yet", None, [])]
         self.cut = None
@@ -428,7 +462,7 @@ class Story:
             line = self.lines.line()
             if line == "ok":
                 self.tree.do(command)
-                self.is_pending = True
+                self.tree_now, self.is_pending = None, True
             return self.step(in_words(command), command, [line])
         lines, paint, entries = self.answered(place, command)
         if entries is not None and paint is not None:
@@ -456,12 +490,14 @@ class Story:
         self.lists = self.lists[-1:] + [List(entries)]
         self.places = self.places[-1:] + [place]
         rects = self.area(number, area)
-        picture = self.pictures.number(self.program.picture(self.commands[: place + 1]))
+        commands = self.commands[: place + 1]
+        picture = self.pictures.number(self.program.picture(commands))
         self.paints.append(
             {
                 **{"number": number, "built": built, "kept": kept, "area": area, "rects": rects, "picture": picture},
                 "shown": size_of(rects),
                 "list": [self.entry(entry) for entry in entries],
+                "stacks": self.stacks.told(self.tree_number(), number, entries, commands),
             }
         )
 
@@ -490,15 +526,18 @@ class Story:
         rects = {"visible": numbers[:4], "outer": numbers[4:8], "inner": numbers[8:]}
         return self.items.number({**item, **rects, "made": int(rest[15])})
 
+    def tree_number(self):
+        """The number of the tree as it is now."""
+        if self.tree_now is None:
+            boxes = self.tree.below(self.tree.root)
+            self.tree_now = self.trees.number([[self.boxes.number(self.tree.shown(name)), depth] for name, depth in boxes])
+        return self.tree_now
+
     def step(self, words, command, lines, is_paint=False):
         """One row of the page."""
-        tree = [
-            [self.boxes.number(self.tree.shown(name)), depth]
-            for name, depth in self.tree.below(self.tree.root)
-        ]
         kind = command["do"] if command else "start"
         step = {"words": words, "kind": kind, "lines": lines, "answers": list(map(answer_in_words, lines))}
-        step.update(tree=self.trees.number(tree), paint=len(self.paints) - 1, paints=is_paint, pending=self.is_pending)
+        step.update(tree=self.tree_number(), paint=len(self.paints) - 1, paints=is_paint, pending=self.is_pending)
         if command and kind in EDITS:
             step["box"] = command["id"]
         if kind in ("hit", "pixel"):
@@ -509,8 +548,9 @@ class Story:
         canvas = self.script["canvas"]
         values = {"items": self.items, "boxes": self.boxes, "trees": self.trees, "pictures": self.pictures}
         about = {"name": name, "version": self.script["version"], "canvas": [canvas["w"], canvas["h"]]}
-        told = {"steps": self.steps, "paints": self.paints, "cut": self.cut}
-        return {**about, **told, **{key: table.values for key, table in values.items()}}
+        cuts = [text for text in (self.cut, self.why.cut) if text]
+        told = {"steps": self.steps, "paints": self.paints, "cuts": cuts, "silence": self.why.silence}
+        return {**about, **told, **self.stacks.data(), **{key: table.values for key, table in values.items()}}
 
 
 # ---------------------------------------------------------------------------------------------------------------------
@@ -523,9 +563,11 @@ def part(name):
 
 
 def page(data):
-    """The page of a story: the three files of tools/ and the data in one."""
+    """The page of a story: the four files of tools/ and the data in one."""
     text = json.dumps(data, separators=(",", ":")).replace("<", "\\u003c")
-    page = part("page.html").replace("/* page.css */", part("page.css")).replace("/* page.js */", part("page.js"))
+    page = part("page.html")
+    for name in ("page.css", "page_why.js", "page.js"):
+        page = page.replace(f"/* {name} */", part(name))
     return page.replace("PAGE_NAME", html.escape(data["name"])).replace("PAGE_DATA", text)
 
 
@@ -533,6 +575,7 @@ def main():
     words = argparse.ArgumentParser(description="Makes a page that shows what a script does, step by step.")
     words.add_argument("script")
     words.add_argument("--program", default=os.path.join(TOP, "pouncelilac"))
+    words.add_argument("--why", metavar="PROGRAM", default=os.path.join(TOP, "crates", "rd_why", "out", "rd_why"))
     given = words.parse_args()
     with open(given.script, "rb") as file:
         text = file.read()
@@ -542,10 +585,16 @@ def main():
     script = json.loads(text)
     if len(script["boxes"]) > MOST_BOXES:
         sys.exit(f"page.py: {given.script} has {len(script['boxes']):,} boxes; a page has at most {MOST_BOXES:,}")
-    story = Story(Program(given.program, script), script)
-    story.tell()
-    if story.cut:
-        print(f"page.py: {story.cut}", file=sys.stderr)
+    why = Why(given.why, script)
+    if why.silence:
+        print(f"page.py: {given.why} is not there: clicks do not tell why", file=sys.stderr)
+    story = Story(Program(given.program, script), why, script)
+    try:
+        story.tell()
+    except OtherLeaves as other:
+        sys.exit(f"page.py: {given.why}: {other}")
+    for cut in filter(None, (story.cut, why.cut)):
+        print(f"page.py: {cut}", file=sys.stderr)
     print(page(story.data(os.path.basename(given.script))))
 
 
