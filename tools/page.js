@@ -320,11 +320,11 @@ function paintInWords(of) {
   return `Paint ${of.number} ${what}, kept ${of.kept.toLocaleString("en")} and painted ${count(of.area, "pixel")} anew`;
 }
 
-// The edits that were done since the paint before a step.
+// The edits and undos that were done since the paint before a step.
 function editsBefore(number) {
   const since = data.steps.slice(0, number).reverse();
   const edits = since.slice(0, since.findIndex((each) => each.paints || each.kind === "start"));
-  return edits.filter((each) => each.lines[0] === "ok").reverse();
+  return edits.filter((each) => each.lines[0] === "ok" || (each.lines[0] || "").startsWith("undone")).reverse();
 }
 
 function causeInWords(number) {

@@ -16,6 +16,8 @@ import json
 import os
 import subprocess
 import sys
+from collections import deque
+from copy import deepcopy
 
 TOP = os.path.dirname(os.path.dirname(os.path.abspath(__file__)))
 sys.path.insert(0, os.path.join(TOP, "examples"))
@@ -28,6 +30,8 @@ MOST_BOXES = 1_000
 MOST_PIXELS = 200_000_000
 MOST_PROBES = 15_000
 EDITS = ("insert", "remove", "move", "style", "rect", "shift", "scroll")
+CHANGES = (*EDITS, "undo")
+MOST_UNDOS = 100
 CLIPPING = ("hidden", "scroll", "auto")
 
 # ---------------------------------------------------------------------------------------------------------------------
@@ -87,7 +91,7 @@ def with_dumps(commands):
     told, places, may_paint = [], set(), True
     for place, command in enumerate(commands):
         told.append(command)
-        if command["do"] in EDITS:
+        if command["do"] in CHANGES:
             may_paint = True
             continue
         if command["do"] != "dump" and (may_paint or command["do"] == "paint"):
@@ -223,6 +227,8 @@ def in_words(command):
         return f"which {'box is hit' if kind == 'hit' else 'colour is'} at {command['x']}, {command['y']}?"
     if kind in QUESTIONS:
         return QUESTIONS[kind]
+    if kind == "undo":
+        return "the latest edit is taken back"
     if kind == "rect":
         x, y, w, h = command["rect"]
         return f"`{name}` gets the border box {w} × {h} at {x}, {y}"
@@ -243,6 +249,10 @@ def answer_in_words(line):
         return "done"
     if kind == "refused":
         return f"refused: {REFUSALS[int(rest[0])]}"
+    if kind == "undone":
+        return f"done, by {rest[0]} edit{'' if rest[0] == '1' else 's'}"
+    if kind == "undo":
+        return "there is none to take back"
     if kind == "paint":
         return f"{int(rest[2]):,} built, {int(rest[4]):,} kept, {int(rest[6]):,} pixels"
     if kind == "dump":
@@ -359,8 +369,8 @@ class Probes:
 
     def met(self, before, since, found):
         """Which of some rectangles meet the area of a paint: `before` are the commands before the paint before it, `since`
-        those from that paint to this one."""
-        if len(found) > MOST_PROBES:
+        those from that paint to this one. With an undo among those none is told of, since it may take back a probe."""
+        if len(found) > MOST_PROBES or any(command["do"] == "undo" for command in since):
             return []
         edits = [command for command in since if command["do"] in EDITS]
         probes = [self.box(each, rect) for each, rect in enumerate(found)]
@@ -427,6 +437,7 @@ class Story:
         commands, self.dumped = with_dumps(self.commands)
         self.lines = Lines(program.lines(commands))
         self.tree, self.tree_now = Tree(script["boxes"]), None
+        self.before = deque(maxlen=MOST_UNDOS if any(command["do"] == "undo" for command in self.commands) else 0)
         self.probes = Probes(program, script["boxes"])
         self.items, self.boxes, self.trees, self.pictures = Table(), Table(), Table(), Table()
         self.stacks = Stacks(why)
@@ -458,10 +469,9 @@ class Story:
 
     def told(self, place, command):
         """One command with its lines."""
-        if command["do"] in EDITS:
+        if command["do"] in CHANGES:
             line = self.lines.line()
-            if line == "ok":
-                self.tree.do(command)
+            if self.changed(command, line):
                 self.tree_now, self.is_pending = None, True
             return self.step(in_words(command), command, [line])
         lines, paint, entries = self.answered(place, command)
@@ -469,6 +479,17 @@ class Story:
             self.painted(place, paint, entries)
         self.is_pending = False
         return self.step(in_words(command), command, lines, paint is not None)
+
+    def changed(self, command, line):
+        """Does what the program said that it did: an edit, or an undo, after which the boxes are as before the latest edit."""
+        if line == "ok":
+            self.before.append(deepcopy(self.tree.boxes))
+            self.tree.do(command)
+        elif line.startswith("undone "):
+            self.tree.boxes = self.before.pop()
+        else:
+            return False
+        return True
 
     def answered(self, place, command):
         """The lines of a command that is no edit, that of its paint, and the entries of the dump after it."""
