@@ -483,7 +483,8 @@ class Story:
     def changed(self, command, line):
         """Does what the program said that it did: an edit, or an undo, after which the boxes are as before the latest edit."""
         if line == "ok":
-            self.before.append(deepcopy(self.tree.boxes))
+            if self.before.maxlen:
+                self.before.append(deepcopy(self.tree.boxes))
             self.tree.do(command)
         elif line.startswith("undone "):
             self.tree.boxes = self.before.pop()
