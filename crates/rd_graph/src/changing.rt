@@ -453,7 +453,7 @@ fn go_along(
     stay_along(alloc, gone, notes, lists, place, node, name)
 }
 
-/// The node of the name at `i` of the chain, if it is found at a place, gets a new list, unless it keeps the one that it has.
+/// The node of a name of the chain, if it is found at a place, gets a new list, unless it keeps the one that it has.
 fn go_along_at(
     alloc: Global,
     nodes: &[Node],
@@ -461,17 +461,14 @@ fn go_along_at(
     notes: &[Predecessors],
     lists: &mut Vec<(usize, Predecessors)>,
     place: Option<usize>,
-    chain: &[EntryKey],
-    i: usize,
+    name: Option<EntryKey>,
 ) -> Result<(), AllocError>
-    requires i { i < length chain.now }
     requires within { IfSome place (λ p. p < length nodes.now) }
     requires marked { AreMarked gone.now.marks.items gone.now.names }
     ensures { OnOk result (GoesAlongAt (has_it gone.now.names) same_entry (resolved_by gone.now.names notes.now)
-        (before_place chain.now (Some i)) place (seen nodes.now) (lists_seen lists.old.items) (lists_seen lists.new.items)) }
+        (listed name) place (seen nodes.now) (lists_seen lists.old.items) (lists_seen lists.new.items)) }
 {
     if let Some(place) = place {
-        let name = name_before(chain, i);
         go_along(alloc, gone, notes, lists, place, &nodes[place], name)?;
         return Ok(());
     }
@@ -499,7 +496,8 @@ fn go_along_all(
         return Ok(());
     }
     for (i, place) in found.iter().enumerate() {
-        go_along_at(alloc, nodes, gone, notes, lists, *place, chain, i)?;
+        let name = name_before(chain, i);
+        go_along_at(alloc, nodes, gone, notes, lists, *place, name)?;
     }
     Ok(())
 }

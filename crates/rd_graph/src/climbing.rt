@@ -14,36 +14,33 @@ use std::alloc::{AllocError, Global};
 /// How many nodes a climb looks at. What it has not found by then stays.
 const STEPS: usize = 64;
 
+/// The names that a climb has still to go on from, in their order, and those of its list that it found.
+#[derive(Drop)]
+struct Climb {
+    left: Predecessors,
+    found: Predecessors,
+}
+
 /// Puts a name at the end of those that are found, if it is in a list, or else of those that are still looked at.
-fn sort_one(
-    list: &[Name],
-    key: EntryKey,
-    left: &mut Predecessors,
-    found: &mut Predecessors,
-) -> Result<(), AllocError>
-    ensures left { OnOk result (MayAdd key left.old.items left.new.items) }
-    ensures found { OnOk result (MayAdd key found.old.items found.new.items) }
+fn sort_one(list: &[Name], key: EntryKey, climb: &mut Climb) -> Result<(), AllocError>
+    ensures left { OnOk result (MayAdd key climb.old.left.items climb.new.left.items) }
+    ensures found { OnOk result (MayAdd key climb.old.found.items climb.new.found.items) }
 {
     if is_among(list, key) {
-        push(found, key)?;
+        push(&mut climb.found, key)?;
         return Ok(());
     }
-    push(left, key)?;
+    push(&mut climb.left, key)?;
     Ok(())
 }
 
 /// The same for the predecessors of a node.
-fn sort_out(
-    list: &[Name],
-    before: &[Name],
-    left: &mut Predecessors,
-    found: &mut Predecessors,
-) -> Result<(), AllocError>
-    ensures left { OnOk result (AddsOf before.now left.old.items left.new.items) }
-    ensures found { OnOk result (AddsOf before.now found.old.items found.new.items) }
+fn sort_out(list: &[Name], before: &[Name], climb: &mut Climb) -> Result<(), AllocError>
+    ensures left { OnOk result (AddsOf before.now climb.old.left.items climb.new.left.items) }
+    ensures found { OnOk result (AddsOf before.now climb.old.found.items climb.new.found.items) }
 {
     for key in before {
-        sort_one(list, key.key, left, found)?;
+        sort_one(list, key.key, climb)?;
     }
     Ok(())
 }
@@ -54,16 +51,15 @@ fn go_on_at(
     list: &[Name],
     key: EntryKey,
     place: usize,
-    left: &mut Predecessors,
-    found: &mut Predecessors,
+    climb: &mut Climb,
 ) -> Result<(), AllocError>
     requires within { place < length nodes.now }
     requires named { Some place ≡ place_of same_entry (nodes_of (seen nodes.now)) key }
-    ensures left { OnOk result (AddsBefore (seen nodes.now) key left.old.items left.new.items) }
-    ensures found { OnOk result (AddsBefore (seen nodes.now) key found.old.items found.new.items) }
+    ensures left { OnOk result (AddsBefore (seen nodes.now) key climb.old.left.items climb.new.left.items) }
+    ensures found { OnOk result (AddsBefore (seen nodes.now) key climb.old.found.items climb.new.found.items) }
 {
     let node = &nodes[place];
-    sort_out(list, &node.before, left, found)?;
+    sort_out(list, &node.before, climb)?;
     Ok(())
 }
 
@@ -74,19 +70,18 @@ fn go_on(
     list: &[Name],
     lowest: usize,
     key: EntryKey,
-    left: &mut Predecessors,
-    found: &mut Predecessors,
+    climb: &mut Climb,
 ) -> Result<(), AllocError>
     requires { places.now ≡ nodes_of (seen nodes.now) }
-    ensures left { OnOk result (AddsBefore (seen nodes.now) key left.old.items left.new.items) }
-    ensures found { OnOk result (AddsBefore (seen nodes.now) key found.old.items found.new.items) }
+    ensures left { OnOk result (AddsBefore (seen nodes.now) key climb.old.left.items climb.new.left.items) }
+    ensures found { OnOk result (AddsBefore (seen nodes.now) key climb.old.found.items climb.new.found.items) }
 {
     match places.find(key) {
         Some(place) => {
             if place <= lowest {
                 return Ok(());
             }
-            go_on_at(nodes, list, key, place, left, found)?;
+            go_on_at(nodes, list, key, place, climb)?;
             Ok(())
         }
         None => Ok(()),
@@ -121,17 +116,18 @@ pub(crate) fn implied(
     ensures { IfOk result (λ v. AreImplied (seen nodes.now) list.now v.items) }
 {
     let lowest = lowest_of(places, nodes.len(), list);
-    let mut left = copied(alloc, list)?;
-    let mut found = nothing(alloc);
+    let left = copied(alloc, list)?;
+    let found = nothing(alloc);
+    let mut climb = Climb { left, found };
     for step in 0..STEPS {
-        if left.len() <= step {
-            return Ok(found);
+        if climb.left.len() <= step {
+            return Ok(climb.found);
         }
-        if list.len().saturating_sub(found.len()) <= 1 {
-            return Ok(found);
+        if list.len().saturating_sub(climb.found.len()) <= 1 {
+            return Ok(climb.found);
         }
-        let name = left[step];
-        go_on(nodes, places, list, lowest, name.key, &mut left, &mut found)?;
+        let name = climb.left[step];
+        go_on(nodes, places, list, lowest, name.key, &mut climb)?;
     }
-    Ok(found)
+    Ok(climb.found)
 }

@@ -30,35 +30,15 @@ impl<A: Ledger> Model for Item<A> {
 }
 
 impl<A: Ledger> Item<A> {
-    /// The item of one part of the box `owner`, made by paint `made_at`; it ticks once.
-    /// `visible` is not empty and lies in the outer rectangle. Both are in canvas pixels, and the colour is not premultiplied.
-    pub fn make(
-        owner: BoxKey,
-        part: Part,
-        visible: Rect,
-        shape: Shape,
-        color: Color,
-        hits: bool,
-        made_at: u64,
-        steps: &mut Steps<A>,
-    ) -> Item<A>
-        requires some { has_none visible ≡ false }
-        requires within { IsWithin visible shape.outer }
-        ensures made { result ≡ record {
-          leaf = record { owner = owner; part = part; visible = visible; shape = shape; color = color; hits = hits };
-          made_at = made_at;
-        } }
+    /// The item of a leaf, made by paint `made_at`; it ticks once. Where the leaf may be seen is not empty and lies in its
+    /// outer rectangle.
+    pub fn make(leaf: Leaf, made_at: u64, steps: &mut Steps<A>) -> Item<A>
+        requires some { has_none leaf.visible ≡ false }
+        requires within { IsWithin leaf.visible leaf.shape.outer }
+        ensures made { result ≡ record { leaf = leaf; made_at = made_at } }
         ensures cost { steps.new ≡ steps.old + 1 }
     {
         steps.tick();
-        let leaf = Leaf {
-            owner,
-            part,
-            visible,
-            shape,
-            color,
-            hits,
-        };
         Item {
             leaf,
             made_at,

@@ -5,7 +5,7 @@ ghost use Rattle.std.specs.Prelude.{◌≡◌, ◌<◌};
 use rd_geom::{Blend, Color, Rect, Steps};
 use rd_graph::OrderGraph;
 use rd_hit::hit;
-use rd_item::{Item, Shape};
+use rd_item::{Item, Leaf, Shape};
 use rd_keys::{BoxKey, Key, Part};
 use rd_list::{Entry, Group, Kept};
 use std::alloc::Global;
@@ -28,7 +28,15 @@ fn part_of<A: Ledger>(
         inner: Rect::EMPTY,
     };
     let owner = Key::new(slot, 0);
-    Some(Entry::Leaf(Item::make(owner, part, outer, shape, Color::TRANSPARENT, hits, 1, made)))
+    let leaf = Leaf {
+        owner,
+        part,
+        visible: outer,
+        shape,
+        color: Color::TRANSPARENT,
+        hits,
+    };
+    Some(Entry::Leaf(Item::make(leaf, 1, made)))
 }
 
 // From bottom to top: box 1 on columns 0 to 3; in a group box 2 on columns 2 to 5;

@@ -3,7 +3,7 @@
 ghost use Rattle.std.specs.Prelude.{◌≡◌, ◌<◌};
 
 use rd_geom::{Color, Rect, Steps};
-use rd_item::{Item, Shape};
+use rd_item::{Item, Leaf, Shape};
 use rd_keys::{Arena, BoxKey, BoxMark, EntryKey, Part};
 use std::marker::Brand;
 use std::sync::ledger::{Blank, Ledger};
@@ -25,16 +25,15 @@ fn has_its_values<A: Ledger>(owner: BoxKey, blank: Blank) -> bool
     let inner = Rect::new(1, 1, 2, 2).unwrap_or(Rect::EMPTY);
     match Rect::new(0, 0, 4, 4) {
         Some(outer) => {
-            let item = Item::make(
+            let leaf = Leaf {
                 owner,
-                Part::Border,
-                outer,
-                Shape { outer, inner },
-                RED,
-                true,
-                7,
-                &mut made,
-            );
+                part: Part::Border,
+                visible: outer,
+                shape: Shape { outer, inner },
+                color: RED,
+                hits: true,
+            };
+            let item = Item::make(leaf, 7, &mut made);
             let named = item.key() == EntryKey::Leaf(owner, Part::Border)
                 && item.owner() == owner
                 && item.part() == Part::Border;

@@ -10,7 +10,7 @@ ghost use Rattle.rd_list.specs.NewView.{new_entries};
 use super::rects::rect_of;
 use rd_geom::{Blend, Color, Rect, Steps};
 use rd_graph::OrderGraph;
-use rd_item::{Item, Shape};
+use rd_item::{Item, Leaf, Shape};
 use rd_keys::{Arena, BoxKey, BoxMark, Part};
 use rd_list::{Entry, Kept, NewEntry, NewList};
 use std::alloc::Global;
@@ -36,7 +36,15 @@ fn leaf<A: Ledger>(owner: BoxKey, part: Part, rect: Rect, made: &mut Steps<A>) -
         outer: rect,
         inner: rect,
     };
-    NewEntry::Leaf(Item::make(owner, part, rect, shape, INK, true, 1, made))
+    let leaf = Leaf {
+        owner,
+        part,
+        visible: rect,
+        shape,
+        color: INK,
+        hits: true,
+    };
+    NewEntry::Leaf(Item::make(leaf, 1, made))
 }
 
 /// The entry comes last.

@@ -13,7 +13,7 @@ use super::list::in_two;
 use super::rects::rect_of;
 use drawn::compare;
 use rd_geom::{Blend, Color, Rect, Steps};
-use rd_item::{Item, Shape};
+use rd_item::{Item, Leaf, Shape};
 use rd_keys::{Arena, BoxKey, BoxMark, KeyRange, Part};
 use rd_list::{Entry, Kept, NewEntry, NewList};
 use rd_merge::{Touches, merge};
@@ -62,7 +62,15 @@ fn leaf<A: Ledger>(
         outer: rect,
         inner: rect,
     };
-    NewEntry::Leaf(Item::make(owner, part, rect, shape, INK, true, at, made))
+    let leaf = Leaf {
+        owner,
+        part,
+        visible: rect,
+        shape,
+        color: INK,
+        hits: true,
+    };
+    NewEntry::Leaf(Item::make(leaf, at, made))
 }
 
 /// The entry comes last.

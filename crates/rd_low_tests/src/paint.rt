@@ -8,7 +8,7 @@ ghost use Rattle.rd_paint.specs.Pictures.{size_of};
 use rd_area::Area;
 use rd_geom::{Blend, Color, NoMemory, Px, Rect, Size, Steps, px_of};
 use rd_graph::OrderGraph;
-use rd_item::{Item, Shape};
+use rd_item::{Item, Leaf, Shape};
 use rd_keys::{Key, Part};
 use rd_list::{Entry, Group, Kept};
 use rd_paint::{Buffers, Canvas, paint_span, repaint};
@@ -60,16 +60,15 @@ fn columns<A: Ledger>(
         outer,
         inner: Rect::EMPTY,
     };
-    Item::make(
-        Key::new(0, 0),
-        Part::Back,
-        outer,
+    let leaf = Leaf {
+        owner: Key::new(0, 0),
+        part: Part::Back,
+        visible: outer,
         shape,
         color,
-        true,
-        1,
-        made,
-    )
+        hits: true,
+    };
+    Item::make(leaf, 1, made)
 }
 
 fn faded<A: Ledger>(alloc: Global, opacity: u8, entries: Vec<Entry<A>>) -> Group<A>

@@ -7,7 +7,7 @@ ghost use Rattle.rd_list.specs.Views.{levels};
 use rd_area::Area;
 use rd_geom::{Color, NoMemory, Px, Rect, Size, Steps, px_of};
 use rd_graph::OrderGraph;
-use rd_item::{Item, Shape};
+use rd_item::{Item, Leaf, Shape};
 use rd_keys::{Key, Part};
 use rd_list::{Entry, Kept};
 use rd_paint::{Buffers, Canvas};
@@ -61,16 +61,15 @@ fn leaf<A: Ledger>(rt: &impl Abort, side: i32, color: Color, made: &mut Steps<A>
         outer,
         inner: Rect::EMPTY,
     };
-    Item::make(
-        Key::new(0, 0),
-        Part::Back,
-        outer,
+    let leaf = Leaf {
+        owner: Key::new(0, 0),
+        part: Part::Back,
+        visible: outer,
         shape,
         color,
-        true,
-        1,
-        made,
-    )
+        hits: true,
+    };
+    Item::make(leaf, 1, made)
 }
 
 // The entry comes last, or there is no memory for it.

@@ -14,6 +14,7 @@ use crate::buffers::Buffers;
 use crate::canvas::Canvas;
 use crate::corner::Corner;
 use crate::plain::repaint_plainly;
+use crate::strip::Window;
 use rd_area::Area;
 use rd_geom::Rect;
 use rd_list::ListView;
@@ -46,7 +47,8 @@ pub fn repaint_part<A: Ledger>(
     };
     let rows = &mut buffers.pixels;
     let room = &mut buffers.room;
-    if paint_kept(canvas, corner, list.list(), from, area, rows, room) {
+    let window = Window { corner, area };
+    if paint_kept(canvas, window, list.list(), from, rows, room) {
         return;
     }
     repaint_plainly(canvas, place, list, from, area, buffers);

@@ -24,7 +24,7 @@ use crate::gathering::gather;
 use crate::narrowing::narrow;
 use crate::picks::Pick;
 use crate::rects::{lay_picks_in, whiten};
-use crate::strip::{Band, PixelRect, Strip};
+use crate::strip::{Band, PixelRect, Strip, Window};
 use rd_area::Area;
 use rd_geom::{Px, Span};
 use rd_list::{Chunk, Entry, Kept};
@@ -291,22 +291,22 @@ fn gather_all<A: Ledger>(
 /// nothing is painted.
 fn paint_all<A: Ledger>(
     canvas: &mut Canvas,
-    corner: Corner,
+    window: Window<'_>,
     entries: &[Entry<A>],
     chunks: &[Chunk],
-    area: &Area,
     rows: &mut Vec<Px>,
     room: &mut Vec<Pick>,
 ) -> bool
-    requires limits { IsWithinLimits canvas.old corner }
+    requires limits { IsWithinLimits canvas.old window.corner }
     requires rows { canvas.old.width * (levels (kept_entries entries.now) - 1) ≤ vec_capacity rows.old }
     requires few { length room.old.items < 2 ^ 32 }
     requires covers { Covers chunks.now entries.now }
     ensures few { length room.new.items < 2 ^ 32 }
     ensures rows { vec_capacity rows.old ≤ vec_capacity rows.new }
-    ensures painted { IsTrue result → IsPainted corner (shown entries.now) area.now canvas.old canvas.new }
+    ensures painted { IsTrue result → IsPainted window.entry.corner (shown entries.now) window.entry.area.now canvas.old canvas.new }
     ensures same { IsFalse result → canvas.new ≡ canvas.old }
 {
+    let Window { corner, area } = window;
     let size = canvas.size();
     let whole = corner.frame(size.w as usize, size.h as usize);
     let frame = frame_of(area, whole);
@@ -329,41 +329,24 @@ fn paint_all<A: Ledger>(
 /// The same of the entries of a kept list from place `from` on. Its chunks serve where those are all.
 pub(crate) fn paint_kept<A: Ledger>(
     canvas: &mut Canvas,
-    corner: Corner,
+    window: Window<'_>,
     list: &Kept<A>,
     from: usize,
-    area: &Area,
     rows: &mut Vec<Px>,
     room: &mut Vec<Pick>,
 ) -> bool
     requires from { from ≤ entry_count list.now.entries }
-    requires limits { IsWithinLimits canvas.old corner }
+    requires limits { IsWithinLimits canvas.old window.corner }
     requires rows { canvas.old.width * (levels list.now.entries - 1) ≤ vec_capacity rows.old }
     requires few { length room.old.items < 2 ^ 32 }
     ensures few { length room.new.items < 2 ^ 32 }
     ensures rows { vec_capacity rows.old ≤ vec_capacity rows.new }
     ensures painted { IsTrue result
-        → IsPainted corner (entries_from from (kept_leaves list.now.entries)) area.now canvas.old canvas.new }
+        → IsPainted window.entry.corner (entries_from from (kept_leaves list.now.entries)) window.entry.area.now canvas.old canvas.new }
     ensures same { IsFalse result → canvas.new ≡ canvas.old }
 {
     if from == 0 {
-        return paint_all(
-            canvas,
-            corner,
-            &list.entries,
-            &list.chunks,
-            area,
-            rows,
-            room,
-        );
+        return paint_all(canvas, window, &list.entries, &list.chunks, rows, room);
     }
-    paint_all(
-        canvas,
-        corner,
-        upper(&list.entries, from),
-        &[],
-        area,
-        rows,
-        room,
-    )
+    paint_all(canvas, window, upper(&list.entries, from), &[], rows, room)
 }

@@ -34,28 +34,28 @@ fn lay_picks<A: Ledger>(
 {
     let mut i = 0;
     while i < picks.len() {
-        let (place, own) = pick_at(picks, i);
-        lay_at(entries, place, own, y, x0, out, rows);
-        i = i + 1 + own.len();
+        let chosen = pick_at(picks, i);
+        lay_at(entries, chosen, y, x0, out, rows);
+        i = i + 1 + chosen.1.len();
     }
 }
 
-/// Lays the entry at a place, if there is one.
+/// Lays the entry at the place of a pick, if there is one, by the picks of the list inside it.
 #[cycle(choosing)]
 fn lay_at<A: Ledger>(
     entries: &[Entry<A>],
-    place: u32,
-    own: &[Pick],
+    pick: (u32, &[Pick]),
     y: i32,
     x0: i32,
     out: &mut [Px],
     rows: &mut [Px],
 )
-    requires rows { length out.old * (levels (chosen own.now place (shown entries.now)) - 1) ≤ length rows.old }
+    requires rows { length out.old * (levels (chosen pick.1.now pick.0 (shown entries.now)) - 1) ≤ length rows.old }
     requires from { pos 0 ≤ℤ x0 }
     requires within { (x0 +ℤ pos (length out.old)) ≤ℤ pos 4096 }
-    ensures { out.new ≡ laid_along y x0 (chosen own.now place (shown entries.now)) out.old }
+    ensures { out.new ≡ laid_along y x0 (chosen pick.entry.1.now pick.entry.0 (shown entries.now)) out.old }
 {
+    let (place, own) = pick;
     let index = place as usize;
     if index < entries.len() {
         lay_pick(&entries[index], own, y, x0, out, rows);

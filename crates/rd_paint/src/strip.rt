@@ -19,6 +19,13 @@ pub(crate) struct PixelRect {
     pub(crate) span: Span,
 }
 
+/// An area of a list, on a canvas whose first pixel shows the one at the corner.
+#[derive(Clone, Copy)]
+pub(crate) struct Window<'a> {
+    pub(crate) corner: Corner,
+    pub(crate) area: &'a Area,
+}
+
 /// What of an area is in the rows of a strip.
 #[derive(Clone, Copy)]
 pub(crate) struct Band<'a> {

@@ -10,7 +10,7 @@ ghost use Rattle.rd_partial.specs.Internal.Counting.{leaves_in};
 use crate::visit::{Pass, Visit};
 use crate::wanted::Wanted;
 use rd_geom::{Color, NoMemory, Steps, meet};
-use rd_item::{Item, Shape};
+use rd_item::{Item, Leaf, Shape};
 use rd_keys::Part;
 use rd_list::Pieces;
 use rd_stack::{border_of, content_of, is_seen, outline_of, takes_hits};
@@ -52,17 +52,15 @@ impl<'a, B: Ledger, W: Wanted> Pass<'a, B, W> {
             return Ok(());
         }
         let hits = takes_hits(at.here);
-        let item = Item::make(
-            at.here.key(),
-            figure.part,
+        let leaf = Leaf {
+            owner: at.here.key(),
+            part: figure.part,
             visible,
-            figure.shape,
-            figure.color,
+            shape: figure.shape,
+            color: figure.color,
             hits,
-            self.number,
-            made,
-        );
-        out.push_item(item)
+        };
+        out.push_item(Item::make(leaf, self.number, made))
     }
 
     /// Puts the item of the background of a box on top, where it shows and is wanted.

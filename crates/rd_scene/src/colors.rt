@@ -30,13 +30,13 @@ fn hex_byte(c: u8, d: u8) -> Option<u8>
 }
 
 #[tactic(auto, unfolding(crate::specs::Colors::rgb))]
-fn rgb(c: u8, d: u8, e: u8, f: u8, g: u8, h: u8, a: u8) -> Option<Color>
-    ensures { result ≡ spec.rgb c d e f g h a }
+fn rgb(red: (u8, u8), green: (u8, u8), blue: (u8, u8), a: u8) -> Option<Color>
+    ensures { result ≡ spec.rgb red.0 red.1 green.0 green.1 blue.0 blue.1 a }
 {
-    let r = hex_byte(c, d)?;
-    let green = hex_byte(e, f)?;
-    let b = hex_byte(g, h)?;
-    Some(Color { r, g: green, b, a })
+    let r = hex_byte(red.0, red.1)?;
+    let g = hex_byte(green.0, green.1)?;
+    let b = hex_byte(blue.0, blue.1)?;
+    Some(Color { r, g, b, a })
 }
 
 #[tactic(auto, unfolding(crate::specs::Colors::hashed))]
@@ -44,10 +44,10 @@ fn hashed(word: &[u8]) -> Option<Color>
     ensures { result ≡ spec.hashed word.now }
 {
     match word {
-        [b'#', c, d, e, f, g, h] => rgb(*c, *d, *e, *f, *g, *h, 255),
+        [b'#', c, d, e, f, g, h] => rgb((*c, *d), (*e, *f), (*g, *h), 255),
         [b'#', c, d, e, f, g, h, i, j] => {
             let a = hex_byte(*i, *j)?;
-            rgb(*c, *d, *e, *f, *g, *h, a)
+            rgb((*c, *d), (*e, *f), (*g, *h), a)
         }
         _ => None,
     }

@@ -5,7 +5,7 @@ ghost use Rattle.std.specs.Prelude.{◌≡◌, ◌<◌};
 use super::planting::{id_of, rect_of, root_alone};
 use rd_geom::{Blend, Color, Rect, Steps};
 use rd_graph::OrderGraph;
-use rd_item::{Item, Shape};
+use rd_item::{Item, Leaf, Shape};
 use rd_keys::Part;
 use rd_list::{Entry, Group, Kept};
 use rd_report::{Answer, Totals, digest, push_dump, push_line, push_summary};
@@ -109,7 +109,15 @@ fn leaf<A: Ledger>(rt: &impl Abort, owner: BoxKey, made: &mut Steps<A>) -> Item<
         outer: pixel,
         inner: Rect::EMPTY,
     };
-    Item::make(owner, Part::Back, pixel, full, BLACK, true, 1, made)
+    let leaf = Leaf {
+        owner,
+        part: Part::Back,
+        visible: pixel,
+        shape: full,
+        color: BLACK,
+        hits: true,
+    };
+    Item::make(leaf, 1, made)
 }
 
 /// The dump of a list with one group, which has one leaf.

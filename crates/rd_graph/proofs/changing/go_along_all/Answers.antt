@@ -1,8 +1,8 @@
-use Rattle.std.proofs.Common.{◌≡◌, refl, ◌∙◌, subst, List, length, rules}
+use Rattle.std.proofs.Common.{◌≡◌, refl, ◌∙◌, subst, get_or, None, List, length, rules}
 use Rattle.rd_keys.specs.declared.entry.EntryKey.{EntryKey}
 use Rattle.rd_graph.specs.Names.{same_entry}
 use Rattle.rd_graph.specs.Internal.Patching.{lists_seen}
-use Rattle.rd_graph.specs.Internal.Relisting.{GoesAlong}
+use Rattle.rd_graph.specs.Internal.Relisting.{GoesAlong, GoesAlongAt}
 use Rattle.rd_graph.specs.Internal.Seen.{seen}
 use Rattle.rd_graph.specs.Internal.Tables.{has_it}
 use Rattle.rd_graph.specs.Internal.Words.{resolved_by}
@@ -21,11 +21,13 @@ loop-i-preserved c =
     let d = any_of c.args.chain.now c.loop-i.i f.0 in
     record {
       so_far = along_next (has_it c.args.gone.now.names) (resolved_by c.args.gone.now.names c.args.notes.now) c.args.chain.now (seen c.args.nodes.now) c.requires.sound c.requires.once c.loop-i.i d (lists_seen c.args.lists.now.items)
-          (lists_seen c.loop-i.lists.items) (lists_seen c.go_along_at.new.lists.items) f.0 c.loop-i.invariant.so_far _ (f.1 d) _ refl c.in_ok-go_along_at.ensures;
+          (lists_seen c.loop-i.lists.items) (lists_seen c.go_along_at.new.lists.items) f.0 c.loop-i.invariant.so_far _ (f.1 d) _ refl
+          (subst (λ (edge : List EntryKey). GoesAlongAt (has_it c.args.gone.now.names) same_entry (resolved_by c.args.gone.now.names c.args.notes.now) edge (get_or c.args.found.now c.loop-i.i None) (seen c.args.nodes.now)
+          (lists_seen c.loop-i.lists.items) (lists_seen c.go_along_at.new.lists.items)) c.name_before-name.ensures c.in_ok-go_along_at.ensures);
     }
 
-pub go_along_at-requires-clause-i : goal.go_along_at-requires-clause-i
-go_along_at-requires-clause-i c = (found_at c.args.chain.now (seen c.args.nodes.now) c.args.found.now c.loop-i.i c.requires.found_are c.loop-i-test.true).0
+pub name_before-name-requires : goal.name_before-name-requires
+name_before-name-requires c = (found_at c.args.chain.now (seen c.args.nodes.now) c.args.found.now c.loop-i.i c.requires.found_are c.loop-i-test.true).0
 
 pub go_along_at-requires-clause-within : goal.go_along_at-requires-clause-within
 go_along_at-requires-clause-within c =

@@ -14,11 +14,11 @@ loop-step-init c = record {
 pub loop-step-preserved : goal.loop-step-preserved
 loop-step-preserved c =
     let x = c.index-deref-step.result in
-    let within : c.loop-step.step < length c.loop-step.left.items = omega arith in
-    let at : x ≡ get_or c.loop-step.left.items c.loop-step.step x = c.index-deref-step.is ∙ ap (λ (ks : List EntryKey). get_or ks c.loop-step.step x) c.deref.ensures in
+    let within : c.loop-step.step < length c.loop-step.climb.left.items = omega arith in
+    let at : x ≡ get_or c.loop-step.climb.left.items c.loop-step.step x = c.index-deref-step.is ∙ ap (λ (ks : List EntryKey). get_or ks c.loop-step.step x) c.deref.ensures in
     record {
-      leads = lead_next (seen c.args.nodes.now) c.args.list.now c.loop-step.left.items _ c.loop-step.step x within at c.loop-step.invariant.leads
-          (subst (λ (k : EntryKey). AddsBefore (seen c.args.nodes.now) k c.loop-step.left.items c.go_on.new.left.items) c.name.view_is c.in_ok-go_on.ensures.left);
-      found = implied_next (seen c.args.nodes.now) c.args.list.now c.loop-step.left.items c.loop-step.found.items _ c.loop-step.step x within at c.loop-step.invariant.leads c.loop-step.invariant.found
-          (subst (λ (k : EntryKey). AddsBefore (seen c.args.nodes.now) k c.loop-step.found.items c.go_on.new.found.items) c.name.view_is c.in_ok-go_on.ensures.found);
+      leads = lead_next (seen c.args.nodes.now) c.args.list.now c.loop-step.climb.left.items _ c.loop-step.step x within at c.loop-step.invariant.leads
+          (subst (λ (k : EntryKey). AddsBefore (seen c.args.nodes.now) k c.loop-step.climb.left.items c.go_on.new.climb.left.items) c.name.view_is c.in_ok-go_on.ensures.left);
+      found = implied_next (seen c.args.nodes.now) c.args.list.now c.loop-step.climb.left.items c.loop-step.climb.found.items _ c.loop-step.step x within at c.loop-step.invariant.leads c.loop-step.invariant.found
+          (subst (λ (k : EntryKey). AddsBefore (seen c.args.nodes.now) k c.loop-step.climb.found.items c.go_on.new.climb.found.items) c.name.view_is c.in_ok-go_on.ensures.found);
     }

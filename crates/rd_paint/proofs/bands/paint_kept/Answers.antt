@@ -41,4 +41,4 @@ returns-clause-painted g c = λ t.
     let e : kept_entries c.deref-2.result.now ≡ c.args.list.now.entries = ap kept_entries c.deref-2.ensures.value ∙ ap entries_of c.list.view_is in
     let same : shown c.upper.result.now ≡ entries_from c.args.from (kept_leaves c.args.list.now.entries) =
     ap shown c.upper.ensures ∙ entries_from-shown c.args.from c.deref-2.result.now ∙ ap (λ (es : Entries (Ordered EntryKey Wrapper) Made). entries_from c.args.from (kept_leaves es)) e in
-    subst (λ (es : Entries Wrapper Leaf). IsPainted c.args.corner es c.args.area.now c.args.canvas.now c.paint_all-2.new.canvas) same (c.paint_all-2.ensures.painted t)
+    subst (λ (es : Entries Wrapper Leaf). IsPainted c.args.window.corner es c.args.window.area.now c.args.canvas.now c.paint_all-2.new.canvas) same (c.paint_all-2.ensures.painted t)

@@ -31,8 +31,8 @@ entries_of k = k.entries
 
 pub lay_at-lay_pick-requires : goal.lay_at-lay_pick-requires
 lay_at-lay_pick-requires g t c κs within =
-    let s = size_at c.args.entries.now c.args.place c.index-entries-index.result c.if-index-entries.true c.index-entries-index.is in
-    let e = entry_at-shown (picked c.args.own.now) c.args.entries.now c.args.place c.index-entries-index.result c.if-index-entries.true c.index-entries-index.is in
+    let s = size_at c.args.entries.now c.args.pick.0 c.index-entries-index.result c.if-index-entries.true c.index-entries-index.is in
+    let e = entry_at-shown (picked c.args.pick.1.now) c.args.entries.now c.args.pick.0 c.index-entries-index.result c.if-index-entries.true c.index-entries-index.is in
     let r = rows_same (length c.args.out.now) (length c.args.rows.now) _ _ e c.requires.rows in
     (omega (arith, s, c.decreases), (within, (r, (omega (arith, ints), omega (arith, ints)))))
 
@@ -41,12 +41,12 @@ lay_at-returns-then-index-entries g t c =
     let fx : FitsSigned w32 c.args.x0 = search rules in
     let fy : FitsSigned w32 c.args.y = search rules in
     let laid = simp to_z-of_z at c.lay_pick.ensures in
-    laid ∙ ap (λ (es : Entries Wrapper item.Leaf). laid_along c.args.y c.args.x0 es c.args.out.now) (sym (entry_at-shown (picked c.args.own.now) c.args.entries.now c.args.place c.index-entries-index.result c.if-index-entries.true c.index-entries-index.is))
+    laid ∙ ap (λ (es : Entries Wrapper item.Leaf). laid_along c.args.y c.args.x0 es c.args.out.now) (sym (entry_at-shown (picked c.args.pick.1.now) c.args.entries.now c.args.pick.0 c.index-entries-index.result c.if-index-entries.true c.index-entries-index.is))
 
 pub lay_at-returns-else-index-entries : goal.lay_at-returns-else-index-entries
 lay_at-returns-else-index-entries g t c =
     sym (laid_along-nil c.args.y c.args.x0 c.args.out.now)
-    ∙ ap (λ (es : Entries Wrapper item.Leaf). laid_along c.args.y c.args.x0 es c.args.out.now) (sym (entry_at-past (picked c.args.own.now) c.args.entries.now c.args.place c.if-index-entries.false))
+    ∙ ap (λ (es : Entries Wrapper item.Leaf). laid_along c.args.y c.args.x0 es c.args.out.now) (sym (entry_at-past (picked c.args.pick.1.now) c.args.entries.now c.args.pick.0 c.if-index-entries.false))
 
 pub lay_own-lay_seen-requires : goal.lay_own-lay_seen-requires
 lay_own-lay_seen-requires g t c κs within =
@@ -127,13 +127,13 @@ lay_picks-loop-i-preserved g t c =
     let before = simp to_z-of_z at c.loop-i.invariant.laid in
     let one = simp to_z-of_z at c.lay_at.ensures in
     record {
-      within = omega (arith, c.pick_at-place.ensures.within);
+      within = omega (arith, c.pick_at-chosen.ensures.within);
       levels =
-          let h = join_has (chosen c.pick_at-place.result.1.now c.pick_at-place.result.0 (shown c.args.entries.now)) (picked (drop (c.loop-i.i + 1 + length c.pick_at-place.result.1.now) c.args.picks.now) (shown c.args.entries.now)) in
+          let h = join_has (chosen c.pick_at-chosen.result.1.now c.pick_at-chosen.result.0 (shown c.args.entries.now)) (picked (drop (c.loop-i.i + 1 + length c.pick_at-chosen.result.1.now) c.args.picks.now) (shown c.args.entries.now)) in
           let a = h.1 in
-          let b = levels_by _ _ (sym (c.pick_at-place.ensures.parts (shown c.args.entries.now))) in
+          let b = levels_by _ _ (sym (c.pick_at-chosen.ensures.parts (shown c.args.entries.now))) in
           omega (arith, a, b, c.loop-i.invariant.levels);
-      laid = simp to_z-of_z (laid_on c.args.y c.args.x0 (picked (drop c.loop-i.i c.args.picks.now) (shown c.args.entries.now)) (chosen c.pick_at-place.result.1.now c.pick_at-place.result.0 (shown c.args.entries.now)) (picked (drop (c.loop-i.i + 1 + length c.pick_at-place.result.1.now) c.args.picks.now) (shown c.args.entries.now)) _ _ _ (c.pick_at-place.ensures.parts (shown c.args.entries.now)) one before);
+      laid = simp to_z-of_z (laid_on c.args.y c.args.x0 (picked (drop c.loop-i.i c.args.picks.now) (shown c.args.entries.now)) (chosen c.pick_at-chosen.result.1.now c.pick_at-chosen.result.0 (shown c.args.entries.now)) (picked (drop (c.loop-i.i + 1 + length c.pick_at-chosen.result.1.now) c.args.picks.now) (shown c.args.entries.now)) _ _ _ (c.pick_at-chosen.ensures.parts (shown c.args.entries.now)) one before);
     }
 
 pub lay_picks-returns : goal.lay_picks-returns
@@ -145,11 +145,11 @@ lay_picks-returns g t c =
 
 pub lay_picks-lay_at-requires : goal.lay_picks-lay_at-requires
 lay_picks-lay_at-requires g t c κs within =
-    let h = join_has (chosen c.pick_at-place.result.1.now c.pick_at-place.result.0 (shown c.args.entries.now)) (picked (drop (c.loop-i.i + 1 + length c.pick_at-place.result.1.now) c.args.picks.now) (shown c.args.entries.now)) in
+    let h = join_has (chosen c.pick_at-chosen.result.1.now c.pick_at-chosen.result.0 (shown c.args.entries.now)) (picked (drop (c.loop-i.i + 1 + length c.pick_at-chosen.result.1.now) c.args.picks.now) (shown c.args.entries.now)) in
     let a = h.0 in
-    let b = levels_by _ _ (sym (c.pick_at-place.ensures.parts (shown c.args.entries.now))) in
-    let l : levels (chosen c.pick_at-place.result.1.now c.pick_at-place.result.0 (shown c.args.entries.now)) ≤ levels (picked c.args.picks.now (shown c.args.entries.now)) = omega (arith, a, b, c.loop-i.invariant.levels) in
-    let r = rows_by (length c.args.out.now) (length c.args.rows.now) (chosen c.pick_at-place.result.1.now c.pick_at-place.result.0 (shown c.args.entries.now)) (picked c.args.picks.now (shown c.args.entries.now)) l c.requires.rows in
+    let b = levels_by _ _ (sym (c.pick_at-chosen.ensures.parts (shown c.args.entries.now))) in
+    let l : levels (chosen c.pick_at-chosen.result.1.now c.pick_at-chosen.result.0 (shown c.args.entries.now)) ≤ levels (picked c.args.picks.now (shown c.args.entries.now)) = omega (arith, a, b, c.loop-i.invariant.levels) in
+    let r = rows_by (length c.args.out.now) (length c.args.rows.now) (chosen c.pick_at-chosen.result.1.now c.pick_at-chosen.result.0 (shown c.args.entries.now)) (picked c.args.picks.now (shown c.args.entries.now)) l c.requires.rows in
     (omega (arith, c.decreases), (within, (rw (c.loop-i.auto.out, c.loop-i.auto.rows) r, (omega (arith, ints), omega (arith, ints)))))
 
 pub lay_pick-lay_own-requires : goal.lay_pick-lay_own-requires
