@@ -38,17 +38,17 @@ fn misses(r: Rect, columns: Span, rows: Span) -> bool
     r.bottom() <= rows.x0
 }
 
-/// Is nothing of the item to be seen in these columns of these rows, since it is transparent or beside them? That it is
-/// transparent takes one comparison.
+/// Is nothing of the item to be seen in these columns of these rows, since it is beside them or transparent? Most are beside
+/// them, and then the colour, which lies in memory apart from the rectangle, is not read.
 #[inline(always)]
 fn is_item_unseen<A: Ledger>(item: &Item<A>, columns: Span, rows: Span) -> bool
     ensures { IsTrue result → SameWhere (InSpans columns rows) list.nil (list.leaf item.now.leaf list.nil) }
 {
-    let color = item.color();
-    if color.a == 0 {
+    if misses(item.visible(), columns, rows) {
         return true;
     }
-    misses(item.visible(), columns, rows)
+    let color = item.color();
+    color.a == 0
 }
 
 /// Is the entry such a leaf, or a group of no opacity?
