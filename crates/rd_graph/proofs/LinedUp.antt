@@ -11,3 +11,4 @@ pub mod MadeLines
 pub mod PlacedLines
 pub mod RunGathering
 pub mod MovedNodes
+pub mod InPlace

@@ -1,6 +1,7 @@
 -- What private contracts, invariants and views say. No public clause cites it, so a reader need not read it.
 pub mod Chains
 pub mod Chunks
+pub mod InPlace
 pub mod Lines
 pub mod MadeNodes
 pub mod Passes

@@ -51,7 +51,7 @@ pub(crate) fn has_room_aside<T>(runs: &[Run], aside: &Vec<T>) -> bool
 }
 
 /// Drops the next so many elements.
-fn pass_over<T: Drop>(rest: &mut IntoIter<T, Global>, passed: usize)
+pub(crate) fn pass_over<T: Drop>(rest: &mut IntoIter<T, Global>, passed: usize)
     ensures { into_iter_items rest.new ≡ drop passed (into_iter_items rest.old) }
 {
     for _ in 0..passed {
@@ -76,7 +76,7 @@ fn move_next<T: Drop>(rest: &mut IntoIter<T, Global>, room: &mut Vec<T>)
 }
 
 /// Moves the next so many elements to the end of `room`, which has capacity for them.
-fn move_run<T: Drop>(rest: &mut IntoIter<T, Global>, count: usize, room: &mut Vec<T>)
+pub(crate) fn move_run<T: Drop>(rest: &mut IntoIter<T, Global>, count: usize, room: &mut Vec<T>)
     requires rest { count ≤ length (into_iter_items rest.old) }
     requires room { vec_len room.old + count ≤ vec_capacity room.old }
     ensures left { into_iter_items rest.new ≡ drop count (into_iter_items rest.old) }

@@ -2,8 +2,9 @@
 ghost use Rattle.std.specs.Prelude.{◌≡◌, ℕ, ◌<◌, ◌≤◌, ◌+◌, ◌++◌, ◌∷◌, [], slice_index_or, vec_len, vec_capacity, length};
 ghost use Rattle.rd_graph.specs.Gathered.{gathered, ArePlaces};
 ghost use Rattle.rd_graph.specs.Internal.Taking.{KeepsBut, KeepsOthers, KeepsOutside};
-ghost use Rattle.rd_graph.specs.Runs.{places_aside, places_of, up_from};
+ghost use Rattle.rd_graph.specs.Runs.{RunsRise, places_aside, places_of, up_from, woven};
 
+use crate::in_place::{is_near, line_up_in_place};
 use crate::lining_up::{gather_rising, has_room_aside, is_all_made, is_rising};
 use crate::runs::Run;
 use std::alloc::Global;
@@ -124,37 +125,38 @@ fn set_aside<T: Take + Drop>(
     }
 }
 
-/// Moves old and made elements to the end of `room`, which has capacity for them. In one pass where each rise, but for those
-/// that are set aside before.
+/// Old elements and made ones of a line in which each rise, but for those that are set aside. They stay where they are, where few
+/// of them move; else they are moved into room in one pass.
 fn line_up<T: Take + Drop>(
-    alloc: Global,
     mut old: Vec<T>,
-    mut made: Vec<T>,
+    made: Vec<T>,
+    aside: Vec<T>,
     runs: &[Run],
-    mut aside: Vec<T>,
-    room: &mut Vec<T>,
-)
-    requires places { ArePlaces (places_of runs.now) (vec_len old + vec_len made) }
-    requires room { vec_len room.old + length (places_of runs.now) ≤ vec_capacity room.old }
-    ensures { room.new.items ≡ room.old.items ++ gathered (places_of runs.now) (old.items ++ made.items) }
+    mut room: Vec<T>,
+) -> Vec<T>
+    requires rising { RunsRise (vec_len old) (vec_len made) 0 0 runs.now }
+    requires aside { vec_len aside ≡ length (places_aside runs.now) }
+    requires empty { room.items ≡ [] }
+    requires room { vec_len room + length (places_of runs.now) ≤ vec_capacity room }
+    ensures { result.items ≡ woven runs.now (old.items ++ made.items) aside.items }
 {
-    if is_rising(runs, old.len(), made.len()) && has_room_aside(runs, &aside) {
-        set_aside(alloc, &mut old, &mut made, runs, &mut aside);
-        gather_rising(old, made, aside, runs, room);
-        return;
+    if is_near(&old, &made, &aside, runs) {
+        line_up_in_place(&mut old, made, aside, runs);
+        return old;
     }
-    gather(alloc, &mut old, &mut made, runs, room);
+    gather_rising(old, made, aside, runs, &mut room);
+    room
 }
 
 /// Old elements and made ones, counted on from them, at the places of a line. They come into room that is empty and has capacity
-/// for them, and some are set aside before, where there is room for that; the made ones stay as they are, where the line is of them
-/// alone.
+/// for them, or stay where they are, and some are set aside before, where there is room for that; the made ones stay as they are,
+/// where the line is of them alone.
 pub fn move_line<T: Take + Drop>(
     alloc: Global,
-    old: Vec<T>,
-    made: Vec<T>,
+    mut old: Vec<T>,
+    mut made: Vec<T>,
     line: &[Run],
-    aside: Vec<T>,
+    mut aside: Vec<T>,
     mut room: Vec<T>,
 ) -> Vec<T>
     requires places { ArePlaces (places_of line.now) (vec_len old + vec_len made) }
@@ -165,6 +167,10 @@ pub fn move_line<T: Take + Drop>(
     if is_all_made(line, old.len(), made.len()) {
         return made;
     }
-    line_up(alloc, old, made, line, aside, &mut room);
+    if is_rising(line, old.len(), made.len()) && has_room_aside(line, &aside) {
+        set_aside(alloc, &mut old, &mut made, line, &mut aside);
+        return line_up(old, made, aside, line, room);
+    }
+    gather(alloc, &mut old, &mut made, line, &mut room);
     room
 }

@@ -117,12 +117,15 @@ pub(crate) fn as_runs(line: &Option<Vec<Run>>) -> Option<&[Run]>
     }
 }
 
-/// Empty room for the elements of a line, where there is one.
+/// Empty room for the elements of a line, where there is one, and for a sixteenth more, which may come later.
 pub fn line_room<T>(alloc: Global, line: Option<&[Run]>) -> Result<Vec<T>, AllocError>
     ensures { IfOk result (λ r. HasLineRoom (option_map (λ l. places_of l.now) line.entry) r) }
 {
     match line {
-        Some(line) => Vec::with_capacity(alloc, count_of(line)),
+        Some(line) => {
+            let count = count_of(line);
+            Vec::with_capacity(alloc, count.saturating_add(count / 16))
+        }
         None => Ok(Vec::new(alloc)),
     }
 }

@@ -1,14 +1,9 @@
 -- A line of made elements alone, which stand in it as they are.
-use Rattle.std.proofs.Common.{◌≡◌, ap, ◌∙◌, sym, ℕ, ◌+◌, ◌<◌, List, [], ◌∷◌, ◌++◌, length, get_or, arith}
-use Rattle.std.specs.Prelude.{Option, Some, option_map}
-use Rattle.std.specs.declared.vec.Vec.{Vec}
-use Rattle.std.proofs.lemmas.List.{append-nil, map-append, take_all}
-use Rattle.rd_graph.specs.Gathered.{arranged, gathered}
-use Rattle.rd_graph.specs.Internal.Seen.{seen}
+use Rattle.std.proofs.Common.{◌≡◌, ap, ◌∙◌, sym, ℕ, List, [], ◌∷◌, ◌++◌, length, get_or, arith}
+use Rattle.std.proofs.lemmas.List.{append-nil, take_all}
+use Rattle.rd_graph.specs.Gathered.{gathered}
 use Rattle.rd_graph.specs.Runs.{places_of, up_from}
-use Rattle.rd_graph.specs.declared.graph.Node.{Node}
 use Rattle.rd_graph.specs.declared.runs.Run.{Run}
-use Rattle.rd_graph.proofs.Patches.PutInPlace.{gathered_map}
 use Rattle.rd_graph.proofs.LinedUp.RunLines.{gathered_up, none_long}
 
 -- the only run of a line

@@ -223,7 +223,7 @@ plain_apart (r ∷ rs) k o h m = elim (has_either (plain r) (places_plain rs) k 
 ]
 
 module _ {T : Type 0} where
-  woven-append : (rs ss : List Run) (xs ys : List T) → woven (rs ++ ss) xs ys ≡ woven rs xs ys ++ woven ss xs (drop (length (places_aside rs)) ys)
+  pub woven-append : (rs ss : List Run) (xs ys : List T) → woven (rs ++ ss) xs ys ≡ woven rs xs ys ++ woven ss xs (drop (length (places_aside rs)) ys)
   woven-append [] ss xs ys = refl
   woven-append (r ∷ rs) ss xs ys =
       let long = length-append (set_aside r) (places_aside rs) in

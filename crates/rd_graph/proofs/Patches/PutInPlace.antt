@@ -1,7 +1,7 @@
 -- Nodes that get new lists, and nodes that are moved to their places.
 use Rattle.std.proofs.Common.{◌≡◌, refl, ap, ◌∙◌, sym, subst, List, [], ◌∷◌, ◌++◌, ℕ, zero, suc, ◌<◌, ◌+◌, length, take, drop, get_or, set, arith, append_assoc, inl}
 use Rattle.std.proofs.lemmas.List.{take_more, append-nil, map-append}
-use Rattle.std.specs.Prelude.{◌^◌, IfSome, map, Option, None, Some, option_map, vec_capacity, vec_len}
+use Rattle.std.specs.Prelude.{◌^◌, IfSome, map, Option, None, Some, option_map, vec_capacity}
 use Rattle.std.specs.declared.vec.Vec.{Vec}
 use Rattle.smallvec.specs.SmallVec.{SmallVec}
 use Rattle.rd_keys.specs.declared.entry.EntryKey.{EntryKey}

@@ -1,0 +1,164 @@
+//! A line whose runs rise is made where its old elements stand: those that stay close up, those that come are put at the end, and
+//! then from the last run on those that stay go over them to their places. Nothing takes memory.
+ghost use Rattle.std.specs.Prelude.{◌≡◌, ◌<◌, ◌≤◌, ◌+◌, ◌++◌, List, true, take, drop, vec_len, vec_capacity, length, slice_range};
+ghost use Rattle.rd_graph.specs.Runs.{RunsRise, places_aside, woven};
+ghost use Rattle.rd_graph.specs.Internal.InPlace as spec;
+ghost use Rattle.rd_graph.specs.Internal.InPlace.{AreWhole, StayersRise, coming, count_coming, count_staying, staying};
+
+use crate::lining_up::{move_run, pass_over};
+use crate::runs::Run;
+
+/// Does a run over so many old elements have such elements, which stay?
+fn stays(run: Run, old: usize) -> bool
+    ensures { result ≡ spec.stays old run }
+{
+    !run.aside && run.from < old
+}
+
+/// How many elements move at most where a line over so many old elements is made in place: those of each run that stays, once over
+/// what goes before it and once over what comes.
+fn moved(runs: &[Run], old: usize) -> usize {
+    let mut place = 0usize;
+    let mut stay = 0usize;
+    let mut all = 0usize;
+    for run in runs {
+        if stays(*run, old) {
+            all = all.saturating_add(passed_over(run.from, stay, run.count));
+            all = all.saturating_add(passed_over(place, stay, run.count));
+            stay = stay.saturating_add(run.count);
+        }
+        place = place.saturating_add(run.count);
+    }
+    all
+}
+
+/// How many elements a turn moves, where so many go over those from one place up to another.
+fn passed_over(end: usize, start: usize, count: usize) -> usize {
+    if end <= start {
+        return 0;
+    }
+    (end - start).saturating_add(count)
+}
+
+/// Are few elements moved where a line is made in place, and is there room for those that come after the old ones?
+pub(crate) fn is_near<T>(old: &Vec<T>, made: &Vec<T>, aside: &Vec<T>, runs: &[Run]) -> bool
+    ensures { result ≡ true → vec_len old.now + (vec_len made.now + vec_len aside.now) ≤ vec_capacity old.now }
+{
+    let come = made.len().saturating_add(aside.len());
+    come <= old.capacity() - old.len() && moved(runs, old.len()) <= old.len()
+}
+
+/// The elements from `place` up to `middle` come after those from there up to `end`.
+fn turn<T>(elements: &mut [T], place: usize, middle: usize, end: usize)
+    requires first { place ≤ middle }
+    requires then { middle ≤ end }
+    requires within { end ≤ length elements.old }
+    ensures turned { elements.new ≡ take place elements.old
+        ++ (slice_range elements.old middle end ++ (slice_range elements.old place middle ++ drop end elements.old)) }
+    ensures len { length elements.new ≡ length elements.old }
+{
+    elements[place..end].rotate_left(middle - place);
+}
+
+/// The same of elements in memory that may hold more.
+fn turn_in<T: Drop>(elements: &mut Vec<T>, place: usize, middle: usize, end: usize)
+    requires first { place ≤ middle }
+    requires then { middle ≤ end }
+    requires within { end ≤ vec_len elements.old }
+    ensures turned { (ws xs ys zs : List T) → elements.old.items ≡ ws ++ (xs ++ (ys ++ zs))
+        → length ws ≡ place → place + length xs ≡ middle → middle + length ys ≡ end
+        → elements.new.items ≡ ws ++ (ys ++ (xs ++ zs)) }
+    ensures len { vec_len elements.new ≡ vec_len elements.old }
+    ensures room { vec_capacity elements.new ≡ vec_capacity elements.old }
+{
+    turn(elements, place, middle, end);
+}
+
+/// The elements that stay close up, and the others go.
+fn close_up<T: Drop>(elements: &mut Vec<T>, runs: &[Run])
+    requires { StayersRise (vec_len elements.old) 0 runs.now }
+    ensures stay { (made : List T) → elements.new.items ≡ staying (vec_len elements.old) runs.now (elements.old.items ++ made) }
+    ensures len { vec_len elements.new ≡ count_staying (vec_len elements.old) runs.now }
+    ensures fewer { vec_len elements.new ≤ vec_len elements.old }
+    ensures room { vec_capacity elements.new ≡ vec_capacity elements.old }
+{
+    let old = elements.len();
+    let mut place = 0;
+    for run in runs {
+        if stays(*run, old) {
+            turn_in(elements, place, run.from, run.from + run.count);
+            place += run.count;
+            continue;
+        }
+    }
+    elements.truncate(place);
+}
+
+/// The elements that come are put at the end, in the order of the line, which is over so many old ones.
+fn put_at_end<T: Drop>(elements: &mut Vec<T>, old: usize, made: Vec<T>, aside: Vec<T>, runs: &[Run])
+    requires rising { RunsRise old (vec_len made) 0 0 runs.now }
+    requires aside { vec_len aside ≡ length (places_aside runs.now) }
+    requires room { vec_len elements.old + (vec_len made + vec_len aside) ≤ vec_capacity elements.old }
+    ensures put { (xs : List T) → length xs ≡ old
+        → elements.new.items ≡ elements.old.items ++ coming old runs.now (xs ++ made.items) aside.items }
+    ensures len { vec_len elements.new ≡ vec_len elements.old + count_coming old runs.now }
+{
+    let mut made_rest = made.into_iter();
+    let mut aside_rest = aside.into_iter();
+    let mut next_made = 0;
+    for run in runs {
+        if run.aside {
+            move_run(&mut aside_rest, run.count, elements);
+            continue;
+        }
+        if run.from < old {
+            continue;
+        }
+        let place = run.from - old;
+        pass_over(&mut made_rest, place - next_made);
+        move_run(&mut made_rest, run.count, elements);
+        next_made = place + run.count;
+    }
+}
+
+/// From the last run on, the elements that stay go over those that come to their places. So many stay.
+fn spread_out<T: Drop>(elements: &mut Vec<T>, old: usize, stay: usize, runs: &[Run])
+    requires stay { stay ≡ count_staying old runs.now }
+    requires all { vec_len elements.old ≡ stay + count_coming old runs.now }
+    ensures { (xs ys : List T) → AreWhole runs.now xs ys
+        → elements.old.items ≡ staying old runs.now xs ++ coming old runs.now xs ys → elements.new.items ≡ woven runs.now xs ys }
+{
+    let mut stay = stay;
+    let mut come = elements.len() - stay;
+    let mut left = runs.len();
+    while 0 < left && 0 < come {
+        left -= 1;
+        let run = runs[left];
+        if stays(run, old) {
+            stay -= run.count;
+            let middle = stay + run.count;
+            turn_in(elements, stay, middle, middle + come);
+            continue;
+        }
+        come -= run.count;
+    }
+}
+
+/// The old elements become those of a line, with made ones, and those that are set aside.
+pub(crate) fn line_up_in_place<T: Drop>(
+    elements: &mut Vec<T>,
+    made: Vec<T>,
+    aside: Vec<T>,
+    runs: &[Run],
+)
+    requires rising { RunsRise (vec_len elements.old) (vec_len made) 0 0 runs.now }
+    requires aside { vec_len aside ≡ length (places_aside runs.now) }
+    requires room { vec_len elements.old + (vec_len made + vec_len aside) ≤ vec_capacity elements.old }
+    ensures { elements.new.items ≡ woven runs.now (elements.old.items ++ made.items) aside.items }
+{
+    let old = elements.len();
+    close_up(elements, runs);
+    let stay = elements.len();
+    put_at_end(elements, old, made, aside, runs);
+    spread_out(elements, old, stay, runs);
+}
