@@ -91,6 +91,32 @@ static void wait_for(uint32_t kind, const char *id, const char *parent, const ch
     if (count == MOST) flush_edits();
 }
 
+static int32_t least(int32_t a, int32_t b) { return a < b ? a : b; }
+
+/* The tiles of a side are those that have a pixel of the spans, row by row. */
+static void tiles(const rd_span *spans, size_t many, int32_t side) {
+    int32_t columns = (width + side - 1) / side, rows = (height + side - 1) / side;
+    size_t met = 0, told = 0, i = 0;
+    bool *is_met = calloc((size_t)(columns * rows), sizeof *is_met);
+    rd_rect none, *all;
+    if (!is_met) fail("memory", 1);
+    for (size_t k = 0; k < many; k++)
+        for (int32_t x = spans[k].x0; x < spans[k].x1; x++) is_met[spans[k].y / side * columns + x / side] = true;
+    for (int32_t k = 0; k < columns * rows; k++) met += is_met[k];
+    uint32_t status = rd_tiles(&engine, (uint32_t)side, &none, 0, &told);
+    if (status != (met ? RD_SHORT : RD_OK) || told != met) fail("tiles", status);
+    all = malloc((met + 1) * sizeof *all);
+    if (!all || rd_tiles(&engine, (uint32_t)side, all, met, &told) != RD_OK || told != met) fail("tiles again", (uint32_t)told);
+    for (int32_t k = 0; k < columns * rows; k++) {
+        if (!is_met[k]) continue;
+        int32_t x = k % columns * side, y = k / columns * side;
+        rd_rect is = {x, y, least(side, width - x), least(side, height - y)};
+        if (memcmp(&all[i++], &is, sizeof is)) fail("tile", (uint32_t)k);
+    }
+    free(all);
+    free(is_met);
+}
+
 static void paint(void) {
     rd_note n;
     uint32_t status = rd_paint(&engine, &n);
@@ -111,8 +137,10 @@ static void paint(void) {
         if (!on || !after) fail("span", (uint32_t)i);
         pixels += (unsigned long long)(all[i].x1 - all[i].x0);
     }
-    free(all);
     if (pixels != n.area) fail("area", (uint32_t)pixels);
+    for (int32_t side = 1; side <= 64; side = 2 * side + 1) tiles(all, spans, side);
+    tiles(all, spans, 64);
+    free(all);
 }
 static void settle(void) { if (pending) paint(); }
 
@@ -236,6 +264,15 @@ int main(int argc, char **argv) {
             int32_t x = (int32_t)number(), y = (int32_t)number();
             if (batch) wait_for(RD_SCROLL, id, 0, 0, no_rect, rd_plain(), 0, x, y);
             else answer(rd_scroll(&engine, id, x, y));
+        } else if (!strcmp(word, "keep")) {
+            if ((status = rd_keep(&engine, (uint32_t)number()))) fail("keep", status);
+        } else if (!strcmp(word, "undo")) {
+            size_t done = 9;
+            status = rd_undo(&engine, &done);
+            if (status != RD_OK && (status != RD_NOTHING || done)) fail("undo", status);
+            pending = pending || status == RD_OK;
+            if (status == RD_OK) printf("undone %zu\n", done);
+            else puts("undo none");
         } else if (!strcmp(word, "paint")) {
             paint();
         } else if (!strcmp(word, "hit")) {

@@ -18,6 +18,7 @@ static int edits(void) {
     rd_entry entry;
     rd_note note;
     rd_span span;
+    rd_rect tiles[9];
     size_t count = 9;
     char id[65];
     static uint8_t rgba[4 * 10 * 10];
@@ -52,7 +53,7 @@ static int edits(void) {
     CHECK(rd_move(&e, "b", "a", 0) == RD_OK && rd_move(&e, "a", "b", 0) == RD_INTO_ITSELF);
     CHECK(rd_scroll(&e, "nobody", 1, 1) == RD_UNKNOWN_ID && rd_scroll(&e, "a", 1000001, 0) == RD_OUT_OF_RANGE);
     CHECK(rd_list(&e, &entry, 1, &count) == RD_OK && count == 0);
-    CHECK(rd_spans(&e, &span, 1, &count) == RD_NOTHING);
+    CHECK(rd_spans(&e, &span, 1, &count) == RD_NOTHING && rd_tiles(&e, 4, tiles, 9, &count) == RD_NOTHING);
     CHECK(rd_copy(&e, &all, RD_RGBA, 40, rgba, sizeof rgba - 1) == RD_SHORT);
     CHECK(rd_copy(&e, &all, RD_RGBA, 39, rgba, sizeof rgba) == RD_BAD_VALUE);
     CHECK(rd_copy(&e, &all, 2, 40, rgba, sizeof rgba) == RD_BAD_VALUE);
@@ -61,8 +62,11 @@ static int edits(void) {
     CHECK(rd_paint(&e, &note) == RD_OK && note.number == 1 && note.area == 100 && note.kept == 0);
     CHECK(rd_list(&e, &entry, 1, &count) == RD_SHORT && count == note.built);
     CHECK(rd_spans(&e, &span, 1, &count) == RD_SHORT && count == 10);
+    CHECK(rd_tiles(&e, 4, tiles, 8, &count) == RD_SHORT && count == 9);
+    CHECK(rd_tiles(&e, 4, tiles, 9, &count) == RD_OK && count == 9 && tiles[5].x == 8 && tiles[5].y == 4 && tiles[5].w == 2 && tiles[5].h == 4);
+    CHECK(rd_tiles(&e, 0, tiles, 9, &count) == RD_BAD_VALUE && rd_tiles(&e, 4097, tiles, 9, &count) == RD_BAD_VALUE);
     CHECK(rd_paint(&e, &note) == RD_OK && note.number == 2 && note.area == 0 && note.built == 0);
-    CHECK(rd_spans(&e, &span, 1, &count) == RD_OK && count == 0);
+    CHECK(rd_spans(&e, &span, 1, &count) == RD_OK && count == 0 && rd_tiles(&e, 4, tiles, 9, &count) == RD_OK && count == 0);
     CHECK(rd_pixel(&e, 1, 1, &c) == RD_OK && c.r == 0 && c.b == 255 && c.a == 255 && rd_pixel(&e, 10, 0, &c) == RD_NOTHING);
     CHECK(rd_hit(&e, 0, 0, id) == RD_OK && !strcmp(id, "root") && rd_hit(&e, -1, 0, id) == RD_NOTHING);
     wrong = blue;
@@ -70,7 +74,12 @@ static int edits(void) {
     CHECK(rd_remove(&e, "far") == RD_OK && rd_set_style(&e, "a", &wrong, RD_OVERFLOW) == RD_OK);
     CHECK(rd_set_rect(&e, "b", &a) == RD_OK && rd_scroll(&e, "a", 0, 2) == RD_OK);
     CHECK(rd_paint(&e, &note) == RD_OK && rd_pixel(&e, 1, 2, &c) == RD_OK && c.g == 255 && rd_pixel(&e, 1, 3, &c) == RD_OK && c.b == 255);
-    CHECK(rd_remove(&e, "a") == RD_OK && rd_remove(&e, "b") == RD_UNKNOWN_ID);
+    CHECK(rd_undo(&e, &count) == RD_NOTHING && rd_keep(&e, 1025) == RD_BAD_VALUE && rd_keep(&e, 2) == RD_OK && rd_undo(&e, &count) == RD_NOTHING);
+    CHECK(rd_shift(&e, "a", 1, 0) == RD_OK && rd_remove(&e, "a") == RD_OK && rd_remove(&e, "b") == RD_UNKNOWN_ID);
+    CHECK(rd_undo(&e, &count) == RD_OK && count == 3 && rd_insert(&e, "b", "root", 0, &b, &green) == RD_DUPLICATE_ID);
+    CHECK(rd_undo(&e, &count) == RD_OK && count == 1 && rd_undo(&e, &count) == RD_NOTHING && count == 0);
+    CHECK(rd_paint(&e, &note) == RD_OK && rd_pixel(&e, 1, 2, &c) == RD_OK && c.g == 255 && rd_pixel(&e, 1, 3, &c) == RD_OK && c.b == 255);
+    CHECK(rd_keep(&e, 0) == RD_OK && rd_remove(&e, "a") == RD_OK && rd_undo(&e, &count) == RD_NOTHING);
     CHECK(rd_new(&other, 3, 3, "root", &all, &red) == RD_OK);
     CHECK(rd_free(&e) == RD_OK && rd_free(&e) == RD_NO_ENGINE);
     CHECK(rd_insert(&other, "a", "root", 0, &a, &red) == RD_OK);

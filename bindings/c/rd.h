@@ -34,7 +34,7 @@ extern "C" {
 #endif
 
 /* What a call answers: RD_OK where it was done, or why it was not. A call that was not done has changed no engine, but for
- * rd_edits, which does the edits before the one that is refused. */
+ * rd_edits, which does the edits before the one that is refused, and rd_undo where memory is wanting in its midst. */
 enum rd_status {
     RD_OK = 0,
     /* Why an edit is refused: the first of these that holds. */
@@ -51,11 +51,13 @@ enum rd_status {
     /* Why any call is. */
     RD_BAD_ID = 11,         /* an id is 1 to 64 ASCII letters, digits, `_`, `-`, `.` and `:` */
     RD_BAD_VALUE = 12,      /* a number stands for no keyword, a canvas is not 1 to 4096 pixels each way, a rectangle to copy is
-                               not on the canvas, or a stride is shorter than a row */
+                               not on the canvas, a stride is shorter than a row, more than 1024 edits are to be kept, or a tile is
+                               not 1 to 4096 pixels each way */
     RD_NO_ENGINE = 13,      /* the handle holds no engine */
     RD_IN_USE = 14,         /* the handle holds an engine already */
     RD_PENDING = 15,        /* an edit came since the last paint, or there was none: paint first */
-    RD_NOTHING = 16,        /* no box is hit, the pixel is off the canvas, there was no paint, or no paint can be counted more */
+    RD_NOTHING = 16,        /* no box is hit, the pixel is off the canvas, there was no paint, no paint can be counted more, or no
+                               edit is kept */
     RD_SHORT = 17,          /* the memory that was passed is too short */
     RD_NULL = 18            /* a pointer is null */
 };
@@ -153,8 +155,11 @@ uint32_t rd_c_set_rect(rd_engine *, const uint8_t *id, size_t id_length, const r
 uint32_t rd_c_shift(rd_engine *, const uint8_t *id, size_t id_length, int32_t dx, int32_t dy);
 uint32_t rd_c_scroll(rd_engine *, const uint8_t *id, size_t id_length, int32_t x, int32_t y);
 uint32_t rd_c_edits(rd_engine *, const uint8_t *texts, size_t texts_length, const rd_edit *edits, size_t count, size_t *done);
+uint32_t rd_c_keep(rd_engine *, uint32_t steps);
+uint32_t rd_c_undo(rd_engine *, size_t *done);
 uint32_t rd_c_paint(rd_engine *, rd_note *);
 uint32_t rd_c_spans(rd_engine *, rd_span *out, size_t room, size_t *count);
+uint32_t rd_c_tiles(rd_engine *, uint32_t side, rd_rect *out, size_t room, size_t *count);
 uint32_t rd_c_pixel(rd_engine *, int32_t x, int32_t y, rd_color *);
 uint32_t rd_c_hit(rd_engine *, int32_t x, int32_t y, uint8_t *id, size_t room, size_t *id_length);
 uint32_t rd_c_id(rd_engine *, uint32_t slot, uint32_t generation, uint8_t *id, size_t room, size_t *id_length);
@@ -200,12 +205,26 @@ static inline uint32_t rd_edits(rd_engine *e, const char *texts, const rd_edit *
     if (!texts) texts = "";
     return e && edits && done ? rd_c_edits(e, RD_TEXT(texts), edits, count, done) : RD_NULL;
 }
+/* Keeps from now on what undoes the last `steps` edits, at most 1024; none where it is 0, as at first. What was kept before is
+ * forgotten. With it an edit takes memory for what undoes it, and a removal for each box below the one that it removes. */
+static inline uint32_t rd_keep(rd_engine *e, uint32_t steps) { return e ? rd_c_keep(e, steps) : RD_NULL; }
+/* Takes the last edit back that is kept and not taken back yet; what undoes it is kept no longer. `done` is how many edits that took:
+ * one, and for a removal one for each box that comes back and for each scroll offset. RD_NOTHING where no edit is kept. Without
+ * memory those before the one that wanted it are done, and the next call goes on with the others. */
+static inline uint32_t rd_undo(rd_engine *e, size_t *done) { return e && done ? rd_c_undo(e, done) : RD_NULL; }
 /* Paints what has changed since the last paint. */
 static inline uint32_t rd_paint(rd_engine *e, rd_note *note) { return e && note ? rd_c_paint(e, note) : RD_NULL; }
 /* The pixels that the last paint painted anew: of each row from the top its spans from the left. `count` is how many there are,
  * also where the answer is RD_SHORT. */
 static inline uint32_t rd_spans(rd_engine *e, rd_span *out, size_t room, size_t *count) {
     return e && out && count ? rd_c_spans(e, out, room, count) : RD_NULL;
+}
+/* The tiles that the last paint painted anew: those of `side` by `side` pixels, cut at the right and lower edges of the canvas, that have
+ * a pixel of rd_spans. Each is told by the rectangle of its pixels, row by row from the top, each row from the left; its column is x / side
+ * and its row y / side. rd_copy of such a rectangle gives the pixels of the tile. `side` is 1 to 4096. `count` is how many there are, also
+ * where the answer is RD_SHORT. */
+static inline uint32_t rd_tiles(rd_engine *e, uint32_t side, rd_rect *out, size_t room, size_t *count) {
+    return e && out && count ? rd_c_tiles(e, side, out, room, count) : RD_NULL;
 }
 /* The colour of a pixel, which is opaque; no paint is pending. */
 static inline uint32_t rd_pixel(rd_engine *e, int32_t x, int32_t y, rd_color *out) { return e && out ? rd_c_pixel(e, x, y, out) : RD_NULL; }

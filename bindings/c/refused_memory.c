@@ -2,6 +2,7 @@
  * on afterwards. (Some room is asked for speed alone: without it a call is done all the same.) Link it with -Wl,--wrap=malloc,--wrap=realloc. */
 #include "rd.h"
 #include <stdio.h>
+#include <stdlib.h>
 
 void *__real_malloc(size_t n);
 void *__real_realloc(void *p, size_t n);
@@ -25,9 +26,11 @@ static uint32_t run(rd_engine *e) {
     rd_note note;
     static rd_entry entries[9];
     static rd_span spans[16];
-    size_t count;
+    static rd_rect tiles[9];
+    size_t count, more = 0;
     uint32_t is;
     if ((is = rd_new(e, 10, 10, "root", &all, &s))) return is;
+    if ((is = rd_keep(e, 2))) return is;
     if ((is = rd_insert(e, "a", "root", 0, &all, &s))) return is;
     if ((is = rd_insert(e, "b", "root", "a", &all, &s))) return is;
     if ((is = rd_move(e, "b", "a", 0))) return is;
@@ -35,7 +38,15 @@ static uint32_t run(rd_engine *e) {
     if ((is = rd_paint(e, &note))) return is;
     if ((is = rd_list(e, entries, 9, &count))) return is;
     if ((is = rd_spans(e, spans, 16, &count))) return is;
+    if ((is = rd_tiles(e, 4, tiles, 9, &count))) return is;
     if ((is = rd_remove(e, "a"))) return is;
+    if ((is = rd_paint(e, &note))) return is;
+    /* an undo that wanted memory goes on where it stopped */
+    is = rd_undo(e, &count);
+    if (is == RD_NO_MEMORY) is = rd_undo(e, &more);
+    if (is) return is;
+    if (count + more != 2) exit(3);
+    if ((is = rd_shift(e, "a", 1, 1)) || (is = rd_shift(e, "b", -1, -1))) return is;
     if ((is = rd_paint(e, &note))) return is;
     return rd_render(10, 10, "root a", boxes, 2, rgba, sizeof rgba, &note);
 }

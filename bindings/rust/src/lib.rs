@@ -199,6 +199,9 @@ pub struct Entry {
 /// The kind of an entry that is a group.
 pub const GROUP: u8 = 4;
 
+/// The most edits of which [`Engine::keep`] keeps what undoes them.
+pub const MOST_KEPT: u32 = 1024;
+
 /// Why a call did nothing: the numbers of `rd.h`.
 #[derive(Clone, Copy, Debug, PartialEq, Eq)]
 pub struct Refused(pub u32);
@@ -220,8 +223,11 @@ unsafe extern "C" {
     fn rd_c_hit(h: *mut Handle, x: i32, y: i32, out: *mut u8, n: usize, length: *mut usize) -> u32;
     fn rd_c_id(h: *mut Handle, slot: u32, generation: u32, out: *mut u8, n: usize, length: *mut usize) -> u32;
     fn rd_c_edits(h: *mut Handle, texts: *const u8, n: usize, edits: *const SpelledEdit, count: usize, done: *mut usize) -> u32;
+    fn rd_c_keep(h: *mut Handle, steps: u32) -> u32;
+    fn rd_c_undo(h: *mut Handle, done: *mut usize) -> u32;
     fn rd_c_paint(h: *mut Handle, note: *mut Note) -> u32;
     fn rd_c_spans(h: *mut Handle, out: *mut Span, room: usize, count: *mut usize) -> u32;
+    fn rd_c_tiles(h: *mut Handle, side: u32, out: *mut Rect, room: usize, count: *mut usize) -> u32;
     fn rd_c_copy(h: *mut Handle, place: *const Rect, format: u32, stride: usize, out: *mut u8, n: usize) -> u32;
     fn rd_c_list(h: *mut Handle, out: *mut Entry, room: usize, count: *mut usize) -> u32;
 }
@@ -343,6 +349,22 @@ impl Engine {
         if status == 0 { Ok(()) } else { Err((count, Refused(status))) }
     }
 
+    /// Keeps from now on what undoes the last `steps` edits, at most [`MOST_KEPT`] (number 12 where they are more); none where it is 0,
+    /// as at first. What was kept before is forgotten.
+    pub fn keep(&mut self, steps: u32) -> Result<(), Refused> {
+        // SAFETY: as in `insert`.
+        done(unsafe { rd_c_keep(&mut self.handle, steps) })
+    }
+
+    /// Takes the last edit back that is kept and not taken back yet: how many edits that took. Number 16 where no edit is kept. Without
+    /// memory (number 10) those before the one that wanted it are done, and the next call goes on with the others.
+    pub fn undo(&mut self) -> Result<usize, Refused> {
+        let mut count = 0usize;
+        // SAFETY: as in `insert`.
+        done(unsafe { rd_c_undo(&mut self.handle, &mut count) })?;
+        Ok(count)
+    }
+
     /// Paints what has changed since the last paint.
     pub fn paint(&mut self) -> Result<Note, Refused> {
         let mut note = Note::default();
@@ -355,6 +377,14 @@ impl Engine {
     pub fn spans(&mut self) -> Result<Vec<Span>, Refused> {
         // SAFETY: as in `insert`, and the pointer and the length are those of one vector.
         self.all(|handle, out: &mut Vec<Span>, count| unsafe { rd_c_spans(handle, out.as_mut_ptr(), out.len(), count) })
+    }
+
+    /// The tiles that the last paint painted anew: those of `side` by `side` pixels, cut at the right and lower edges of the canvas, that
+    /// have a pixel of [`Engine::spans`]. Each is told by the rectangle of its pixels, row by row from the top, each row from the left;
+    /// [`Engine::copy`] of it gives them. Number 12 where `side` is not 1 to 4,096.
+    pub fn tiles(&mut self, side: u32) -> Result<Vec<Rect>, Refused> {
+        // SAFETY: as in `insert`, and the pointer and the length are those of one vector.
+        self.all(|handle, out: &mut Vec<Rect>, count| unsafe { rd_c_tiles(handle, side, out.as_mut_ptr(), out.len(), count) })
     }
 
     /// The list of the last paint, each group right before its entries.

@@ -1,5 +1,5 @@
 //! Calls the library from safe Rust.
-use pouncelilac::{render, Box, Color, Edit, Engine, Format, Note, Rect, Refused, Span, Style, GROUP};
+use pouncelilac::{render, Box, Color, Edit, Engine, Format, Note, Rect, Refused, Span, Style, GROUP, MOST_KEPT};
 
 fn filled(r: u8, g: u8, b: u8) -> Style {
     Style { background: Color { r, g, b, a: 255 }, ..Style::default() }
@@ -38,6 +38,7 @@ fn an_engine_is_edited() -> Result<(), Refused> {
     assert_eq!(engine.pixels()?.len(), 400);
     assert_eq!(engine.list(), Ok(vec![]));
     assert_eq!(engine.spans(), Err(Refused(16)));
+    assert_eq!(engine.tiles(4), Err(Refused(16)));
     engine.remove("a")?;
     assert_eq!(engine.remove("b"), Err(Refused(1)));
     Ok(())
@@ -63,6 +64,7 @@ fn a_paint_keeps_what_it_may() -> Result<(), Refused> {
     engine.insert("b", "root", None, rect(3, 3, 4, 4), &Style { opacity: 128, ..filled(0, 255, 0) })?;
     assert_eq!(engine.paint()?, Note { number: 1, built: 3, kept: 0, area: 100 });
     assert_eq!(engine.spans()?.len(), 10);
+    assert_eq!((engine.tiles(4)?.len(), engine.tiles(4)?[5], engine.tiles(64)?), (9, rect(8, 4, 2, 4), vec![rect(0, 0, 10, 10)]));
     assert_eq!(engine.pixel(1, 1)?, Color { r: 255, g: 0, b: 0, a: 255 });
     assert_eq!((engine.hit(3, 3)?, engine.hit(1, 1)?, engine.hit(9, 9)?), ("b".into(), "a".into(), "root".into()));
     let list = engine.list()?;
@@ -75,6 +77,9 @@ fn a_paint_keeps_what_it_may() -> Result<(), Refused> {
     let note = engine.paint()?;
     assert_eq!((note.number, note.area), (2, 16));
     assert_eq!(engine.spans()?[0], Span { y: 1, x0: 1, x1: 5 });
+    assert_eq!(engine.tiles(4)?, [rect(0, 0, 4, 4), rect(4, 0, 4, 4), rect(0, 4, 4, 4), rect(4, 4, 4, 4)]);
+    assert_eq!(engine.tiles(3)?, [rect(0, 0, 3, 3), rect(3, 0, 3, 3), rect(0, 3, 3, 3), rect(3, 3, 3, 3)]);
+    assert_eq!((engine.tiles(0), engine.tiles(4097)), (Err(Refused(12)), Err(Refused(12))));
     let mut two = [0u8; 8];
     engine.copy(rect(2, 1, 2, 1), Format::Bgra, 8, &mut two)?;
     assert_eq!(two, [0, 0, 255, 255, 255, 255, 255, 255]);
@@ -120,5 +125,29 @@ fn a_scroll_moves_what_is_clipped() -> Result<(), Refused> {
     assert_eq!((engine.pixel(0, 4)?, engine.hit(0, 4)?), (blue.background, "b".into()));
     assert_eq!(engine.scroll("a", 0, 1_000_001), Err(Refused(9)));
     assert_eq!(engine.scroll("c", 0, 0), Err(Refused(1)));
+    Ok(())
+}
+
+#[test]
+fn edits_are_taken_back() -> Result<(), Refused> {
+    let (red, blue) = (filled(255, 0, 0), filled(0, 0, 255));
+    let mut engine = Engine::new(10, 10, "root", rect(0, 0, 10, 10), &filled(255, 255, 255))?;
+    engine.insert("a", "root", None, rect(0, 0, 5, 5), &red)?;
+    assert_eq!(engine.undo(), Err(Refused(16)));
+    assert_eq!(engine.keep(MOST_KEPT + 1), Err(Refused(12)));
+    engine.keep(2)?;
+    engine.insert("b", "a", None, rect(1, 1, 2, 2), &blue)?;
+    engine.set_rect("a", rect(0, 0, 6, 6))?;
+    assert_eq!(engine.remove("nobody"), Err(Refused(1)));
+    engine.remove("a")?;
+    assert_eq!((engine.undo()?, engine.undo()?), (2, 1));
+    assert_eq!(engine.undo(), Err(Refused(16)));
+    engine.paint()?;
+    assert_eq!((engine.hit(1, 1)?, engine.hit(5, 5)?), ("b".into(), "root".into()));
+    assert_eq!(engine.edits(&[Edit::Remove { id: "b".into() }, Edit::Remove { id: "a".into() }]), Ok(()));
+    assert_eq!((engine.undo()?, engine.undo()?), (1, 1));
+    engine.keep(0)?;
+    engine.remove("b")?;
+    assert_eq!(engine.undo(), Err(Refused(16)));
     Ok(())
 }

@@ -1,9 +1,7 @@
 -- An edit that could be read is the one that was done or refused. Assumes nothing.
-use Rattle.std.proofs.Common.{◌≡◌, ℕ, ℤ, List, sym, subst, ◌∙◌}
-use Rattle.std.specs.Prelude.{Option, Result, Ok, Err, IfOk, IsOkAnd}
-use Rattle.rd_edits.specs.Refusals.{IsRefused, number_of}
+use Rattle.std.proofs.Common.{◌≡◌, ℕ, ℤ, List, subst, ◌∙◌}
+use Rattle.std.specs.Prelude.{Option, Some, None, Result, Ok, Err, IfOk, IsOkAnd}
 use Rattle.rd_edits.specs.declared.edit.Edit.{Edit}
-use Rattle.rd_edits.specs.declared.fault.EditFault.{EditFault}
 use Rattle.rd_engine.specs.State.{EngineState}
 use Rattle.rd_geom.specs.Plane.{Rectangle}
 use Rattle.rd_geom.specs.declared.rect.Size.{Size}
@@ -17,16 +15,25 @@ use Rattle.rd_c.specs.declared.refusal.Refusal.{Refusal}
 use Rattle.rd_c.specs.declared.values.RdRect.{RdRect}
 use Rattle.rd_c.specs.declared.values.RdStyle.{RdStyle}
 
-pub done_by : (read : Result Edit Refusal) (Is : Edit → Type 0) (old new : Option Painter) → IfOk read Is → IsOkAnd read (λ e. OnHeld (IsDone e) old new) → DoneBy Is old new
-done_by (Ok e) Is old new is done = record { edit = e; is = is; done = done }
+-- an edit that arguments spell was done, or is refused
+pub done_as : (Is : Edit → Type 0) (e : Edit) (old new : Painter) → Is e → IsDone e old new → DoneBy Is old new
+done_as Is e old new is done = record { edit = e; is = is; done = done }
+
+pub refused_as : (Is : Edit → Type 0) (e : Edit) (n : ℕ) (p : Painter) → Is e → IsRefusedBy n e p → RefusedBy Is n p
+refused_as Is e n p is refused = record { edit = e; is = is; refused = refused }
+
+pub ruleset spelled = (done_as, refused_as)
+
+pub done_by : (read : Result Edit Refusal) (Is : Edit → Type 0) (old new : Option Painter) → IfOk read Is → IsOkAnd read (λ e. OnHeld (IsDone e) old new) → OnHeld (DoneBy Is) old new
+done_by (Ok e) Is None new is done = absurd done
+done_by (Ok e) Is (Some p) None is done = absurd done
+done_by (Ok e) Is (Some p) (Some q) is done = record { edit = e; is = is; done = done }
 done_by (Err r) Is old new is done = absurd done
 
-pub refused_by : (read : Result Edit Refusal) (Is : Edit → Type 0) (n : ℕ) (held : Option Painter) → IfOk read Is → IsOkAnd read (λ e. Holds (IsRefusedBy n e) held) → RefusedBy Is n held
-refused_by (Ok e) Is n held is refused = record { edit = e; is = is; refused = refused }
+pub refused_by : (read : Result Edit Refusal) (Is : Edit → Type 0) (n : ℕ) (held : Option Painter) → IfOk read Is → IsOkAnd read (λ e. Holds (IsRefusedBy n e) held) → Holds (RefusedBy Is n) held
+refused_by (Ok e) Is n None is refused = absurd refused
+refused_by (Ok e) Is n (Some p) is refused = record { edit = e; is = is; refused = refused }
 refused_by (Err r) Is n held is refused = absurd refused
-
-pub refused_at : (f : EditFault) (n : ℕ) (e : Edit) (p : Painter) → n ≡ number_of f → IsRefused p.engine.tree e f → IsRefusedBy n e p
-refused_at f n e p is refused = record { fault = f; number = sym is; refused = refused }
 
 -- a size of these sides
 pub sized : (s : Size) (v u w h : ℤ) → s ≡ record { w = v; h = u } → v ≡ w → u ≡ h → s ≡ record { w = w; h = h }

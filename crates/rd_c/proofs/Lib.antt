@@ -2,8 +2,11 @@ pub mod LooseWords
 pub mod HeldWords
 pub mod Answering
 pub mod Asking
+pub mod Turning
 pub mod Putting
 pub mod Telling
 pub mod Spanning
+pub mod Tiling
 pub mod Batching
 pub mod Rendering
+pub mod Back

@@ -1,8 +1,6 @@
 -- A scene that is painted once. Assumes nothing.
-use Rattle.std.proofs.Common.{◌≡◌, ℕ, ℤ, pos, ◌+◌, ◌<◌, List, [], ◌∷◌, ◌++◌, length, take, get_or, refl, sym, ◌∙◌, ap, subst, arith}
-use Rattle.std.specs.Prelude.{Some, Result, Ok, Err, IfOk}
-use Rattle.std.proofs.lemmas.List.{take_more}
-use Rattle.std.proofs.Math.Seq.{drop-cons}
+use Rattle.std.proofs.Common.{◌≡◌, ℕ, ℤ, pos, ◌<◌, List, [], ◌∷◌, length, take, get_or, ◌∙◌, ap, arith}
+use Rattle.std.specs.Prelude.{Some, None, Result, Ok, Err, IfOk}
 use Rattle.rd_edits.specs.declared.edit.Edit.{Edit}
 use Rattle.rd_keys.specs.Keys.{same_key}
 use Rattle.rd_list.specs.EntryNames.{kept_leaves}
@@ -15,60 +13,42 @@ use Rattle.rd_stack.proofs.Promises.{stands_for_itself}
 use Rattle.rd_tree.specs.Forest.{IsApart}
 use Rattle.rd_engine.specs.Painted.{IsSettled}
 use Rattle.rd_engine.specs.State.{EngineState, IsEngine}
-use Rattle.rd_c.specs.Asked.{IsInsertion}
+use Rattle.rd_c.specs.Asked.{IsInsertion, RefusedBy, AreDone}
 use Rattle.rd_c.specs.Batched.{part_of}
-use Rattle.rd_c.specs.Held.{IsDone, IsRefusedBy}
 use Rattle.rd_c.specs.Made.{IsMade}
-use Rattle.rd_c.specs.Rendered.{IsPlanting, IsPlanted, ArePlanted, IsUnplanted, IsFirstUnplanted, IsRefusedAmong, IsRootOf, IsBuilt, IsUnbuilt, Shows, IsShown, IsRendered}
+use Rattle.rd_c.specs.Rendered.{IsPlanting, IsRefusedAmong, IsRootOf, IsBuilt, IsUnbuilt, Shows, IsShown, IsRendered}
 use Rattle.rd_c.specs.declared.painter.Painter.{Painter}
 use Rattle.rd_c.specs.declared.refusal.Refusal.{Refusal}
 use Rattle.rd_c.specs.declared.render.RdBox.{RdBox}
 use Rattle.rd_c.specs.declared.values.RdNote.{RdNote}
+use Rattle.rd_c.proofs.Turning.{first_from}
 
 pub planting : (names name parent : List ℕ) (b : RdBox) (r : Result Edit Refusal) → part_of names b.name b.name_end ≡ Some name → part_of names b.parent b.parent_end ≡ Some parent
     → IfOk r (IsInsertion name parent [] b.place b.look) → IfOk r (IsPlanting names b)
 planting names name parent b (Ok e) named below is = record { name = name; parent = parent; named = named; below = below; is = is }
 planting names name parent b (Err x) named below is = tt
 
-pub planted : (names : List ℕ) (b : RdBox) (e : Edit) (old new : Painter) → IsPlanting names b e → IsDone e old new → IsPlanted names b old new
-planted names b e old new is done = record { edit = e; is = is; done = done }
-
-pub unplanted : (names : List ℕ) (b : RdBox) (e : Edit) (n : ℕ) (p : Painter) → IsPlanting names b e → IsRefusedBy n e p → IsUnplanted names b n p
-unplanted names b e n p is refused = record { edit = e; is = is; refused = refused }
-
-pub ruleset plantings = (planted, unplanted)
-
-pub rooted : (w h : ℤ) (names name : List ℕ) (b : RdBox) (p : Painter) → part_of names b.name b.name_end ≡ Some name → IsMade w h name b.place b.look p.engine → IsRootOf w h names b p
-rooted w h names name b p named made = record { name = name; named = named; made = made }
+pub rooted : (w h : ℤ) (names name : List ℕ) (b : RdBox) (p : Painter) → part_of names b.name b.name_end ≡ Some name → IsMade w h name b.place b.look p.engine → p.undo ≡ None → IsRootOf w h names b p
+rooted w h names name b p named made keeps = record { name = name; named = named; made = made; keeps = keeps }
 
 pub rendered : (w h : ℤ) (names : List ℕ) (boxes : List RdBox) (p : Painter) (note : RdNote) (old new : List ℕ) → IsBuilt w h names boxes p → IsShown p note old new → IsRendered w h names boxes note old new
 rendered w h names boxes p note old new built shown = record { scene = p; built = built; shown = shown }
 
--- one more box
-planted-then : (names : List ℕ) (bs : List RdBox) (b : RdBox) (old mid new : Painter) → ArePlanted names bs old mid → IsPlanted names b mid new → ArePlanted names (bs ++ b ∷ []) old new
-planted-then names [] b old mid new is step = (new, subst (λ z. IsPlanted names b z new) is step, refl)
-planted-then names (x ∷ bs) b old mid new is step = (is.0, is.1, planted-then names bs b is.0 mid new is.2 step)
-
-pub planted_more : (names : List ℕ) (bs : List RdBox) (i : ℕ) (d : RdBox) (old mid new : Painter) → i < length bs → ArePlanted names (take i bs) old mid → IsPlanted names (get_or bs i d) mid new
-    → ArePlanted names (take (i + 1) bs) old new
-planted_more names bs i d old mid new h is step =
-    subst (λ z. ArePlanted names z old new) (sym (take_more bs i d h)) (planted-then names (take i bs) (get_or bs i d) old mid new is step)
-
 -- the box at a place is refused
-pub refused_at : (names : List ℕ) (bs : List RdBox) (i : ℕ) (d : RdBox) (n : ℕ) (old mid : Painter) → i < length bs → ArePlanted names (take i bs) old mid → IsUnplanted names (get_or bs i d) n mid
+pub refused_at : (names : List ℕ) (bs : List RdBox) (i : ℕ) (d : RdBox) (n : ℕ) (old mid : Painter) → i < length bs → AreDone (IsPlanting names) (take i bs) old mid → RefusedBy (IsPlanting names (get_or bs i d)) n mid
     → IsRefusedAmong names bs n old
 refused_at names bs i d n old mid h is refused = record {
   count = i;
   mid = mid;
   planted = is;
-  refused = subst (λ z. IsFirstUnplanted names z n mid) (sym (drop-cons bs i d h)) refused;
+  refused = first_from (λ b. RefusedBy (IsPlanting names b) n mid) bs i d h refused;
 }
 
 pub unbuilt : (w h : ℤ) (names : List ℕ) (boxes : List RdBox) (root : RdBox) (others : List RdBox) (begun : Painter) (n : ℕ) → boxes ≡ root ∷ others → IsRootOf w h names root begun → IsRefusedAmong names others n begun
     → IsUnbuilt w h names boxes n
 unbuilt w h names boxes root others begun n are rooted refused = record { root = root; others = others; begun = begun; are = are; rooted = rooted; refused = refused }
 
-pub built : (w h : ℤ) (names : List ℕ) (boxes : List RdBox) (root : RdBox) (others : List RdBox) (begun p : Painter) → boxes ≡ root ∷ others → IsRootOf w h names root begun → ArePlanted names others begun p
+pub built : (w h : ℤ) (names : List ℕ) (boxes : List RdBox) (root : RdBox) (others : List RdBox) (begun p : Painter) → boxes ≡ root ∷ others → IsRootOf w h names root begun → AreDone (IsPlanting names) others begun p
     → IsBuilt w h names boxes p
 built w h names boxes root others begun p are rooted planted = record { root = root; others = others; begun = begun; are = are; rooted = rooted; planted = planted }
 

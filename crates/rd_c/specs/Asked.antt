@@ -2,8 +2,9 @@
 use Rattle.std.specs.Prelude.{◌≡◌, ℕ, List, [], ◌∷◌, Option, Some, None}
 use Rattle.rd_edits.specs.declared.edit.Edit.{Edit}
 use Rattle.rd_edits.specs.declared.edit.Edit.TheVariants.{Insert, Remove, Move, SetStyle, SetRect, Shift, Scroll}
-use Rattle.rd_c.specs.Held.{OnHeld, Holds, IsDone, IsRefusedBy}
+use Rattle.rd_c.specs.Held.{IsDone, IsRefusedBy}
 use Rattle.rd_c.specs.Spelled.{IsStyle, IsChange, rectangle_of}
+use Rattle.rd_c.specs.Turns.{InTurn, IsFirst}
 use Rattle.rd_c.specs.declared.painter.Painter.{Painter}
 use Rattle.rd_c.specs.declared.values.RdRect.{RdRect}
 use Rattle.rd_c.specs.declared.values.RdStyle.{RdStyle}
@@ -34,14 +35,22 @@ IsStyling name look names (SetRect i r) = ⊥
 IsStyling name look names (Shift i dx dy) = ⊥
 IsStyling name look names (Scroll i x y) = ⊥
 
--- The edit that the arguments spell was done.
-pub record DoneBy (Is : Edit → Type 0) (old new : Option Painter) : Type 0 where
+-- An edit of which this holds was done.
+pub record DoneBy (Is : Edit → Type 0) (old new : Painter) : Type 0 where
   pub edit : Edit
   pub is : Is edit
-  pub done : OnHeld (IsDone edit) old new
+  pub done : IsDone edit old new
 
--- The edit that the arguments spell was refused, by a fault with this number.
-pub record RefusedBy (Is : Edit → Type 0) (n : ℕ) (held : Option Painter) : Type 0 where
+-- An edit of which this holds is refused, by a fault with this number.
+pub record RefusedBy (Is : Edit → Type 0) (n : ℕ) (p : Painter) : Type 0 where
   pub edit : Edit
   pub is : Is edit
-  pub refused : Holds (IsRefusedBy n edit) held
+  pub refused : IsRefusedBy n edit p
+
+-- Each of these spells an edit, and they were done one after another.
+abbrev pub AreDone : {X : Type 0} → (X → Edit → Type 0) → List X → Painter → Painter → Type 0
+AreDone Spells xs old new = InTurn (λ x. DoneBy (Spells x)) xs old new
+
+-- The first of these spells an edit, which is refused, by a fault with this number.
+abbrev pub IsFirstRefused : {X : Type 0} → (X → Edit → Type 0) → List X → ℕ → Painter → Type 0
+IsFirstRefused Spells xs n p = IsFirst (λ x. RefusedBy (Spells x) n p) xs

@@ -3,11 +3,9 @@ use Rattle.std.specs.Prelude.{◌≡◌, ℕ, ◌-◌, ◌≤◌, ◌==◌, nat_
 use Rattle.rd_edits.specs.declared.edit.Edit.{Edit}
 use Rattle.rd_edits.specs.declared.edit.Edit.TheVariants.{Remove, Move, SetRect, Shift, Scroll}
 use Rattle.rd_c.specs.Asked.{IsInsertion, IsStyling, or_none}
-use Rattle.rd_c.specs.Held.{IsDone, IsRefusedBy}
 use Rattle.rd_c.specs.Spelled.{rectangle_of}
 use Rattle.rd_c.specs.declared.batches.RdName.{RdName}
 use Rattle.rd_c.specs.declared.batches.RdEdit.{RdEdit}
-use Rattle.rd_c.specs.declared.painter.Painter.{Painter}
 
 -- the bytes of a text from a place up to but not including another
 abbrev pub part_of : List ℕ → ℕ → ℕ → Option (List ℕ)
@@ -34,25 +32,3 @@ pub record Spells (texts : List ℕ) (e : RdEdit) (d : Edit) : Type 0 where
   pub places : e.kind ≡ 4 → d ≡ SetRect id (rectangle_of e.place)
   pub shifts : e.kind ≡ 5 → d ≡ Shift id e.dx e.dy
   pub scrolls : e.kind ≡ 6 → d ≡ Scroll id e.dx e.dy
-
--- The edit that the numbers spell was done.
-pub record IsSpelledDone (texts : List ℕ) (e : RdEdit) (old new : Painter) : Type 0 where
-  pub edit : Edit
-  pub spelled : Spells texts e edit
-  pub done : IsDone edit old new
-
--- These edits were done one after another.
-abbrev pub AreDone : List ℕ → List RdEdit → Painter → Painter → Type 0
-AreDone texts [] old new = new ≡ old
-AreDone texts (e ∷ es) old new = (mid : Painter) × IsSpelledDone texts e old mid × AreDone texts es mid new
-
--- The edit that the numbers spell is refused, by a fault with this number.
-pub record IsSpelledRefused (texts : List ℕ) (e : RdEdit) (n : ℕ) (p : Painter) : Type 0 where
-  pub edit : Edit
-  pub spelled : Spells texts e edit
-  pub refused : IsRefusedBy n edit p
-
--- The first of these edits is.
-abbrev pub IsFirstRefused : List ℕ → List RdEdit → ℕ → Painter → Type 0
-IsFirstRefused texts [] n p = ⊥
-IsFirstRefused texts (e ∷ es) n p = IsSpelledRefused texts e n p

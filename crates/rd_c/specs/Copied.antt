@@ -2,8 +2,10 @@
 use Rattle.std.specs.Prelude.{◌≡◌, ℕ, zero, suc, pos, ◌+◌, ◌*◌, ◌+ℤ◌, ◌==◌, ◌&&◌, nat_le, nat_lt, int_le, unsigned_abs, Bool, if◌then◌else◌, List, [], ◌∷◌, ◌++◌, take, drop, length, flat_map}
 use Rattle.rd_geom.specs.Colors.{Premultiplied}
 use Rattle.rd_paint.specs.Pictures.{Picture, span_of}
+use Rattle.rd_c.specs.Numbers.{number_of}
 use Rattle.rd_c.specs.Reading.{room_answer}
 use Rattle.rd_c.specs.declared.painter.Painter.{Painter}
+use Rattle.rd_c.specs.declared.refusal.Refusal.TheVariants.{Value}
 use Rattle.rd_c.specs.declared.values.RdRect.{RdRect}
 
 -- the four bytes of a pixel: red, green, blue and 255, or, where the format is 1, blue, green, red and 255
@@ -38,7 +40,7 @@ bytes_wanted (suc above) stride width = above * stride + width
 -- what a copy answers where there is this room
 abbrev pub copy_answer : RdRect → ℕ → ℕ → Picture → ℕ → ℕ
 copy_answer r format stride c room =
-    if may_copy r format stride c then room_answer (bytes_wanted (unsigned_abs r.h) stride (4 * unsigned_abs r.w)) room else 12
+    if may_copy r format stride c then room_answer (bytes_wanted (unsigned_abs r.h) stride (4 * unsigned_abs r.w)) room else number_of Value
 
 -- The rectangle of the canvas was copied into memory.
 pub record IsCopied (place : RdRect) (format stride : ℕ) (p : Painter) (old new : List ℕ) : Type 0 where

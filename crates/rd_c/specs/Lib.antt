@@ -12,3 +12,6 @@ pub mod Rendered
 pub mod Shown
 pub mod Spans
 pub mod Spelled
+pub mod Tiles
+pub mod Turns
+pub mod Undone

@@ -1,14 +1,14 @@
 -- A scene that is painted once. The form is this project's own choice.
-use Rattle.std.specs.Prelude.{◌≡◌, ℕ, ℤ, pos, ◌*◌, ◌<◌, List, [], ◌∷◌, ◌++◌, length, take, drop, flat_map, Some}
+use Rattle.std.specs.Prelude.{◌≡◌, ℕ, ℤ, pos, ◌*◌, ◌<◌, List, [], ◌∷◌, ◌++◌, length, take, drop, flat_map, Some, None}
 use Rattle.rd_edits.specs.declared.edit.Edit.{Edit}
 use Rattle.rd_list.specs.Lists.{pixel}
 use Rattle.rd_paint.specs.Pictures.{Picture, size_of, pixel_at}
 use Rattle.rd_stack.specs.Fresh.{fresh_list}
 use Rattle.rd_tree.specs.Document.{Document}
-use Rattle.rd_c.specs.Asked.{IsInsertion}
+use Rattle.rd_c.specs.Asked.{IsInsertion, AreDone, IsFirstRefused}
 use Rattle.rd_c.specs.Batched.{part_of}
 use Rattle.rd_c.specs.Copied.{quad}
-use Rattle.rd_c.specs.Held.{IsDone, IsPainted, IsRefusedBy}
+use Rattle.rd_c.specs.Held.{IsPainted}
 use Rattle.rd_c.specs.Made.{IsMade}
 use Rattle.rd_c.specs.declared.painter.Painter.{Painter}
 use Rattle.rd_c.specs.declared.render.RdBox.{RdBox}
@@ -22,40 +22,19 @@ pub record IsPlanting (names : List ℕ) (b : RdBox) (e : Edit) : Type 0 where
   pub below : part_of names b.parent b.parent_end ≡ Some parent
   pub is : IsInsertion name parent [] b.place b.look e
 
--- It was done.
-pub record IsPlanted (names : List ℕ) (b : RdBox) (old new : Painter) : Type 0 where
-  pub edit : Edit
-  pub is : IsPlanting names b edit
-  pub done : IsDone edit old new
-
--- It was done of these boxes, one after another.
-abbrev pub ArePlanted : List ℕ → List RdBox → Painter → Painter → Type 0
-ArePlanted names [] old new = new ≡ old
-ArePlanted names (b ∷ bs) old new = (mid : Painter) × IsPlanted names b old mid × ArePlanted names bs mid new
-
--- It was refused, by a fault with this number.
-pub record IsUnplanted (names : List ℕ) (b : RdBox) (n : ℕ) (p : Painter) : Type 0 where
-  pub edit : Edit
-  pub is : IsPlanting names b edit
-  pub refused : IsRefusedBy n edit p
-
--- It was of the first of these boxes.
-abbrev pub IsFirstUnplanted : List ℕ → List RdBox → ℕ → Painter → Type 0
-IsFirstUnplanted names [] n p = ⊥
-IsFirstUnplanted names (b ∷ bs) n p = IsUnplanted names b n p
-
--- It was done of the first of these boxes, so many of them, and refused of the next.
+-- The first of these boxes were inserted, so many of them, and the next is refused, by a fault with this number.
 pub record IsRefusedAmong (names : List ℕ) (bs : List RdBox) (n : ℕ) (old : Painter) : Type 0 where
   pub count : ℕ
   pub mid : Painter
-  pub planted : ArePlanted names (take count bs) old mid
-  pub refused : IsFirstUnplanted names (drop count bs) n mid
+  pub planted : AreDone (IsPlanting names) (take count bs) old mid
+  pub refused : IsFirstRefused (IsPlanting names) (drop count bs) n mid
 
--- an engine of a canvas of this size with the box as its root
+-- an engine of a canvas of this size with the box as its root, which keeps nothing that undoes edits
 pub record IsRootOf (w h : ℤ) (names : List ℕ) (b : RdBox) (p : Painter) : Type 0 where
   pub name : List ℕ
   pub named : part_of names b.name b.name_end ≡ Some name
   pub made : IsMade w h name b.place b.look p.engine
+  pub keeps : p.undo ≡ None
 
 -- an engine of these boxes, of which the first is the root
 pub record IsBuilt (w h : ℤ) (names : List ℕ) (boxes : List RdBox) (p : Painter) : Type 0 where
@@ -64,7 +43,7 @@ pub record IsBuilt (w h : ℤ) (names : List ℕ) (boxes : List RdBox) (p : Pain
   pub begun : Painter
   pub are : boxes ≡ root ∷ others
   pub rooted : IsRootOf w h names root begun
-  pub planted : ArePlanted names others begun p
+  pub planted : AreDone (IsPlanting names) others begun p
 
 -- One of these boxes is refused, by a fault with this number, after those before it.
 pub record IsUnbuilt (w h : ℤ) (names : List ℕ) (boxes : List RdBox) (n : ℕ) : Type 0 where

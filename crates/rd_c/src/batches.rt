@@ -2,9 +2,11 @@
 
 ghost use Rattle.std.specs.Prelude.{◌≡◌, ◌<◌, IfOk, None, Some, drop, length, take};
 ghost use Rattle.rd_c.specs.Batched as spelled;
-ghost use Rattle.rd_c.specs.Batched.{AreDone, IsFirstRefused, IsSpelledDone, IsSpelledRefused, Spells};
+ghost use Rattle.rd_c.specs.Asked.{AreDone, DoneBy, IsFirstRefused, RefusedBy};
+ghost use Rattle.rd_c.specs.Batched.{Spells};
 ghost use Rattle.rd_c.specs.Handles.{IsHeld, IsSound};
 ghost use Rattle.rd_c.specs.Held.{OnHeld, Holds};
+ghost use Rattle.rd_c.specs.Numbers.{number_of};
 
 use crate::edits::{insertion, moving, placing, removal, scrolling, shifting, styling};
 use crate::handle::RdEngine;
@@ -88,24 +90,24 @@ fn edit_of(alloc: Global, texts: &[u8], numbers: &RdEdit) -> Result<Edit, Refusa
 
 impl Painter {
     /// Does one of them, and answers 0 or the number of why not.
-    #[tactic(auto, using(crate::proofs::Batching::spelled))]
+    #[tactic(auto, using(crate::proofs::Asking::spelled))]
     fn edit_spelled(&mut self, alloc: Global, texts: &[u8], numbers: &RdEdit) -> u32
-        ensures done { result ≡ 0 → IsSpelledDone texts.now numbers.now self.old self.new }
+        ensures done { result ≡ 0 → DoneBy (Spells texts.now numbers.now) self.old self.new }
         ensures kept { 0 < result → self.new ≡ self.old }
-        ensures refused { 0 < result → result < 9 → IsSpelledRefused texts.now numbers.now result self.old }
+        ensures refused { 0 < result → result < 9 → RefusedBy (Spells texts.now numbers.now) result self.old }
     {
         match edit_of(alloc, texts, numbers) {
-            Ok(edit) => self.edit(&edit),
+            Ok(edit) => self.edit(alloc, &edit),
             Err(refusal) => refusal.number(),
         }
     }
 
     /// Does them in order, up to the first that is refused.
     fn edit_all(&mut self, alloc: Global, texts: &[u8], edits: &[RdEdit], done: &mut usize) -> u32
-        ensures order { AreDone texts.now (take done.new edits.now) self.old self.new }
+        ensures order { AreDone (Spells texts.now) (take done.new edits.now) self.old self.new }
         ensures all { result ≡ 0 → done.new ≡ length edits.now }
         ensures stopped { 0 < result → done.new < length edits.now }
-        ensures refused { 0 < result → result < 9 → IsFirstRefused texts.now (drop done.new edits.now) result self.new }
+        ensures refused { 0 < result → result < 9 → IsFirstRefused (Spells texts.now) (drop done.new edits.now) result self.new }
     {
         for (i, numbers) in edits.iter().enumerate() {
             let number = self.edit_spelled(alloc, texts, numbers);
@@ -131,11 +133,11 @@ pub extern "C" fn rd_c_edits(
 ) -> u32
     requires { IsSound handle.old.held.value handle.old.full }
     ensures sound { IsSound handle.new.held.value handle.new.full }
-    ensures order { IsHeld handle.old.held.value → OnHeld (AreDone texts.now (take done.new edits.now)) handle.old.held.value handle.new.held.value }
+    ensures order { IsHeld handle.old.held.value → OnHeld (AreDone (Spells texts.now) (take done.new edits.now)) handle.old.held.value handle.new.held.value }
     ensures all { result ≡ 0 → done.new ≡ length edits.now }
     ensures stopped { 0 < result → IsHeld handle.old.held.value → done.new < length edits.now }
-    ensures refused { 0 < result → result < 9 → Holds (IsFirstRefused texts.now (drop done.new edits.now) result) handle.new.held.value }
-    ensures none { handle.old.held.value ≡ None → result ≡ 13 }
+    ensures refused { 0 < result → result < 9 → Holds (IsFirstRefused (Spells texts.now) (drop done.new edits.now) result) handle.new.held.value }
+    ensures none { handle.old.held.value ≡ None → result ≡ number_of Refusal.NoEngine }
 {
     let Some(mut painter) = handle.take(alloc) else {
         *done = 0;

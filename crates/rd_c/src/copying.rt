@@ -5,6 +5,7 @@ ghost use Rattle.rd_paint.specs.Pictures.{span_of};
 ghost use Rattle.rd_c.specs.Copied.{IsCopied, bytes_wanted, copied, copy_answer, lies_on, put_at, quad};
 ghost use Rattle.rd_c.specs.Handles.{IsSound};
 ghost use Rattle.rd_c.specs.Held.{Holds};
+ghost use Rattle.rd_c.specs.Numbers.{number_of};
 ghost use Rattle.rd_c.specs.Reading.{status_of};
 
 use crate::handle::RdEngine;
@@ -178,7 +179,7 @@ pub extern "C" fn rd_c_copy(
     ensures copied { result ≡ 0 → Holds (λ p. IsCopied place.now format stride p out.old out.new) handle.old.held.value }
     ensures kept { 0 < result → out.new ≡ out.old }
     ensures answer { IfSome handle.old.held.value (λ p. result ≡ copy_answer place.now format stride p.engine.canvas (length out.old)) }
-    ensures none { handle.old.held.value ≡ None → result ≡ 13 }
+    ensures none { handle.old.held.value ≡ None → result ≡ number_of Refusal.NoEngine }
 {
     let Some(painter) = handle.take(alloc) else {
         return Refusal::NoEngine.number();

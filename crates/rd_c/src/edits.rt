@@ -4,7 +4,8 @@ ghost use Rattle.std.specs.Prelude.{◌≡◌, ◌<◌, IfOk, IsOkAnd, None};
 ghost use Rattle.rd_edits.specs.declared.edit.Edit.TheVariants as edits;
 ghost use Rattle.rd_c.specs.Asked.{DoneBy, RefusedBy, IsInsertion, IsStyling, or_none};
 ghost use Rattle.rd_c.specs.Handles.{IsSound};
-ghost use Rattle.rd_c.specs.Held.{OnHeld, Holds, IsDone, IsRefusedBy};
+ghost use Rattle.rd_c.specs.Held.{OnHeld, Holds, IsChanged, IsDone, IsRefusedBy};
+ghost use Rattle.rd_c.specs.Numbers.{number_of};
 ghost use Rattle.rd_c.specs.Spelled.{rectangle_of};
 
 use crate::handle::RdEngine;
@@ -100,17 +101,33 @@ pub(crate) fn scrolling(alloc: Global, name: &[u8], x: i32, y: i32) -> Result<Ed
 }
 
 impl Painter {
-    /// Does the edit, or answers the number of the fault that refuses it, and then nothing has changed.
-    #[tactic(auto, using(crate::proofs::Asking::refused_at))]
-    pub(crate) fn edit(&mut self, edit: &Edit) -> u32
+    /// Does the edit, or answers the number of the fault that refuses it, and then nothing has changed. What undoes it is not kept.
+    #[tactic(auto, using(crate::proofs::Back::refused_at))]
+    pub(crate) fn change(&mut self, edit: &Edit) -> u32
+        ensures done { result ≡ 0 → IsChanged edit.now self.old.engine self.new.engine }
+        ensures undo { self.new.undo ≡ self.old.undo }
+        ensures kept { 0 < result → self.new ≡ self.old }
+        ensures refused { 0 < result → IsRefusedBy result edit.now self.old }
+    {
+        let _before = self.engine.tree().root();
+        let done = self.engine.edit(edit);
+        let _after = self.engine.tree().root();
+        match done {
+            Ok(()) => 0,
+            Err(fault) => of_edit(fault),
+        }
+    }
+
+    /// The same; what undoes it is kept, where that is kept of edits.
+    pub(crate) fn edit(&mut self, alloc: Global, edit: &Edit) -> u32
         ensures done { result ≡ 0 → IsDone edit.now self.old self.new }
         ensures kept { 0 < result → self.new ≡ self.old }
         ensures refused { 0 < result → IsRefusedBy result edit.now self.old }
     {
-        match self.engine.edit(edit) {
-            Ok(()) => 0,
-            Err(fault) => of_edit(fault),
+        if self.undo.is_some() {
+            return self.edit_noted(alloc, edit);
         }
+        self.change(edit)
     }
 }
 
@@ -121,13 +138,13 @@ fn edited(handle: &mut RdEngine, alloc: Global, edit: Result<Edit, Refusal>) -> 
     ensures done { result ≡ 0 → IsOkAnd edit (λ e. OnHeld (IsDone e) handle.old.held.value handle.new.held.value) }
     ensures kept { 0 < result → handle.new.held.value ≡ handle.old.held.value }
     ensures refused { 0 < result → result < 9 → IsOkAnd edit (λ e. Holds (IsRefusedBy result e) handle.old.held.value) }
-    ensures none { handle.old.held.value ≡ None → result ≡ 13 }
+    ensures none { handle.old.held.value ≡ None → result ≡ number_of Refusal.NoEngine }
 {
     let Some(mut painter) = handle.take(alloc) else {
         return Refusal::NoEngine.number();
     };
     let number = match edit {
-        Ok(edit) => painter.edit(&edit),
+        Ok(edit) => painter.edit(alloc, &edit),
         Err(refusal) => refusal.number(),
     };
     handle.put(painter);
@@ -148,10 +165,10 @@ pub extern "C" fn rd_c_insert(
 ) -> u32
     requires { IsSound handle.old.held.value handle.old.full }
     ensures sound { IsSound handle.new.held.value handle.new.full }
-    ensures done { result ≡ 0 → DoneBy (IsInsertion name.now parent.now before.now place.now look.now) handle.old.held.value handle.new.held.value }
+    ensures done { result ≡ 0 → OnHeld (DoneBy (IsInsertion name.now parent.now before.now place.now look.now)) handle.old.held.value handle.new.held.value }
     ensures kept { 0 < result → handle.new.held.value ≡ handle.old.held.value }
-    ensures refused { 0 < result → result < 9 → RefusedBy (IsInsertion name.now parent.now before.now place.now look.now) result handle.old.held.value }
-    ensures none { handle.old.held.value ≡ None → result ≡ 13 }
+    ensures refused { 0 < result → result < 9 → Holds (RefusedBy (IsInsertion name.now parent.now before.now place.now look.now) result) handle.old.held.value }
+    ensures none { handle.old.held.value ≡ None → result ≡ number_of Refusal.NoEngine }
 {
     edited(
         handle,
@@ -166,10 +183,10 @@ pub extern "C" fn rd_c_insert(
 pub extern "C" fn rd_c_remove(handle: &mut RdEngine, alloc: Global, name: &[u8]) -> u32
     requires { IsSound handle.old.held.value handle.old.full }
     ensures sound { IsSound handle.new.held.value handle.new.full }
-    ensures done { result ≡ 0 → DoneBy (λ e. e ≡ edits.Remove name.now) handle.old.held.value handle.new.held.value }
+    ensures done { result ≡ 0 → OnHeld (DoneBy (λ e. e ≡ edits.Remove name.now)) handle.old.held.value handle.new.held.value }
     ensures kept { 0 < result → handle.new.held.value ≡ handle.old.held.value }
-    ensures refused { 0 < result → result < 9 → RefusedBy (λ e. e ≡ edits.Remove name.now) result handle.old.held.value }
-    ensures none { handle.old.held.value ≡ None → result ≡ 13 }
+    ensures refused { 0 < result → result < 9 → Holds (RefusedBy (λ e. e ≡ edits.Remove name.now) result) handle.old.held.value }
+    ensures none { handle.old.held.value ≡ None → result ≡ number_of Refusal.NoEngine }
 {
     edited(handle, alloc, removal(alloc, name))
 }
@@ -186,10 +203,10 @@ pub extern "C" fn rd_c_move(
 ) -> u32
     requires { IsSound handle.old.held.value handle.old.full }
     ensures sound { IsSound handle.new.held.value handle.new.full }
-    ensures done { result ≡ 0 → DoneBy (λ e. e ≡ edits.Move name.now parent.now (or_none before.now)) handle.old.held.value handle.new.held.value }
+    ensures done { result ≡ 0 → OnHeld (DoneBy (λ e. e ≡ edits.Move name.now parent.now (or_none before.now))) handle.old.held.value handle.new.held.value }
     ensures kept { 0 < result → handle.new.held.value ≡ handle.old.held.value }
-    ensures refused { 0 < result → result < 9 → RefusedBy (λ e. e ≡ edits.Move name.now parent.now (or_none before.now)) result handle.old.held.value }
-    ensures none { handle.old.held.value ≡ None → result ≡ 13 }
+    ensures refused { 0 < result → result < 9 → Holds (RefusedBy (λ e. e ≡ edits.Move name.now parent.now (or_none before.now)) result) handle.old.held.value }
+    ensures none { handle.old.held.value ≡ None → result ≡ number_of Refusal.NoEngine }
 {
     edited(handle, alloc, moving(alloc, name, parent, before))
 }
@@ -206,10 +223,10 @@ pub extern "C" fn rd_c_set_style(
 ) -> u32
     requires { IsSound handle.old.held.value handle.old.full }
     ensures sound { IsSound handle.new.held.value handle.new.full }
-    ensures done { result ≡ 0 → DoneBy (IsStyling name.now look.now names) handle.old.held.value handle.new.held.value }
+    ensures done { result ≡ 0 → OnHeld (DoneBy (IsStyling name.now look.now names)) handle.old.held.value handle.new.held.value }
     ensures kept { 0 < result → handle.new.held.value ≡ handle.old.held.value }
-    ensures refused { 0 < result → result < 9 → RefusedBy (IsStyling name.now look.now names) result handle.old.held.value }
-    ensures none { handle.old.held.value ≡ None → result ≡ 13 }
+    ensures refused { 0 < result → result < 9 → Holds (RefusedBy (IsStyling name.now look.now names) result) handle.old.held.value }
+    ensures none { handle.old.held.value ≡ None → result ≡ number_of Refusal.NoEngine }
 {
     edited(handle, alloc, styling(alloc, name, look, names))
 }
@@ -225,10 +242,10 @@ pub extern "C" fn rd_c_set_rect(
 ) -> u32
     requires { IsSound handle.old.held.value handle.old.full }
     ensures sound { IsSound handle.new.held.value handle.new.full }
-    ensures done { result ≡ 0 → DoneBy (λ e. e ≡ edits.SetRect name.now (rectangle_of place.now)) handle.old.held.value handle.new.held.value }
+    ensures done { result ≡ 0 → OnHeld (DoneBy (λ e. e ≡ edits.SetRect name.now (rectangle_of place.now))) handle.old.held.value handle.new.held.value }
     ensures kept { 0 < result → handle.new.held.value ≡ handle.old.held.value }
-    ensures refused { 0 < result → result < 9 → RefusedBy (λ e. e ≡ edits.SetRect name.now (rectangle_of place.now)) result handle.old.held.value }
-    ensures none { handle.old.held.value ≡ None → result ≡ 13 }
+    ensures refused { 0 < result → result < 9 → Holds (RefusedBy (λ e. e ≡ edits.SetRect name.now (rectangle_of place.now)) result) handle.old.held.value }
+    ensures none { handle.old.held.value ≡ None → result ≡ number_of Refusal.NoEngine }
 {
     edited(handle, alloc, placing(alloc, name, place))
 }
@@ -245,10 +262,10 @@ pub extern "C" fn rd_c_shift(
 ) -> u32
     requires { IsSound handle.old.held.value handle.old.full }
     ensures sound { IsSound handle.new.held.value handle.new.full }
-    ensures done { result ≡ 0 → DoneBy (λ e. e ≡ edits.Shift name.now dx dy) handle.old.held.value handle.new.held.value }
+    ensures done { result ≡ 0 → OnHeld (DoneBy (λ e. e ≡ edits.Shift name.now dx dy)) handle.old.held.value handle.new.held.value }
     ensures kept { 0 < result → handle.new.held.value ≡ handle.old.held.value }
-    ensures refused { 0 < result → result < 9 → RefusedBy (λ e. e ≡ edits.Shift name.now dx dy) result handle.old.held.value }
-    ensures none { handle.old.held.value ≡ None → result ≡ 13 }
+    ensures refused { 0 < result → result < 9 → Holds (RefusedBy (λ e. e ≡ edits.Shift name.now dx dy) result) handle.old.held.value }
+    ensures none { handle.old.held.value ≡ None → result ≡ number_of Refusal.NoEngine }
 {
     edited(handle, alloc, shifting(alloc, name, dx, dy))
 }
@@ -265,10 +282,10 @@ pub extern "C" fn rd_c_scroll(
 ) -> u32
     requires { IsSound handle.old.held.value handle.old.full }
     ensures sound { IsSound handle.new.held.value handle.new.full }
-    ensures done { result ≡ 0 → DoneBy (λ e. e ≡ edits.Scroll name.now x y) handle.old.held.value handle.new.held.value }
+    ensures done { result ≡ 0 → OnHeld (DoneBy (λ e. e ≡ edits.Scroll name.now x y)) handle.old.held.value handle.new.held.value }
     ensures kept { 0 < result → handle.new.held.value ≡ handle.old.held.value }
-    ensures refused { 0 < result → result < 9 → RefusedBy (λ e. e ≡ edits.Scroll name.now x y) result handle.old.held.value }
-    ensures none { handle.old.held.value ≡ None → result ≡ 13 }
+    ensures refused { 0 < result → result < 9 → Holds (RefusedBy (λ e. e ≡ edits.Scroll name.now x y) result) handle.old.held.value }
+    ensures none { handle.old.held.value ≡ None → result ≡ number_of Refusal.NoEngine }
 {
     edited(handle, alloc, scrolling(alloc, name, x, y))
 }

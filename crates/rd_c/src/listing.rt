@@ -7,6 +7,7 @@ ghost use Rattle.rd_c.specs.Held.{Holds};
 ghost use Rattle.rd_c.specs.Listed as told;
 ghost use Rattle.rd_c.specs.Listed.{listed};
 ghost use Rattle.rd_c.specs.Memory.{IsWritten};
+ghost use Rattle.rd_c.specs.Numbers.{number_of};
 ghost use Rattle.rd_c.specs.Reading.{IsAnswer, room_answer, status_of};
 
 use crate::handle::RdEngine;
@@ -39,7 +40,7 @@ pub struct RdEntry {
     pub blend: u8,
 }
 
-fn told_rect(r: Rect) -> RdRect
+pub(crate) fn told_rect(r: Rect) -> RdRect
     ensures { result ≡ told.told_rect r }
 {
     RdRect {
@@ -204,7 +205,7 @@ impl Painter {
         ensures list { OnOk result (IsWritten (listed self.now.engine.kept.entries) out.old out.new count.new) }
         ensures kept { OnErr result (out.new ≡ out.old) }
         ensures answer { IsAnswer (room_answer (length (listed self.now.engine.kept.entries)) (length out.old)) (status_of result) }
-        ensures count { status_of result ≡ 17 → count.new ≡ length (listed self.now.engine.kept.entries) }
+        ensures count { status_of result ≡ number_of Refusal.Short → count.new ≡ length (listed self.now.engine.kept.entries) }
     {
         let Ok(entries) = self.entries(alloc) else {
             return Err(Refusal::NoMemory);
@@ -233,8 +234,8 @@ pub extern "C" fn rd_c_list(
     ensures list { result ≡ 0 → Holds (λ p. IsWritten (listed p.engine.kept.entries) out.old out.new count.new) handle.old.held.value }
     ensures kept { 0 < result → out.new ≡ out.old }
     ensures answer { IfSome handle.old.held.value (λ p. IsAnswer (room_answer (length (listed p.engine.kept.entries)) (length out.old)) result) }
-    ensures count { result ≡ 17 → Holds (λ p. count.new ≡ length (listed p.engine.kept.entries)) handle.old.held.value }
-    ensures none { handle.old.held.value ≡ None → result ≡ 13 }
+    ensures count { result ≡ number_of Refusal.Short → Holds (λ p. count.new ≡ length (listed p.engine.kept.entries)) handle.old.held.value }
+    ensures none { handle.old.held.value ≡ None → result ≡ number_of Refusal.NoEngine }
 {
     let Some(painter) = handle.take(alloc) else {
         return Refusal::NoEngine.number();

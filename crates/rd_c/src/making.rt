@@ -5,6 +5,7 @@ ghost use Rattle.rd_geom.specs.Canvas.{IsCanvas};
 ghost use Rattle.rd_c.specs.Handles.{IsHeld, IsSound};
 ghost use Rattle.rd_c.specs.Held.{Holds};
 ghost use Rattle.rd_c.specs.Made.{IsMade, IsStarted};
+ghost use Rattle.rd_c.specs.Numbers.{number_of};
 ghost use Rattle.rd_style.specs.Limits.{Fits, FitsRect};
 
 use crate::handle::RdEngine;
@@ -83,10 +84,11 @@ fn boxed(
     place: &RdRect,
     look: &RdStyle,
 ) -> Result<Box<Painter, Global>, Refusal>
-    ensures { IfOk result (λ b. IsMade width height root.now place.now look.now b.value.engine) }
+    ensures made { IfOk result (λ b. IsMade width height root.now place.now look.now b.value.engine) }
+    ensures undo { IfOk result (λ b. b.value.undo ≡ None) }
 {
     let engine = begun(alloc, width, height, root, place, look)?;
-    match Box::new(alloc, Painter { engine }) {
+    match Box::new(alloc, Painter { engine, undo: None }) {
         Ok(painter) => Ok(painter),
         Err(_) => Err(Refusal::NoMemory),
     }
@@ -106,8 +108,9 @@ pub extern "C" fn rd_c_new(
     requires { IsSound handle.old.held.value handle.old.full }
     ensures sound { IsSound handle.new.held.value handle.new.full }
     ensures made { result ≡ 0 → Holds (λ p. IsMade width height root.now place.now look.now p.engine) handle.new.held.value }
+    ensures undo { result ≡ 0 → Holds (λ p. p.undo ≡ None) handle.new.held.value }
     ensures kept { 0 < result → handle.new.held.value ≡ handle.old.held.value }
-    ensures in_use { handle.old.full ≡ true → result ≡ 14 }
+    ensures in_use { handle.old.full ≡ true → result ≡ number_of Refusal.InUse }
 {
     if handle.full {
         return Refusal::InUse.number();
@@ -127,7 +130,7 @@ pub extern "C" fn rd_c_free(handle: &mut RdEngine, alloc: Global) -> u32
     requires { IsSound handle.old.held.value handle.old.full }
     ensures sound { IsSound handle.new.held.value handle.new.full }
     ensures freed { handle.new.held.value ≡ None }
-    ensures none { handle.old.held.value ≡ None → result ≡ 13 }
+    ensures none { handle.old.held.value ≡ None → result ≡ number_of Refusal.NoEngine }
     ensures done { IsHeld handle.old.held.value → result ≡ 0 }
 {
     match handle.take(alloc) {

@@ -3,6 +3,7 @@
 ghost use Rattle.std.specs.Prelude.{◌≡◌, ◌<◌, ◌≤◌, ◌++◌, IfOk, IfSome, OnOk, OnErr, None, length, map};
 ghost use Rattle.rd_c.specs.Handles.{IsSound};
 ghost use Rattle.rd_c.specs.Held.{OnHeld, Holds, IsPainted};
+ghost use Rattle.rd_c.specs.Numbers.{number_of};
 ghost use Rattle.rd_c.specs.Reading.{IsAnswer, paint_answer, spans_answer, status_of};
 ghost use Rattle.rd_c.specs.Spans.{AreSpans, told_rows, told_span};
 
@@ -52,7 +53,7 @@ impl Painter {
         ensures spans { OnOk result (AreSpans self.now out.old out.new count.new) }
         ensures kept { OnErr result (out.new ≡ out.old) }
         ensures answer { IsAnswer (spans_answer self.now.engine.area self.now.engine.canvas.height (length out.old)) (status_of result) }
-        ensures count { status_of result ≡ 17 → IfSome self.now.engine.area (λ a. count.new ≡ length (told_rows a self.now.engine.canvas.height)) }
+        ensures count { status_of result ≡ number_of Refusal.Short → IfSome self.now.engine.area (λ a. count.new ≡ length (told_rows a self.now.engine.canvas.height)) }
     {
         let Some(area) = self.engine.last_area() else {
             return Err(Refusal::Nothing);
@@ -114,7 +115,7 @@ pub extern "C" fn rd_c_paint(handle: &mut RdEngine, alloc: Global, note: &mut Rd
     ensures done { result ≡ 0 → OnHeld (IsPainted note.new) handle.old.held.value handle.new.held.value }
     ensures kept { 0 < result → handle.new.held.value ≡ handle.old.held.value }
     ensures answer { IfSome handle.old.held.value (λ p. IsAnswer (paint_answer p.engine.paints) result) }
-    ensures none { handle.old.held.value ≡ None → result ≡ 13 }
+    ensures none { handle.old.held.value ≡ None → result ≡ number_of Refusal.NoEngine }
 {
     let Some(mut painter) = handle.take(alloc) else {
         return Refusal::NoEngine.number();
@@ -139,8 +140,8 @@ pub extern "C" fn rd_c_spans(
     ensures spans { result ≡ 0 → Holds (λ p. AreSpans p out.old out.new count.new) handle.old.held.value }
     ensures kept { 0 < result → out.new ≡ out.old }
     ensures answer { IfSome handle.old.held.value (λ p. IsAnswer (spans_answer p.engine.area p.engine.canvas.height (length out.old)) result) }
-    ensures count { result ≡ 17 → Holds (λ p. IfSome p.engine.area (λ a. count.new ≡ length (told_rows a p.engine.canvas.height))) handle.old.held.value }
-    ensures none { handle.old.held.value ≡ None → result ≡ 13 }
+    ensures count { result ≡ number_of Refusal.Short → Holds (λ p. IfSome p.engine.area (λ a. count.new ≡ length (told_rows a p.engine.canvas.height))) handle.old.held.value }
+    ensures none { handle.old.held.value ≡ None → result ≡ number_of Refusal.NoEngine }
 {
     let Some(painter) = handle.take(alloc) else {
         return Refusal::NoEngine.number();

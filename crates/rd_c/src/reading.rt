@@ -6,6 +6,7 @@ ghost use Rattle.rd_tree.specs.Document.{id_of};
 ghost use Rattle.rd_c.specs.Handles.{IsSound};
 ghost use Rattle.rd_c.specs.Held.{Holds};
 ghost use Rattle.rd_c.specs.Memory.{IsWritten};
+ghost use Rattle.rd_c.specs.Numbers.{number_of};
 ghost use Rattle.rd_c.specs.Reading.{IsTextWritten, room_answer, settled_answer, status_of, text_answer, value_answer};
 ghost use Rattle.rd_c.specs.Shown.{box_key, hit_id};
 ghost use Rattle.rd_c.specs.Spelled.{color_of};
@@ -99,7 +100,7 @@ pub extern "C" fn rd_c_pixel(
     ensures pixel { result ≡ 0 → Holds (λ p. shown_at p.engine.tree x y ≡ Some (color_of out.new)) handle.old.held.value }
     ensures kept { 0 < result → out.new ≡ out.old }
     ensures answer { IfSome handle.old.held.value (λ p. result ≡ value_answer p.engine.pending (shown_at p.engine.tree x y)) }
-    ensures none { handle.old.held.value ≡ None → result ≡ 13 }
+    ensures none { handle.old.held.value ≡ None → result ≡ number_of Refusal.NoEngine }
 {
     let Some(painter) = handle.take(alloc) else {
         return Refusal::NoEngine.number();
@@ -125,7 +126,7 @@ pub extern "C" fn rd_c_hit(
     ensures hit { result ≡ 0 → Holds (λ p. IsTextWritten (hit_id p.engine.tree x y) out.old out.new length.new) handle.old.held.value }
     ensures kept { 0 < result → out.new ≡ out.old }
     ensures answer { IfSome handle.old.held.value (λ p. result ≡ settled_answer p.engine.pending (hit_id p.engine.tree x y) (size out.old)) }
-    ensures none { handle.old.held.value ≡ None → result ≡ 13 }
+    ensures none { handle.old.held.value ≡ None → result ≡ number_of Refusal.NoEngine }
 {
     let Some(painter) = handle.take(alloc) else {
         return Refusal::NoEngine.number();
@@ -151,7 +152,7 @@ pub extern "C" fn rd_c_id(
     ensures id { result ≡ 0 → Holds (λ p. IsTextWritten (id_of (box_key slot generation) p.engine.tree.boxes) out.old out.new length.new) handle.old.held.value }
     ensures kept { 0 < result → out.new ≡ out.old }
     ensures answer { IfSome handle.old.held.value (λ p. result ≡ text_answer (id_of (box_key slot generation) p.engine.tree.boxes) (size out.old)) }
-    ensures none { handle.old.held.value ≡ None → result ≡ 13 }
+    ensures none { handle.old.held.value ≡ None → result ≡ number_of Refusal.NoEngine }
 {
     let Some(painter) = handle.take(alloc) else {
         return Refusal::NoEngine.number();

@@ -1,7 +1,8 @@
 //! A scene that is painted once, in one call.
 
 ghost use Rattle.std.specs.Prelude.{◌≡◌, ◌<◌, IfOk, IfErr, OnOk, OnErr};
-ghost use Rattle.rd_c.specs.Rendered.{ArePlanted, IsBuilt, IsPlanted, IsPlanting, IsRefusedAmong, IsRendered, IsRootOf, IsShown, IsUnbuilt, IsUnplanted};
+ghost use Rattle.rd_c.specs.Asked.{AreDone, DoneBy, RefusedBy};
+ghost use Rattle.rd_c.specs.Rendered.{IsBuilt, IsPlanting, IsRefusedAmong, IsRendered, IsRootOf, IsShown, IsUnbuilt};
 
 use crate::batches::part;
 use crate::copying::put_all;
@@ -48,26 +49,26 @@ fn rooted(
 {
     let name = part(names, root.name, root.name_end)?;
     let engine = begun(alloc, width, height, name, &root.place, &root.look)?;
-    Ok(Painter { engine })
+    Ok(Painter { engine, undo: None })
 }
 
 impl Painter {
     /// Inserts the box, and answers 0 or the number of why not.
-    #[tactic(auto, using(crate::proofs::Rendering::plantings))]
+    #[tactic(auto, using(crate::proofs::Asking::spelled))]
     fn plant(&mut self, alloc: Global, names: &[u8], child: &RdBox) -> u32
-        ensures done { result ≡ 0 → IsPlanted names.now child.now self.old self.new }
+        ensures done { result ≡ 0 → DoneBy (IsPlanting names.now child.now) self.old self.new }
         ensures kept { 0 < result → self.new ≡ self.old }
-        ensures refused { 0 < result → result < 9 → IsUnplanted names.now child.now result self.old }
+        ensures refused { 0 < result → result < 9 → RefusedBy (IsPlanting names.now child.now) result self.old }
     {
         match planting(alloc, names, child) {
-            Ok(edit) => self.edit(&edit),
+            Ok(edit) => self.edit(alloc, &edit),
             Err(refusal) => refusal.number(),
         }
     }
 
     /// Inserts the boxes in order, up to the first that is refused.
     fn plant_all(&mut self, alloc: Global, names: &[u8], boxes: &[RdBox]) -> u32
-        ensures done { result ≡ 0 → ArePlanted names.now boxes.now self.old self.new }
+        ensures done { result ≡ 0 → AreDone (IsPlanting names.now) boxes.now self.old self.new }
         ensures refused { 0 < result → result < 9 → IsRefusedAmong names.now boxes.now result self.old }
     {
         for child in boxes {
