@@ -5,7 +5,7 @@ ghost use Rattle.rd_graph.specs.Runs.{RunsRise, places_aside, woven};
 ghost use Rattle.rd_graph.specs.Internal.InPlace as spec;
 ghost use Rattle.rd_graph.specs.Internal.InPlace.{AreWhole, StayersRise, coming, count_coming, count_staying, staying};
 
-use crate::lining_up::{move_run, pass_over};
+use crate::lining_up::{move_from, move_run};
 use crate::runs::Run;
 
 /// Does a run over so many old elements have such elements, which stay?
@@ -115,9 +115,7 @@ fn put_at_end<T: Drop>(elements: &mut Vec<T>, old: usize, made: Vec<T>, aside: V
             continue;
         }
         let place = run.from - old;
-        pass_over(&mut made_rest, place - next_made);
-        move_run(&mut made_rest, run.count, elements);
-        next_made = place + run.count;
+        next_made = move_from(&mut made_rest, next_made, place, run.count, elements);
     }
 }
 

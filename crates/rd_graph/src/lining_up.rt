@@ -1,5 +1,5 @@
 //! Lines in which the runs of old elements rise, and those of made ones: both are taken in one pass, and nothing takes memory.
-ghost use Rattle.std.specs.Prelude.{◌≡◌, ◌<◌, ◌≤◌, ◌+◌, ◌-◌, ◌++◌, true, take, drop, vec_len, vec_capacity, length};
+ghost use Rattle.std.specs.Prelude.{◌≡◌, ◌<◌, ◌≤◌, ◌+◌, ◌-◌, ◌^◌, ◌++◌, true, take, drop, vec_len, vec_capacity, length};
 ghost use Rattle.std.specs.Vec.Iter.{into_iter_items};
 ghost use Rattle.rd_graph.specs.Runs.{RunsRise, places_aside, places_of, up_from, woven};
 
@@ -51,7 +51,7 @@ pub(crate) fn has_room_aside<T>(runs: &[Run], aside: &Vec<T>) -> bool
 }
 
 /// Drops the next so many elements.
-pub(crate) fn pass_over<T: Drop>(rest: &mut IntoIter<T, Global>, passed: usize)
+fn pass_over<T: Drop>(rest: &mut IntoIter<T, Global>, passed: usize)
     ensures { into_iter_items rest.new ≡ drop passed (into_iter_items rest.old) }
 {
     for _ in 0..passed {
@@ -89,6 +89,30 @@ pub(crate) fn move_run<T: Drop>(rest: &mut IntoIter<T, Global>, count: usize, ro
     }
 }
 
+/// Drops the elements from the next one, at a place, up to one at another place, and moves so many from there on to the end of
+/// `room`, which has capacity for them. Says at which place the next one is then.
+pub(crate) fn move_from<T: Drop>(
+    rest: &mut IntoIter<T, Global>,
+    next: usize,
+    place: usize,
+    count: usize,
+    room: &mut Vec<T>,
+) -> usize
+    requires next { next ≤ place }
+    requires rest { place - next + count ≤ length (into_iter_items rest.old) }
+    requires room { vec_len room.old + count ≤ vec_capacity room.old }
+    requires fits { place + count < 2 ^ 64 }
+    ensures next { result ≡ place + count }
+    ensures left { into_iter_items rest.new ≡ drop count (drop (place - next) (into_iter_items rest.old)) }
+    ensures moved { room.new.items ≡ room.old.items ++ take count (drop (place - next) (into_iter_items rest.old)) }
+    ensures len { vec_len room.new ≡ vec_len room.old + count }
+    ensures room { vec_capacity room.old ≤ vec_capacity room.new }
+{
+    pass_over(rest, place - next);
+    move_run(rest, count, room);
+    place + count
+}
+
 /// Moves old and made elements, each in rising order, and those that are set aside in theirs, to the end of `room`, which
 /// has capacity for them.
 pub(crate) fn gather_rising<T: Drop>(
@@ -115,14 +139,10 @@ pub(crate) fn gather_rising<T: Drop>(
             continue;
         }
         if run.from < end {
-            pass_over(&mut old_rest, run.from - next_old);
-            move_run(&mut old_rest, run.count, room);
-            next_old = run.from + run.count;
+            next_old = move_from(&mut old_rest, next_old, run.from, run.count, room);
             continue;
         }
         let place = run.from - end;
-        pass_over(&mut made_rest, place - next_made);
-        move_run(&mut made_rest, run.count, room);
-        next_made = place + run.count;
+        next_made = move_from(&mut made_rest, next_made, place, run.count, room);
     }
 }
