@@ -162,16 +162,22 @@ abbrev pub style_names : Version → List (List ℕ)
 style_names One = first_names
 style_names Two = first_names ++ codes "mix-blend-mode" ∷ codes "isolation" ∷ []
 
--- a style object names members, of which each may be absent
-unfoldable pub change_of : Version → Data → Checked Why StyleChange
-change_of version d = members d >>= λ ms.
-    good (λ _ c p v h b. joined c p v h b)
-    ⊛ known (style_names version) ms
+-- what a style object gives its members, of which each may be absent
+unfoldable pub given_of : Version → Data → Checked Why StyleChange
+given_of version d =
+    good joined
     ⊛ placing_of d
     ⊛ painting_of d
     ⊛ if_given visibility_of (codes "visibility") d
     ⊛ if_given pointer_of (codes "pointer-events") d
     ⊛ blending_of version d
+
+-- a style object names these members and no others
+unfoldable pub change_of : Version → Data → Checked Why StyleChange
+change_of version d = members d >>= λ ms.
+    good (λ _ c. c)
+    ⊛ known (style_names version) ms
+    ⊛ given_of version d
 
 -- the style of a box has the default where a member is absent
 abbrev pub style_of : Version → Data → Checked Why Style

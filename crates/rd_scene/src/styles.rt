@@ -269,8 +269,23 @@ fn style_known(version: Version, members: &Map<String, Value>) -> Result<(), Why
     }
 }
 
-/// The members of a style object, of which each may be absent.
-#[tactic(auto, unfolding(crate::specs::Styles::change_of), using(crate::proofs::Limits::joined_fits, crate::proofs::Limits::joined_had))]
+/// What a style object gives its members, of which each may be absent.
+#[tactic(auto, unfolding(crate::specs::Styles::given_of), using(crate::proofs::Limits::joined_fits, crate::proofs::Limits::joined_had))]
+fn given_of(version: Version, v: &Value) -> Result<StyleChange, Why>
+    ensures value { result ≡ (spec.given_of version (view v.now)).first }
+    ensures fits { IfOk result (λ c. Fits (changed plain c)) }
+    ensures had { IfOk result (λ c. HasChange (number_of version) c) }
+{
+    let places = placing_of(v)?;
+    let paints = painting_of(v)?;
+    let visibility = word_at(v, "visibility")?;
+    let pointer = word_at(v, "pointer-events")?;
+    let blends = blending_of(version, v)?;
+    Ok(joined(places, paints, visibility, pointer, blends))
+}
+
+/// The same of a style object that names no other members.
+#[tactic(auto, unfolding(crate::specs::Styles::change_of))]
 pub(crate) fn change_of(version: Version, v: &Value) -> Result<StyleChange, Why>
     ensures value { result ≡ (spec.change_of version (view v.now)).first }
     ensures fits { IfOk result (λ c. Fits (changed plain c)) }
@@ -278,12 +293,7 @@ pub(crate) fn change_of(version: Version, v: &Value) -> Result<StyleChange, Why>
 {
     let members = members(v)?;
     style_known(version, members)?;
-    let places = placing_of(v)?;
-    let paints = painting_of(v)?;
-    let visibility = word_at(v, "visibility")?;
-    let pointer = word_at(v, "pointer-events")?;
-    let blends = blending_of(version, v)?;
-    Ok(joined(places, paints, visibility, pointer, blends))
+    given_of(version, v)
 }
 
 #[tactic(auto, using(crate::proofs::Limits::changed_had))]

@@ -37,7 +37,7 @@ use Rattle.rd_scene.specs.Colors.{color_of, content_of}
 use Rattle.rd_scene.specs.Differing.{position_unless, overflow_unless, display_unless, float_unless, visibility_unless, pointer_unless, blend_unless, isolation_unless, number_unless, color_unless, sides_unless, differing}
 use Rattle.rd_scene.specs.Members.{holds, known, optional, if_given}
 use Rattle.rd_scene.specs.Rects.{sides_of, outline_width_of}
-use Rattle.rd_scene.specs.Styles.{position_of, z_of, opacity_of, overflow_of, display_of, float_of, visibility_of, pointer_of, blend_of, isolation_of, placing, painting, blending, joined, placing_of, painting_of, blending_of, style_names, change_of, style_of}
+use Rattle.rd_scene.specs.Styles.{position_of, z_of, opacity_of, overflow_of, display_of, float_of, visibility_of, pointer_of, blend_of, isolation_of, placing, painting, blending, joined, placing_of, painting_of, blending_of, style_names, given_of, change_of, style_of}
 use Rattle.rd_scene.specs.Versions.{number_of, HasStyle, HasChange}
 use Rattle.rd_scene.specs.Writing.{z_value, color_value, content_value, sides_value, position_word, overflow_word, display_word, float_word, visibility_word, pointer_word, blend_word, isolation_word, with_placing, with_painting, with_blending, change_value, style_value}
 use Rattle.rd_scene.specs.Internal.Widths.{AreWidths}
@@ -233,16 +233,21 @@ joined_read : (c : StyleChange) → joined (placing c.position c.z c.opacity c.o
 unfolding joined placing painting blending
 joined_read c = refl
 
-object_read : (version : Version) (c : StyleChange) → Named c → HasChange (number_of version) c
-    → change_of version (style_object c) ≡ good c
-unfolding change_of style_object
-object_read version c n h =
-    (start (λ _ c p v h b. joined c p v h b) ⊗ names_read version c h ⊗ placing_read c n ⊗ painting_read c n
+members_read : (version : Version) (c : StyleChange) → Named c → HasChange (number_of version) c
+    → given_of version (style_object c) ≡ good c
+unfolding given_of style_object
+members_read version c n h =
+    (start joined ⊗ placing_read c n ⊗ painting_read c n
     ⊗ word_read visibility_of visibility_word (codes "visibility") (style_object c) c.visibility
     (visibility-get c) visibility_read
     ⊗ word_read pointer_of pointer_word (codes "pointer-events") (style_object c) c.pointer (pointer-get c) pointer_read
     ⊗ blending_read version c h)
     ∙ ap good (joined_read c)
+
+object_read : (version : Version) (c : StyleChange) → Named c → HasChange (number_of version) c
+    → change_of version (style_object c) ≡ good c
+unfolding change_of style_object
+object_read version c n h = start (λ _ c. c) ⊗ names_read version c h ⊗ members_read version c n h
 
 pub change_read : (version : Version) (c : StyleChange) → Named c → HasChange (number_of version) c
     → change_of version (change_value c) ≡ good c
