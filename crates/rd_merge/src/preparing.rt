@@ -1,5 +1,5 @@
 //! The first half of a merge: all memory is taken, and nothing is changed.
-ghost use Rattle.std.specs.Prelude.{◌≡◌, ◌∷◌, [], Some, IfOk, OnOk, map};
+ghost use Rattle.std.specs.Prelude.{◌≡◌, ◌≤◌, ◌∷◌, [], Some, IfOk, OnOk, map};
 ghost use Rattle.rd_graph.specs.Patches.{line_of};
 ghost use Rattle.rd_graph.specs.Runs.{HasLineRoom};
 ghost use Rattle.rd_list.specs.Entries as list;
@@ -8,7 +8,7 @@ ghost use Rattle.rd_list.specs.NewView.{new_entries, in_runs};
 ghost use Rattle.rd_merge.specs.Going.{is_untouched};
 ghost use Rattle.rd_merge.specs.Internal.Fitting.{FitsFor};
 ghost use Rattle.rd_merge.specs.Merging.{CanBeMerged, IsPlan, MergedInto, StandsAfter};
-ghost use Rattle.rd_merge.specs.Plans.{PlacesFit, filled, old_list};
+ghost use Rattle.rd_merge.specs.Plans.{PlacesFit, filled, made_count, old_list};
 ghost use Rattle.rd_merge.specs.PlanView.{steps_seen};
 ghost use Rattle.rd_merge.specs.Internal.Adding.{AddsSteps};
 ghost use Rattle.rd_merge.specs.Internal.Planning.{EntriesFit, GroupFits, GroupsFit, InnerSteps, IsGroupStep, NewSteps, place_in};
@@ -81,6 +81,36 @@ fn chunk_room(
     Vec::with_capacity(alloc, singles.saturating_add(pairs.saturating_mul(2)))
 }
 
+/// The plan of a patch and of steps, with room for all that these need: at most so many entries are made, so many steps are those of
+/// groups, and the level had so many chunks.
+fn with_room<A: Ledger>(
+    alloc: Global,
+    patch: Patch,
+    steps: Vec<Step<A>>,
+    made: usize,
+    groups: usize,
+    had: usize,
+) -> Result<Plan<A>, AllocError>
+    requires { made_count (steps_seen steps.items) ≤ made }
+    ensures { IfOk result (λ p. p ≡ record { patch = patch; steps = steps_seen steps.items }) }
+{
+    let made = Vec::with_capacity(alloc, made)?;
+    let aside = aside_room(alloc, patch.line())?;
+    let room = entry_room(alloc, &patch)?;
+    let parts = part_room(alloc, &patch, had)?;
+    let chunks = chunk_room(alloc, &patch, had, steps.len(), groups)?;
+    Ok(Plan {
+        alloc,
+        patch,
+        steps,
+        made,
+        aside,
+        room,
+        parts,
+        chunks,
+    })
+}
+
 /// Steps, and how many of them are those of groups.
 #[derive(Drop)]
 struct Planned<A: Ledger> {
@@ -110,22 +140,9 @@ fn plan_level<A: Ledger, T: Touches>(
     let mut steps = planned.steps;
     let mut inner = plan_groups(alloc, kept, &looked.inner, tree)?;
     steps.append(&mut inner)?;
-    let made = Vec::with_capacity(alloc, names.len())?;
-    let aside = aside_room(alloc, patch.line())?;
-    let room = entry_room(alloc, &patch)?;
-    let parts = part_room(alloc, &patch, kept.chunks.len())?;
     let groups = planned.groups.saturating_add(looked.inner.len());
-    let chunks = chunk_room(alloc, &patch, kept.chunks.len(), steps.len(), groups)?;
-    Ok(Plan {
-        alloc,
-        patch,
-        steps,
-        made,
-        aside,
-        room,
-        parts,
-        chunks,
-    })
+    let plan = with_room(alloc, patch, steps, names.len(), groups, kept.chunks.len())?;
+    Ok(plan)
 }
 
 /// The steps of the entries of these runs of a new level, which have these places in the kept one. Groups that the new

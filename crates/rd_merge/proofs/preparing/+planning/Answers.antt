@@ -293,8 +293,8 @@ plan_level-plan_groups-requires g t c κs within =
 pub plan_level-same-patch : goal.plan_level-same-patch
 plan_level-same-patch g t c = refl
 
-pub plan_level-invariant_of-result : goal.plan_level-invariant_of-result
-plan_level-invariant_of-result g t c =
+pub plan_level-with_room-requires : goal.plan_level-with_room-requires
+plan_level-with_room-requires g t c =
     let touched = g.T.Touches.is_touched c.args.tree.now in
     let xs = c.args.kept.now.entries in
     let keys = c.in_ok-names.ensures in
@@ -311,9 +311,8 @@ plan_level-invariant_of-result g t c =
     let all = ap made_count (ap steps_seen c.in_ok-append.ensures.items ∙ steps_append c.in_ok-planned.planned.steps.items c.in_ok-inner.inner.items) in
     let many = ap length keys in
     let ok = c.in_ok-names.names.ok in
-    let len = c.len.ensures in
-    let capacity = c.in_ok-made.ensures.capacity in
-    (c.in_ok-made.ensures.len, omega (arith, few, all, many, ok.0, len, capacity), c.in_ok-room.ensures, c.in_ok-parts.ensures, c.in_ok-chunks.ensures)
+    let len = c.len-2.ensures in
+    omega (arith, few, all, many, ok.0, len)
 
 pub plan_level-returns : goal.plan_level-returns
 plan_level-returns g t c =
@@ -329,5 +328,5 @@ plan_level-returns g t c =
     let new_is = ap in_runs c.deref-7.ensures.value ∙ c.new.view_is in
     let firsts = subst (λ z. NewSteps touched xs z (steps_seen c.in_ok-planned.planned.steps.items)) new_is c.in_ok-planned.ensures in
     let lasts = subst (λ z. InnerSteps touched xs z (steps_seen c.in_ok-inner.inner.items)) c.deref-9.ensures.value c.in_ok-inner.ensures in
-    subst (λ z. IsPlan touched c.args.kept.now c.args.new.now (record { patch = c.in_ok-patch.patch; steps = z })) (sym (ap steps_seen c.in_ok-append.ensures.items ∙ steps_append c.in_ok-planned.planned.steps.items c.in_ok-inner.inner.items))
-    (planned touched c.args.kept.now c.args.new.now c.requires l.gone.items l.found.items l.inner.items looked c.in_ok-patch.patch fits patched (steps_seen c.in_ok-planned.planned.steps.items) (steps_seen c.in_ok-inner.inner.items) firsts lasts)
+    subst (λ p. IsPlan touched c.args.kept.now c.args.new.now p) (sym c.in_ok-plan.ensures) (subst (λ z. IsPlan touched c.args.kept.now c.args.new.now (record { patch = c.in_ok-patch.patch; steps = z })) (sym (ap steps_seen c.in_ok-append.ensures.items ∙ steps_append c.in_ok-planned.planned.steps.items c.in_ok-inner.inner.items))
+    (planned touched c.args.kept.now c.args.new.now c.requires l.gone.items l.found.items l.inner.items looked c.in_ok-patch.patch fits patched (steps_seen c.in_ok-planned.planned.steps.items) (steps_seen c.in_ok-inner.inner.items) firsts lasts))
