@@ -5,4 +5,5 @@ pub mod Telling
 pub mod Session
 pub mod SessionCode
 pub mod Answered
+pub mod Told
 pub mod OnTiles

@@ -11,12 +11,12 @@ ghost use Rattle.rd_run.specs.Internal.Lasts.{IsWellFormed};
 ghost use Rattle.rd_run.specs.Internal.Session.{Shows, IsFew, AreCounted, AreWithin};
 ghost use Rattle.rd_run.specs.Machine.{State, Step};
 
+use crate::performing::started;
 use crate::session::Session;
 use crate::status::Status;
 use rd_geom::Steps;
 use rd_io::{Sink, write_all};
-use rd_scene::{Command, Script, plant};
-use rd_tree::Tree;
+use rd_scene::{Command, Script};
 use std::alloc::Global;
 use std::sync::ledger::Ledger;
 
@@ -126,16 +126,11 @@ pub(crate) fn answer<O: Sink, A: Ledger, B: Ledger>(
         (stream (O.written out.old) (O.written out.new) (O.faults out.old) (O.faults out.new))
         (counter made.old made.new) (counter looks.old looks.new) result }
 {
-    let commands = &script.commands;
-    let tree: Tree<B> = match plant(alloc, script) {
-        Ok(tree) => tree,
-        Err(_) => return Status::NoMemory,
-    };
-    let mut session = match Session::new(alloc, script.version, tree) {
+    let mut session = match started(alloc, script) {
         Ok(session) => session,
         Err(_) => return Status::NoMemory,
     };
-    match answer_all(alloc, &mut session, commands, out, made, looks) {
+    match answer_all(alloc, &mut session, &script.commands, out, made, looks) {
         Ok(()) => Status::Done,
         Err(status) => status,
     }

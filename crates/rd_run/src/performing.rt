@@ -6,9 +6,10 @@ ghost use Rattle.rd_tree.specs.Figures.{max_boxes};
 ghost use Rattle.rd_report.specs.Summaries.{summary_lines};
 ghost use Rattle.rd_scene.specs.Figures.{max_commands};
 ghost use Rattle.rd_run.specs.Endings.{counter, stream, totals_of, IsScriptPicture, IsStormSummary, IsScriptWire};
-ghost use Rattle.rd_run.specs.Internal.Answered.{AnswersAs, Performs, MayPerform, Finished, MayFinish, Writes};
+ghost use Rattle.rd_run.specs.Internal.Answered.{AnswersAs, AreOfEnd, Begins, Performs, MayPerform, Finished, MayFinish, Writes};
 ghost use Rattle.rd_run.specs.Internal.Session.{Shows, IsFew};
 ghost use Rattle.rd_run.specs.Machine.{State};
+ghost use Rattle.rd_run.specs.Internal.Told.{IsTold};
 
 use crate::session::Session;
 use crate::status::Status;
@@ -42,6 +43,37 @@ fn perform_all<A: Ledger, B: Ledger>(
     Ok(())
 }
 
+/// A session that begins with the tree of a script's boxes.
+pub(crate) fn started<A: Ledger, B: Ledger>(
+    alloc: Global,
+    script: &Script,
+) -> Result<Session<A, B>, NoMemory>
+    ensures begun { IfOk result (Begins script.now) }
+    ensures few { IfOk result (λ x. IsFew x 0) }
+{
+    let tree: Tree<B> = plant(alloc, script)?;
+    let session = Session::new(alloc, script.version, tree)?;
+    Ok(session)
+}
+
+/// Does the commands of a script in a session that begins with its tree, and the paint that is pending then.
+fn perform_to_end<A: Ledger, B: Ledger>(
+    alloc: Global,
+    session: &mut Session<A, B>,
+    script: &Script,
+    made: &mut Steps<A>,
+    looks: &mut Steps<B>,
+) -> Result<(), NoMemory>
+    requires begun { Begins script.now session.old }
+    requires few { IsFew session.old 0 }
+    ensures finished { OnOk result (Finished (counter made.old made.new) (counter looks.old looks.new) script.now session.new) }
+    ensures part { OnErr result (MayFinish (counter made.old made.new) (counter looks.old looks.new) script.now) }
+{
+    perform_all(alloc, session, &script.commands, made, looks)?;
+    session.finish(made, looks)?;
+    Ok(())
+}
+
 /// What is left of a script whose commands were done: a session in which no paint is pending.
 /// Without memory nothing may be counted yet.
 fn performed<A: Ledger, B: Ledger>(
@@ -54,11 +86,8 @@ fn performed<A: Ledger, B: Ledger>(
     ensures part { OnErr result (((made.new ≡ made.old) × (looks.new ≡ looks.old))
         ⊎ MayFinish (counter made.old made.new) (counter looks.old looks.new) script.now) }
 {
-    let commands = &script.commands;
-    let tree: Tree<B> = plant(alloc, script)?;
-    let mut session = Session::new(alloc, script.version, tree)?;
-    perform_all(alloc, &mut session, commands, made, looks)?;
-    session.finish(made, looks)?;
+    let mut session = started(alloc, script)?;
+    perform_to_end(alloc, &mut session, script, made, looks)?;
     Ok(session)
 }
 
@@ -71,6 +100,45 @@ pub(crate) fn write<O: Sink>(out: &mut O, bytes: &[u8]) -> Status
         Ok(()) => Status::Done,
         Err(_) => Status::WriteFault,
     }
+}
+
+/// What is told of what is painted at the end of a script: its picture, or its list in the wire form.
+#[derive(Clone, Copy)]
+enum Told {
+    Picture,
+    Wire,
+}
+
+/// The bytes of what is told of a session in which no paint is pending.
+fn told_of<A: Ledger, B: Ledger>(
+    alloc: Global,
+    session: &Session<A, B>,
+    told: Told,
+) -> Result<Vec<u8>, NoMemory>
+    requires { session.now.engine.pending ≡ false }
+    ensures { IfOk result (λ bytes. IsTold told session.now bytes.items) }
+{
+    match told {
+        Told::Picture => session.picture(alloc),
+        Told::Wire => session.wire(alloc),
+    }
+}
+
+/// Does the commands of a script, and gives the bytes of what is told of its end.
+fn end_of<A: Ledger, B: Ledger>(
+    alloc: Global,
+    script: &Script,
+    told: Told,
+    made: &mut Steps<A>,
+    looks: &mut Steps<B>,
+) -> Result<Vec<u8>, NoMemory>
+    ensures told { IfOk result (λ bytes. AreOfEnd (counter made.old made.new) (counter looks.old looks.new) (IsTold told) script.now bytes.items) }
+    ensures part { OnErr result (((made.new ≡ made.old) × (looks.new ≡ looks.old))
+        ⊎ MayFinish (counter made.old made.new) (counter looks.old looks.new) script.now) }
+{
+    let session = performed(alloc, script, made, looks)?;
+    let bytes = told_of(alloc, &session, told)?;
+    Ok(bytes)
 }
 
 /// Does the commands of a script, and writes the picture of what is painted at its end.
@@ -86,11 +154,7 @@ pub(crate) fn render<O: Sink, A: Ledger, B: Ledger>(
         (stream (O.written out.old) (O.written out.new) (O.faults out.old) (O.faults out.new))
         (counter made.old made.new) (counter looks.old looks.new) result }
 {
-    let session = match performed(alloc, script, made, looks) {
-        Ok(session) => session,
-        Err(_) => return Status::NoMemory,
-    };
-    match session.picture(alloc) {
+    match end_of(alloc, script, Told::Picture, made, looks) {
         Ok(picture) => write(out, &picture),
         Err(_) => Status::NoMemory,
     }
@@ -109,11 +173,7 @@ pub(crate) fn wire<O: Sink, A: Ledger, B: Ledger>(
         (stream (O.written out.old) (O.written out.new) (O.faults out.old) (O.faults out.new))
         (counter made.old made.new) (counter looks.old looks.new) result }
 {
-    let session = match performed(alloc, script, made, looks) {
-        Ok(session) => session,
-        Err(_) => return Status::NoMemory,
-    };
-    match session.wire(alloc) {
+    match end_of(alloc, script, Told::Wire, made, looks) {
         Ok(bytes) => write(out, &bytes),
         Err(_) => Status::NoMemory,
     }
@@ -148,6 +208,26 @@ fn summary<A: Ledger, B: Ledger>(
     Ok(text)
 }
 
+/// Does the commands of a script, and gives the summary of a storm of these numbers.
+fn summary_of<A: Ledger, B: Ledger>(
+    alloc: Global,
+    script: &Script,
+    seed: u64,
+    boxes: u32,
+    edits: u32,
+    made: &mut Steps<A>,
+    looks: &mut Steps<B>,
+) -> Result<String, NoMemory>
+    ensures told { IfOk result (λ bytes. AreOfEnd (counter made.old made.new) (counter looks.old looks.new)
+        (λ x ys. (s : State) → Shows x s → ys ≡ summary_lines (totals_of seed boxes edits s)) script.now (string_bytes bytes)) }
+    ensures part { OnErr result (((made.new ≡ made.old) × (looks.new ≡ looks.old))
+        ⊎ MayFinish (counter made.old made.new) (counter looks.old looks.new) script.now) }
+{
+    let session = performed(alloc, script, made, looks)?;
+    let text = summary(alloc, &session, seed, boxes, edits)?;
+    Ok(text)
+}
+
 /// Does the commands of the generated script of these numbers, and writes a summary.
 pub(crate) fn storm<O: Sink, A: Ledger, B: Ledger>(
     alloc: Global,
@@ -169,11 +249,7 @@ pub(crate) fn storm<O: Sink, A: Ledger, B: Ledger>(
     let Ok(script) = rd_gen::script(alloc, seed, boxes, edits) else {
         return Status::NoMemory;
     };
-    let session = match performed(alloc, &script, made, looks) {
-        Ok(session) => session,
-        Err(_) => return Status::NoMemory,
-    };
-    match summary(alloc, &session, seed, boxes, edits) {
+    match summary_of(alloc, &script, seed, boxes, edits, made, looks) {
         Ok(text) => write(out, text.as_bytes()),
         Err(_) => Status::NoMemory,
     }

@@ -4,9 +4,10 @@ use Rattle.std.specs.Io.KnownBytes.{Appends}
 use Rattle.rd_io.specs.Causes.{GainsPart, Takes}
 use Rattle.rd_tree.specs.Document.{Document}
 use Rattle.rd_scene.specs.Reading.{IsScriptText, IsOffForm, HasNoReading}
+use Rattle.rd_scene.specs.Planting.{Plants}
 use Rattle.rd_scene.specs.Scripts.{Script}
 use Rattle.rd_scene.specs.declared.script.Command.{Command}
-use Rattle.rd_run.specs.Machine.{State, Counts, no_counts, Run, Finishes}
+use Rattle.rd_run.specs.Machine.{State, Counts, no_counts, start, Run, Finishes}
 use Rattle.rd_run.specs.Endings.{Stream, Counter, HasFailed, IsFaultless, HasRead, IsNoWireText}
 use Rattle.rd_run.specs.Checks.{dump_before, script_from, IsLastState, IsVerdictOn, IsNoDumpText, leaf_count, checked_looks}
 use Rattle.rd_run.specs.Internal.Session.{SessionState, AreCounted, AreWithin, Shows}
@@ -45,6 +46,14 @@ module _ (made looks : Counter) where
   -- they could be done, with counts that are not passed
   abbrev pub MayFinish : Script → Type 0
   MayFinish s = (t : State) × Finishes s t × AreWithin (start_of t) t made looks × IsWellFormed t.tree
+
+  -- the same, and these bytes are so of what is there then
+  abbrev pub AreOfEnd : (SessionState → List ℕ → Type 0) → Script → List ℕ → Type 0
+  AreOfEnd Are s bytes = (now : SessionState) × Finished s now × Are now bytes
+
+-- a session begins with the tree of a script's boxes
+abbrev pub Begins : Script → SessionState → Type 0
+Begins s now = (t : Document) × Plants s t × Shows now (start s.version t)
 
 -- Of a gathered text and what was put after it, a front went out and the rest is gathered now.
 pub record Passes (out : Stream) (before text now : List ℕ) : Type 0 where

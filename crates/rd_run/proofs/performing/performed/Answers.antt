@@ -1,42 +1,14 @@
-use Rattle.std.proofs.Common.{refl, ◌∙◌, ap, subst, inl, inr}
+use Rattle.std.proofs.Common.{refl, inl, inr}
 use Rattle.std.proofs.lemmas.Result.{err_from_is_err_and}
-use Rattle.rd_geom.specs.Canvas.{IsCanvas}
-use Rattle.rd_scene.specs.Scripts.{Script}
-use Rattle.rd_run.proofs.Planted.{planted_well_formed, planted_all, finished_on, may_finish_on, may_finish}
 use Rattle.rd_run.proofs.performing.performed.Goals as goal
-
-pub returns-in_err-tree-clause-part : goal.returns-in_err-tree-clause-part
-returns-in_err-tree-clause-part g c =
-    let r = err_from_is_err_and c.from_residual.result c.from_residual.ensures.1 in rw (r.1) (inl (refl, refl))
-
-pub new-requires-clause-touched : goal.new-requires-clause-touched
-new-requires-clause-touched g c = planted_all c.args.script.now _ c.in_ok-tree.ensures.planted
-
-pub new-requires-clause-well_formed : goal.new-requires-clause-well_formed
-new-requires-clause-well_formed g c =
-    let limits : IsCanvas c.args.script.now.canvas = subst (λ (s : Script). IsCanvas s.canvas) c.script.view_is c.script.invariant.canvas in
-    planted_well_formed c.args.script.now _ c.in_ok-tree.ensures.planted limits
 
 pub returns-in_err-session-clause-part : goal.returns-in_err-session-clause-part
 returns-in_err-session-clause-part g c =
-    let r = err_from_is_err_and c.from_residual-in_err-session.result c.from_residual-in_err-session.ensures.1 in rw (r.1) (inl (refl, refl))
+    let r = err_from_is_err_and c.from_residual.result c.from_residual.ensures.1 in rw (r.1) (inl (refl, refl))
 
-pub returns-in_err-perform_all-clause-part : goal.returns-in_err-perform_all-clause-part
-returns-in_err-perform_all-clause-part g c =
-    let r = err_from_is_err_and c.from_residual-in_err-perform_all.result c.from_residual-in_err-perform_all.ensures.1 in
-    rw (r.1) (inr (may_finish c.args.script.now _ _ _ _ _ 0 _ _ 0 c.in_ok-tree.ensures.planted (ap (λ (s : Script). s.version) c.script.view_is)
-    (c.deref.ensures.value ∙ ap (λ (s : Script). s.commands) c.script.view_is)
-    (c.in_err-perform_all.ensures.part _ c.in_ok-session.ensures.shows)))
-
-pub returns-in_err-finish-clause-part : goal.returns-in_err-finish-clause-part
-returns-in_err-finish-clause-part g c =
-    let r = err_from_is_err_and c.from_residual-in_err-finish.result c.from_residual-in_err-finish.ensures.1 in
-    rw (r.1) (inr (may_finish_on c.args.script.now _ _ _ _ _ _ _ _ _ _ c.in_ok-tree.ensures.planted (ap (λ (s : Script). s.version) c.script.view_is)
-    (c.deref.ensures.value ∙ ap (λ (s : Script). s.commands) c.script.view_is)
-    (c.in_ok-perform_all.ensures.all _ c.in_ok-session.ensures.shows) c.in_err-finish.ensures.err))
+pub returns-in_err-perform_to_end-clause-part : goal.returns-in_err-perform_to_end-clause-part
+returns-in_err-perform_to_end-clause-part g c =
+    let r = err_from_is_err_and c.from_residual-in_err-perform_to_end.result c.from_residual-in_err-perform_to_end.ensures.1 in rw (r.1) (inr c.in_err-perform_to_end.ensures.part)
 
 pub returns-clause-finished : goal.returns-clause-finished
-returns-clause-finished g c =
-    finished_on c.args.script.now _ _ _ _ _ _ _ _ _ _ _ c.in_ok-tree.ensures.planted (ap (λ (s : Script). s.version) c.script.view_is)
-    (c.deref.ensures.value ∙ ap (λ (s : Script). s.commands) c.script.view_is)
-    (c.in_ok-perform_all.ensures.all _ c.in_ok-session.ensures.shows) c.in_ok-finish.ensures.ok c.in_ok-finish.ensures.done
+returns-clause-finished g c = c.in_ok-perform_to_end.ensures.finished

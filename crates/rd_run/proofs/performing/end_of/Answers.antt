@@ -1,0 +1,16 @@
+use Rattle.std.proofs.Common.{inr}
+use Rattle.std.proofs.lemmas.Result.{err_from_is_err_and}
+use Rattle.rd_run.proofs.Planted.{finished_may}
+use Rattle.rd_run.proofs.performing.end_of.Goals as goal
+
+pub returns-in_err-session-clause-part : goal.returns-in_err-session-clause-part
+returns-in_err-session-clause-part g c =
+    let r = err_from_is_err_and c.from_residual.result c.from_residual.ensures.1 in rw (r.1) c.in_err-session.ensures.part
+
+pub returns-in_err-bytes-clause-part : goal.returns-in_err-bytes-clause-part
+returns-in_err-bytes-clause-part g c =
+    let r = err_from_is_err_and c.from_residual-in_err-bytes.result c.from_residual-in_err-bytes.ensures.1 in
+    rw (r.1) (inr (finished_may c.args.script.now _ _ _ _ _ c.in_ok-session.ensures.finished))
+
+pub returns-clause-told : goal.returns-clause-told
+returns-clause-told g c = (c.in_ok-session.session, c.in_ok-session.ensures.finished, c.in_ok-bytes.ensures)
