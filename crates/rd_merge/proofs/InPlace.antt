@@ -1,7 +1,6 @@
 -- Entries that are put at their places, taken out of them, and laid in a line.
 use Rattle.std.proofs.Common.{◌≡◌, refl, ap, ◌∙◌, sym, subst, ℕ, zero, suc, ◌<◌, true, List, [], ◌∷◌, ◌++◌, length, get_or, set, take, drop, arith}
-use Rattle.std.specs.Prelude.{IfSome, Option, Some, None, is_some, vec_len}
-use Rattle.std.specs.declared.vec.Vec.{Vec}
+use Rattle.std.specs.Prelude.{IfSome, Option, Some, None, is_some}
 use Rattle.std.proofs.lemmas.List.{append-nil, get_or-set_other, get_or-set_same, length-set}
 use Rattle.std.proofs.lemmas.Option.{IfSome_then}
 use Rattle.rd_list.specs.Chunks.{ChangesTo, IsLeaf, IsTold}
@@ -9,7 +8,6 @@ use Rattle.rd_list.specs.declared.told.ChunkBounds.{ChunkBounds}
 use Rattle.rd_list.proofs.Admitting.{read_any}
 use Rattle.rd_graph.specs.Gathered.{gathered, arranged}
 use Rattle.rd_graph.specs.Internal.Taking.{KeepsOthers}
-use Rattle.rd_graph.specs.Runs.{up_from}
 use Rattle.rd_item.specs.Items.{Made}
 use Rattle.rd_keys.specs.declared.entry.EntryKey.{EntryKey}
 use Rattle.rd_list.specs.Wrappers.{Wrapper, wrapper}

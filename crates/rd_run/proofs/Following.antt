@@ -1,5 +1,5 @@
 -- Tiles follow an engine.
-use Rattle.std.proofs.Common.{◌≡◌, ◌⊎◌, ℕ, ◌+◌, ◌*◌, ◌<◌, ◌≤◌, ◌/◌, ◌%◌, zero, suc, ℤ, pos, Bool, true, false, cond, List, [], ◌++◌, Some, refl, sym, ◌∙◌, ap, ap₂, subst, append-nil, arith, inl, inr}
+use Rattle.std.proofs.Common.{◌≡◌, ℕ, ◌+◌, ◌*◌, ◌<◌, ◌/◌, ◌%◌, zero, suc, ℤ, pos, Bool, true, false, cond, List, [], ◌++◌, Some, refl, sym, ◌∙◌, ap, ap₂, subst, append-nil, arith, inl, inr}
 use Rattle.std.specs.Prelude.{nat_lt, IsTrue, string_bytes, replicate, get_or, unsigned_abs}
 use Rattle.std.proofs.lemmas.Bool.{lt-ltb}
 use Rattle.std.proofs.lemmas.Int.{ints}

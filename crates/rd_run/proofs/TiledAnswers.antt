@@ -1,5 +1,5 @@
 -- What answers a script on tiles.
-use Rattle.std.proofs.Common.{◌≡◌, ℕ, ◌+◌, Bool, List, ◌++◌, Option, refl, sym, ◌∙◌, ap, subst, append_assoc, arith, inr, []}
+use Rattle.std.proofs.Common.{◌≡◌, ℕ, Bool, List, ◌++◌, Option, refl, sym, ◌∙◌, ap, subst, append_assoc, arith, inr, []}
 use Rattle.std.specs.Prelude.{string_bytes}
 use Rattle.sha2.specs.Sha256.{sha256}
 use Rattle.rd_report.specs.Summaries.{final_line}

@@ -1,5 +1,5 @@
 -- The list of an engine, with its canvas, keeps the rules of a wire.
-use Rattle.std.proofs.Common.{◌≡◌, refl, ap, sym, subst, ◌∙◌, ℕ, ◌+◌, ◌≤◌, Bool, true, false, cond, [], ◌∷◌, inl, inr}
+use Rattle.std.proofs.Common.{◌≡◌, refl, ap, sym, subst, ◌∙◌, ℕ, ◌≤◌, Bool, true, false, cond, inl, inr}
 use Rattle.std.specs.Prelude.{Option, Some, None, IsTrue, Contains, map, nat_lt, option_map}
 use Rattle.std.proofs.lemmas.List.Sorted.{Contains-permutation}
 use Rattle.rd_geom.specs.Canvas.{IsCanvas, canvas_of}

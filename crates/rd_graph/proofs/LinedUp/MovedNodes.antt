@@ -1,12 +1,11 @@
 -- The nodes of a run in the line that it is of.
-use Rattle.std.proofs.Common.{◌≡◌, refl, ap, ◌∙◌, sym, subst, ℕ, zero, suc, ◌+◌, ◌<◌, ◌≤◌, List, [], ◌∷◌, ◌++◌, length, map, take, drop, get_or, arith}
+use Rattle.std.proofs.Common.{◌≡◌, refl, ap, ◌∙◌, sym, subst, ℕ, zero, suc, ◌+◌, ◌<◌, ◌≤◌, List, [], ◌∷◌, length, map, take, drop, get_or, arith}
 use Rattle.std.proofs.lemmas.List.{length-append}
 use Rattle.rd_keys.specs.declared.entry.EntryKey.{EntryKey}
 use Rattle.rd_graph.specs.Gathered.{gathered, ArePlaces}
 use Rattle.rd_graph.specs.Graphs.{Graph}
 use Rattle.rd_graph.specs.Runs.{places_of}
 use Rattle.rd_graph.specs.Internal.Chunks.{IsMoved}
-use Rattle.rd_graph.specs.Internal.Relisting.{IsAt}
 use Rattle.rd_graph.specs.declared.runs.Run.{Run}
 use Rattle.rd_graph.proofs.Lists.Gatherings.{at_below, gathered_map}
 use Rattle.rd_graph.proofs.LinedUp.RunGathering.{place_in_line, run_within}

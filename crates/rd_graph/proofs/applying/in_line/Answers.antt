@@ -1,6 +1,3 @@
-use Rattle.std.proofs.Common.{ap, subst}
-use Rattle.std.specs.Prelude.{option_map}
-use Rattle.rd_graph.specs.Internal.Patching.{HasRoom}
 use Rattle.rd_graph.proofs.Patches.PutInPlace.{placed}
 use Rattle.rd_graph.proofs.applying.in_line.Goals as goal
 

@@ -1,13 +1,13 @@
-use Rattle.std.proofs.Common.{◌≡◌, ◌∙◌, ◌+◌, ◌<◌, ap, sym, subst, refl, Bool, List, [], ℕ, arith, length, get_or}
+use Rattle.std.proofs.Common.{◌≡◌, ◌∙◌, ◌+◌, ◌<◌, ap, sym, subst, refl, List, [], ℕ, arith, length, get_or}
 use Rattle.rd_keys.specs.declared.entry.EntryKey.{EntryKey}
 use Rattle.rd_graph.specs.Internal.Patching.{lists_seen}
-use Rattle.rd_graph.specs.Internal.Relisting.{AreMarked, AreNumbered}
+use Rattle.rd_graph.specs.Internal.Relisting.{AreNumbered}
 use Rattle.rd_graph.specs.Internal.Seen.{seen, seen_one}
 use Rattle.rd_graph.specs.Internal.Tables.{has_it}
 use Rattle.rd_graph.specs.Internal.Words.{noted_by}
 use Rattle.rd_graph.proofs.Patches.Numbers.{none_noted}
 use Rattle.rd_graph.proofs.Patches.Late.{SoFar, so_first, so_next, so_all, notes_all}
-use Rattle.rd_graph.proofs.Patches.Quiet.{met_first, met_next, next_after, next_within, quiet_where, so_to, stays_between}
+use Rattle.rd_graph.proofs.Patches.Quiet.{met_first, met_next, next_after, next_within, so_to, stays_between}
 use Rattle.rd_graph.proofs.Lists.Rising.{quiet_before}
 use Rattle.rd_graph.proofs.Patches.SeenAt.{seen_at, seen_length, seen_whole}
 use Rattle.rd_graph.proofs.changing.pass_all.Goals as goal

@@ -1,4 +1,4 @@
-use Rattle.std.proofs.Common.{arith, refl}
+use Rattle.std.proofs.Common.{arith}
 use Rattle.rd_merge.proofs.preparing.with_room.Goals as goal
 
 pub invariant_of-result : goal.invariant_of-result
