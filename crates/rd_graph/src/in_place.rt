@@ -23,8 +23,8 @@ fn moved(runs: &[Run], old: usize) -> usize {
     let mut all = 0usize;
     for run in runs {
         if stays(*run, old) {
-            all = all.saturating_add(passed_over(run.from, stay, run.count));
-            all = all.saturating_add(passed_over(place, stay, run.count));
+            all = all.saturating_add(turn_cost(run.from, stay, run.count));
+            all = all.saturating_add(turn_cost(place, stay, run.count));
             stay = stay.saturating_add(run.count);
         }
         place = place.saturating_add(run.count);
@@ -33,7 +33,7 @@ fn moved(runs: &[Run], old: usize) -> usize {
 }
 
 /// How many elements a turn moves, where so many go over those from one place up to another.
-fn passed_over(end: usize, start: usize, count: usize) -> usize {
+fn turn_cost(end: usize, start: usize, count: usize) -> usize {
     if end <= start {
         return 0;
     }
