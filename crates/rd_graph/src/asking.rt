@@ -17,8 +17,8 @@ use std::alloc::{AllocError, Global};
 
 /// Sets the marks of these names.
 fn mark_names(marks: &mut Vec<bool>, names: &[Name])
-    requires { length marks.old.items ≡ 4096 }
-    ensures whole { length marks.new.items ≡ 4096 }
+    requires { length marks.old.items ≡ 2048 }
+    ensures whole { length marks.new.items ≡ 2048 }
     ensures kept { KeepsMarks marks.old.items marks.new.items }
     ensures marked { (k : EntryKey) → Contains names.now k → HasMark marks.new.items k }
 {
@@ -29,8 +29,8 @@ fn mark_names(marks: &mut Vec<bool>, names: &[Name])
 
 /// Sets the marks of the names of a list that has more than one.
 fn mark_list(marks: &mut Vec<bool>, names: &[Name])
-    requires { length marks.old.items ≡ 4096 }
-    ensures whole { length marks.new.items ≡ 4096 }
+    requires { length marks.old.items ≡ 2048 }
+    ensures whole { length marks.new.items ≡ 2048 }
     ensures kept { KeepsMarks marks.old.items marks.new.items }
     ensures marked { 1 < length names.now → (k : EntryKey) → Contains names.now k → HasMark marks.new.items k }
 {
@@ -47,7 +47,7 @@ pub(crate) fn marks_asked(
 ) -> Result<Vec<bool>, AllocError>
     ensures { IfOk result (λ v. AreAsked (lists_seen lists.now) v.items) }
 {
-    let mut marks = vec![in alloc; false; 4096]?;
+    let mut marks = vec![in alloc; false; 2048]?;
     for list in lists {
         mark_list(&mut marks, &list.1);
     }

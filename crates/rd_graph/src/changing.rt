@@ -132,7 +132,7 @@ fn pass(
 /// Has a name the mark of one that goes?
 #[inline(always)]
 fn is_marked(marks: &[bool], name: &Name) -> bool
-    requires { length marks.now ≡ 4096 }
+    requires { length marks.now ≡ 2048 }
     ensures { result ≡ has_mark marks.now name.now }
 {
     marks[mark_of(&name.key)]
@@ -141,7 +141,7 @@ fn is_marked(marks: &[bool], name: &Name) -> bool
 /// Has one of these names the mark of one that goes?
 #[inline(always)]
 fn any_marked(marks: &[bool], names: &[Name]) -> bool
-    requires { length marks.now ≡ 4096 }
+    requires { length marks.now ≡ 2048 }
     ensures { result ≡ some_gone (has_mark marks.now) names.now }
 {
     for name in names {
@@ -155,7 +155,7 @@ fn any_marked(marks: &[bool], names: &[Name]) -> bool
 /// Has a predecessor of a node the mark of a name that goes?
 #[inline(never)]
 fn some_marked(marks: &[bool], node: &Node) -> bool
-    requires { length marks.now ≡ 4096 }
+    requires { length marks.now ≡ 2048 }
     ensures { result ≡ some_gone (has_mark marks.now) node.now.before.items }
 {
     any_marked(marks, &node.before)
@@ -164,7 +164,7 @@ fn some_marked(marks: &[bool], node: &Node) -> bool
 /// Has a node one predecessor, without the mark of a name that goes?
 #[inline(always)]
 fn follows_one(marks: &[bool], node: &Node) -> bool
-    requires { length marks.now ≡ 4096 }
+    requires { length marks.now ≡ 2048 }
     ensures { result ≡ true → some_gone (has_mark marks.now) node.now.before.items ≡ false }
 {
     let before = node.before.as_slice();
@@ -174,7 +174,7 @@ fn follows_one(marks: &[bool], node: &Node) -> bool
 /// Has a node two predecessors, both without the mark of a name that goes?
 #[inline(always)]
 fn follows_two(marks: &[bool], node: &Node) -> bool
-    requires { length marks.now ≡ 4096 }
+    requires { length marks.now ≡ 2048 }
     ensures { result ≡ true → some_gone (has_mark marks.now) node.now.before.items ≡ false }
 {
     let before = node.before.as_slice();
@@ -185,7 +185,7 @@ fn follows_two(marks: &[bool], node: &Node) -> bool
 /// these nodes is late. Most nodes follow one.
 #[inline(always)]
 fn past_runs(nodes: &[Node], from: usize, end: usize, marks: &[bool]) -> usize
-    requires marks { length marks.now ≡ 4096 }
+    requires marks { length marks.now ≡ 2048 }
     requires from { from ≤ end }
     requires end { end ≤ length nodes.now }
     ensures after { from ≤ result }
@@ -204,7 +204,7 @@ fn past_runs(nodes: &[Node], from: usize, end: usize, marks: &[bool]) -> usize
 
 /// The first place of a stretch of places whose node may be late, by its predecessors. The end of the stretch where there is none.
 fn late_among(nodes: &[Node], from: usize, end: usize, marks: &[bool]) -> usize
-    requires marks { length marks.now ≡ 4096 }
+    requires marks { length marks.now ≡ 2048 }
     requires from { from ≤ end }
     requires end { end ≤ length nodes.now }
     ensures after { from ≤ result }
@@ -222,7 +222,7 @@ fn late_among(nodes: &[Node], from: usize, end: usize, marks: &[bool]) -> usize
 fn late_in_chunk(nodes: &[Node], chunks: &[u64], from: usize, end: usize, gone: &Gone) -> usize
     requires told { Tells chunks.now (seen nodes.now) }
     requires marked { AreMarked gone.now.marks.items gone.now.names }
-    requires whole { length gone.now.marks.items ≡ 4096 }
+    requires whole { length gone.now.marks.items ≡ 2048 }
     requires kinds { HasKindsOf gone.now.kinds gone.now.names }
     requires from { from ≤ end }
     requires end { end ≤ length nodes.now }
@@ -242,7 +242,7 @@ fn late_in_chunk(nodes: &[Node], chunks: &[u64], from: usize, end: usize, gone: 
 fn next_late(nodes: &[Node], chunks: &[u64], from: usize, end: usize, gone: &Gone) -> usize
     requires told { Tells chunks.now (seen nodes.now) }
     requires marked { AreMarked gone.now.marks.items gone.now.names }
-    requires whole { length gone.now.marks.items ≡ 4096 }
+    requires whole { length gone.now.marks.items ≡ 2048 }
     requires kinds { HasKindsOf gone.now.kinds gone.now.names }
     requires from { from ≤ end }
     requires end { end ≤ length nodes.now }
@@ -286,7 +286,7 @@ fn pass_all(
     requires within { (k : ℕ) → k < length places.now → slice_index_or places.now k 0 < length nodes.now }
     requires named { fits_list gone.now.names (gathered places.now (nodes_of (seen nodes.now))) }
     requires marked { AreMarked gone.now.marks.items gone.now.names }
-    requires whole { 0 < length places.now → length gone.now.marks.items ≡ 4096 }
+    requires whole { 0 < length places.now → length gone.now.marks.items ≡ 2048 }
     requires kinds { HasKindsOf gone.now.kinds gone.now.names }
     requires numbered { AreNumbered gone.now.names (length places.now) }
     ensures noted { IfOk result (λ p. AreNoted (has_it gone.now.names) (resolved_by gone.now.names p.notes.items)
@@ -538,7 +538,7 @@ fn changed_by(
     requires can { CanBePatched places.now chain.now found.now (seen nodes.now) }
     requires named { fits_list gone.now.names (gathered places.now (nodes_of (seen nodes.now))) }
     requires marked { AreMarked gone.now.marks.items gone.now.names }
-    requires whole { 0 < length places.now → length gone.now.marks.items ≡ 4096 }
+    requires whole { 0 < length places.now → length gone.now.marks.items ≡ 2048 }
     requires kinds { HasKindsOf gone.now.kinds gone.now.names }
     requires numbered { AreNumbered gone.now.names (length places.now) }
     ensures { IfOk result (λ v. IsRelisted places.now chain.now (seen nodes.now) (lists_seen v.items)) }

@@ -28,8 +28,8 @@ pub(crate) fn mark_of(key: &EntryKey) -> usize
     ensures { result ≡ mark_of key.now }
 {
     match key {
-        EntryKey::Leaf(name, _) => name.slot as usize % 4096,
-        EntryKey::Group(name) => name.slot as usize % 4096,
+        EntryKey::Leaf(name, _) => name.slot as usize % 2048,
+        EntryKey::Group(name) => name.slot as usize % 2048,
     }
 }
 
@@ -55,12 +55,12 @@ fn marks_at(alloc: Global, nodes: &[Node], gone: &[usize]) -> Result<Vec<bool>, 
     requires { (k : ℕ) → k < length gone.now → slice_index_or gone.now k 0 < length nodes.now }
     ensures marked { IfOk result (λ v. (k : EntryKey)
         → Contains (gathered gone.now (nodes_of (seen nodes.now))) k → slice_index_or v.items (mark_of k) false ≡ true) }
-    ensures whole { IfOk result (λ v. 0 < length gone.now → length v.items ≡ 4096) }
+    ensures whole { IfOk result (λ v. 0 < length gone.now → length v.items ≡ 2048) }
 {
     if gone.is_empty() {
         return Ok(Vec::new(alloc));
     }
-    let mut marks = vec![in alloc; false; 4096]?;
+    let mut marks = vec![in alloc; false; 2048]?;
     for place in gone {
         marks[mark_of(&nodes[*place].key)] = true;
     }
@@ -83,7 +83,7 @@ fn kinds_at(nodes: &[Node], gone: &[usize]) -> u64
 pub(crate) fn gone_at(alloc: Global, nodes: &[Node], gone: &[usize]) -> Result<Gone, AllocError>
     requires { (k : ℕ) → k < length gone.now → slice_index_or gone.now k 0 < length nodes.now }
     ensures marked { IfOk result (λ g. AreMarked g.marks.items g.names) }
-    ensures whole { IfOk result (λ g. 0 < length gone.now → length g.marks.items ≡ 4096) }
+    ensures whole { IfOk result (λ g. 0 < length gone.now → length g.marks.items ≡ 2048) }
     ensures kinds { IfOk result (λ g. HasKindsOf g.kinds g.names) }
     ensures named { IfOk result (λ g. fits_list g.names (gathered gone.now (nodes_of (seen nodes.now)))) }
     ensures numbered { IfOk result (λ g. AreNumbered g.names (length gone.now)) }

@@ -71,6 +71,12 @@ fn turn_in<T: Drop>(elements: &mut Vec<T>, place: usize, middle: usize, end: usi
     ensures len { vec_len elements.new ≡ vec_len elements.old }
     ensures room { vec_capacity elements.new ≡ vec_capacity elements.old }
 {
+    if place == middle {
+        return;
+    }
+    if middle == end {
+        return;
+    }
     turn(elements, place, middle, end);
 }
 

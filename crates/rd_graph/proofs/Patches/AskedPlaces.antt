@@ -15,7 +15,7 @@ use Rattle.rd_graph.proofs.Lists.Entries.{same_entry-sound, same_entry-refl, not
 use Rattle.rd_graph.proofs.Lists.Listing.{Has, cases, never, has_either}
 use Rattle.rd_graph.proofs.Patches.Marks.{mark_small}
 
-pub mark_fits : (k : EntryKey) (mark size : ℕ) → mark ≡ mark_of k → size ≡ 4096 → mark < size
+pub mark_fits : (k : EntryKey) (mark size : ℕ) → mark ≡ mark_of k → size ≡ 2048 → mark < size
 mark_fits k mark size e w = let s = mark_small k in omega (arith, s, e, w)
 
 set_keeps : (marks : List Bool) (mark : ℕ) → mark < length marks → KeepsMarks marks (slice_set marks mark true)
@@ -28,9 +28,9 @@ set_keeps marks mark l i h = elim (cases_lt i mark) [
 ]
 
 -- the loop over names
-pub mark_next : (names : List EntryKey) (i : ℕ) (d : EntryKey) (mark : ℕ) (start marks : List Bool) → i < length names → mark ≡ mark_of (get_or names i d) → length marks ≡ 4096
+pub mark_next : (names : List EntryKey) (i : ℕ) (d : EntryKey) (mark : ℕ) (start marks : List Bool) → i < length names → mark ≡ mark_of (get_or names i d) → length marks ≡ 2048
     → KeepsMarks start marks → ((k : EntryKey) → Has (take i names) k → HasMark marks k)
-    → (length (slice_set marks mark true) ≡ 4096) × KeepsMarks start (slice_set marks mark true) × ((k : EntryKey) → Has (take (i + 1) names) k → HasMark (slice_set marks mark true) k)
+    → (length (slice_set marks mark true) ≡ 2048) × KeepsMarks start (slice_set marks mark true) × ((k : EntryKey) → Has (take (i + 1) names) k → HasMark (slice_set marks mark true) k)
 mark_next names i d mark start marks l e w kept was =
     let m : mark < length marks = mark_fits (get_or names i d) mark (length marks) e w in (
       length-set marks mark true ∙ w,

@@ -107,7 +107,7 @@ get_set-true (x ∷ xs) zero (suc k) h = h
 get_set-true (x ∷ xs) (suc i) zero h = h
 get_set-true (x ∷ xs) (suc i) (suc k) h = get_set-true xs i k h
 
-pub mark_small : (k : EntryKey) → mark_of k < 4096
+pub mark_small : (k : EntryKey) → mark_of k < 2048
 mark_small (key.Leaf k p) = omega arith
 mark_small (key.Group k) = omega arith
 
@@ -122,9 +122,9 @@ set_length [] i = refl
 set_length (x ∷ xs) zero = refl
 set_length (x ∷ xs) (suc i) = ap suc (set_length xs i)
 
-pub marked_next : (ns : List Node) (ps : List ℕ) (i : ℕ) (n : Node) (mark : ℕ) (marks : List Bool) → i < length ps → get_or ps i 0 < length ns → n ≡ get_or ns (get_or ps i 0) n → mark ≡ mark_of n.key → length marks ≡ 4096
+pub marked_next : (ns : List Node) (ps : List ℕ) (i : ℕ) (n : Node) (mark : ℕ) (marks : List Bool) → i < length ps → get_or ps i 0 < length ns → n ≡ get_or ns (get_or ps i 0) n → mark ≡ mark_of n.key → length marks ≡ 2048
     → ((k : EntryKey) → Has (gathered (take i ps) (nodes (seen ns))) k → get_or marks (mark_of k) false ≡ true)
-    → (length (slice_set marks mark true) ≡ 4096) × ((k : EntryKey) → Has (gathered (take (i + 1) ps) (nodes (seen ns))) k → get_or (slice_set marks mark true) (mark_of k) false ≡ true)
+    → (length (slice_set marks mark true) ≡ 2048) × ((k : EntryKey) → Has (gathered (take (i + 1) ps) (nodes (seen ns))) k → get_or (slice_set marks mark true) (mark_of k) false ≡ true)
 marked_next ns ps i n mark marks l m e u w was = (
   set_length marks mark ∙ w,
   λ k h. elim (has_either (gathered (take i ps) (nodes (seen ns))) (n.key ∷ []) k (subst (λ (z : List EntryKey). Has z k) (gone_next ns ps i n l m e) h)) [

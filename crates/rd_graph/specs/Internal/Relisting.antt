@@ -11,8 +11,8 @@ use Rattle.rd_graph.specs.Internal.Tables.{at, has_it}
 
 -- where a name has its mark, which other names may share
 abbrev pub mark_of : EntryKey → ℕ
-mark_of (key.Leaf k p) = k.slot % 4096
-mark_of (key.Group k) = k.slot % 4096
+mark_of (key.Leaf k p) = k.slot % 2048
+mark_of (key.Group k) = k.slot % 2048
 
 -- has a name its mark?
 abbrev pub has_mark : List Bool → EntryKey → Bool

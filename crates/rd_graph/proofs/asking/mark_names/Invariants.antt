@@ -6,7 +6,7 @@ use Rattle.rd_graph.proofs.asking.mark_names.Given as goal
 
 abbrev pub invariant-loop-name : goal.invariant-loop-name
 invariant-loop-name l = record {
-  whole : length l.marks.items ≡ 4096;
+  whole : length l.marks.items ≡ 2048;
   kept : KeepsMarks l.fn.marks.items l.marks.items;
   marked : (k : EntryKey) → Has (take l.name-index l.names) k → HasMark l.marks.items k;
 }

@@ -13,7 +13,7 @@ pub index_mut-requires : goal.index_mut-requires
 index_mut-requires c =
     let e = c.mark_of.ensures ∙ ap (λ (n : Node). mark_of n.key) (sym c.index-nodes-place.is) in
     let s = mark_small c.index-nodes-place.result.key in
-    let w : vec_len c.loop-place.marks ≡ 4096 = c.loop-place.marks.ok.0 ∙ c.loop-place.invariant.whole in
+    let w : vec_len c.loop-place.marks ≡ 2048 = c.loop-place.marks.ok.0 ∙ c.loop-place.invariant.whole in
     omega (arith, e, s, w)
 
 pub loop-place-preserved : goal.loop-place-preserved

@@ -9,6 +9,6 @@ use Rattle.rd_graph.proofs.gone.marks_at.Given as goal
 
 abbrev pub invariant-loop-place : goal.invariant-loop-place
 invariant-loop-place l = record {
-  whole : length l.marks.items ≡ 4096;
+  whole : length l.marks.items ≡ 2048;
   marked : (k : EntryKey) → Has (gathered (take l.place-index l.gone) (nodes (seen l.nodes))) k → get_or l.marks.items (mark_of k) false ≡ true;
 }
