@@ -150,7 +150,7 @@ fn told_group(key: BoxKey, opacity: u8, blend: Blend, entries: usize) -> RdEntry
 fn count<A: Ledger>(list: &Kept<A>) -> usize
     ensures { result ≡ told.count_of list.now.entries }
 {
-    list.entries.len()
+    list.entries().len()
 }
 
 /// Each entry of a level in order.
@@ -158,7 +158,7 @@ fn count<A: Ledger>(list: &Kept<A>) -> usize
 fn push_level<A: Ledger>(out: &mut Vec<RdEntry>, list: &Kept<A>) -> Result<(), NoMemory>
     ensures { OnOk result (out.new.items ≡ out.old.items ++ listed list.now.entries) }
 {
-    push_entries(out, &list.entries)
+    push_entries(out, list.entries())
 }
 
 #[cycle(listing)]

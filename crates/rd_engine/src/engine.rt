@@ -105,7 +105,7 @@ impl<A: Ledger, B: Ledger> Engine<A, B> {
     {
         let size = tree.canvas();
         let canvas = Canvas::new(alloc, size)?;
-        let list = Kept::empty(alloc);
+        let list = Kept::empty();
         let _root = tree.root();
         Ok(Engine {
             alloc,
@@ -337,7 +337,7 @@ impl<A: Ledger, B: Ledger> Engine<A, B> {
         let _root = self.tree.root();
         let _boxes = self.tree.boxes();
         let _size = self.tree.canvas();
-        let old = mem::replace(&mut self.list, Kept::empty(self.alloc));
+        let old = mem::replace(&mut self.list, Kept::empty());
         self.list = finish(old, new, plan);
         repaint(&mut self.canvas, self.list.view(), &area, &mut buffers);
         self.tree.settle();

@@ -129,7 +129,8 @@ fn left_below<A: Ledger>(entries: &[Entry<A>], from: usize, x: i32, y: i32) -> u
 fn topmost_of<A: Ledger>(list: &Kept<A>, x: i32, y: i32) -> Option<BoxKey>
     ensures { result ≡ lists.hit (kept_leaves list.now.entries) x y }
 {
-    topmost_by(&list.chunks, &list.entries, x, y)
+    let (chunks, entries) = list.chunked();
+    topmost_by(chunks, entries, x, y)
 }
 
 /// The same of a level, chunk by chunk from the top down.

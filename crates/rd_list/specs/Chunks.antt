@@ -1,6 +1,7 @@
 -- Chunks of the entries of a level, and what each tells of its entries.
 -- All of it is this project's own choice.
-use Rattle.std.specs.Prelude.{◌≡◌, ℕ, ◌+◌, ◌≤◌, false, ◌<◌, ◌≢◌, IfSome, Option, List, [], ◌∷◌, length, take, drop, slice_index_or}
+use Rattle.std.specs.Prelude.{◌≡◌, ℕ, ◌+◌, ◌≤◌, false, ◌<◌, ◌≢◌, IfSome, Option, None, Some, Box, List, [], ◌∷◌, length, take, drop, slice_index_or}
+use Rattle.std.specs.declared.alloc.Global.{Global}
 use Rattle.rd_geom.specs.Plane.{Rectangle, IsWithin}
 use Rattle.rd_item.specs.Items.{Made}
 use Rattle.rd_keys.specs.Keys.{BoxKey}
@@ -15,6 +16,7 @@ use Rattle.rd_list.specs.declared.chunks.Chunk.{Chunk}
 use Rattle.rd_list.specs.declared.told.ChunkBounds.{ChunkBounds}
 use Rattle.rd_list.specs.declared.kept.Entry.{Entry}
 use Rattle.rd_list.specs.declared.kept.Entry.TheVariants.{Leaf, Group}
+use Rattle.rd_list.specs.declared.kept.Level.{Level}
 
 -- how many entries chunks have
 abbrev pub total : List Chunk → ℕ
@@ -80,6 +82,11 @@ module _ {A : Type 0} where
   abbrev pub Covers : List Chunk → List (Entry A) → Type 0
   Covers [] es = Unit {0}
   Covers (b ∷ bs) es = (b.count ≤ length es) × (b.is_open ≡ false → Tells b (take b.count es)) × Covers bs (drop b.count es)
+
+  -- The chunks of a level that may have no room are those of its first entries.
+  abbrev pub CoversLevel : Option (Box (Level A) Global) → Type 0
+  CoversLevel None = Unit {0}
+  CoversLevel (Some l) = Covers l.value.chunks.items l.value.entries.items
 
   -- They are those of all entries.
   abbrev pub CoversAll : List Chunk → List (Entry A) → Type 0

@@ -1,10 +1,10 @@
 //! What is told of entries at once: where all that may be seen of them lies, how many leaves they are or hold, and the range of
 //! their names.
-ghost use Rattle.std.specs.Prelude.{IfSome, IsTrue, List, ◌≡◌, ◌∷◌, ◌++◌, []};
+ghost use Rattle.std.specs.Prelude.{IfSome, IsTrue, List, length, ◌≡◌, ◌∷◌, ◌++◌, []};
 ghost use Rattle.rd_list.specs.declared.kept.Entry.{Entry as KeptEntry};
 ghost use Rattle.rd_list.specs.declared.kept.Entry.TheVariants as variants;
-ghost use Rattle.rd_list.specs.Chunks.{Covers, IsGroupTold, IsListTold, IsTold, IsWider};
-ghost use Rattle.rd_list.specs.Entries.{is_empty};
+ghost use Rattle.rd_list.specs.Chunks.{Covers, IsGroupTold, IsListTold, IsTold, IsWider, leaf_count};
+ghost use Rattle.rd_list.specs.Entries.{flat, is_empty};
 ghost use Rattle.rd_list.specs.KeptView.{kept_entries};
 ghost use Rattle.rd_list.specs.Internal.Telling.{IsBoth};
 
@@ -73,10 +73,39 @@ fn told_by<A: Ledger>(chunks: &[Chunk], entries: &[Entry<A>]) -> Option<ChunkBou
 }
 
 /// What chunks tell of a list.
-pub(crate) fn list_told<A: Ledger>(list: &Kept<A>) -> Option<ChunkBounds>
+fn list_told<A: Ledger>(list: &Kept<A>) -> Option<ChunkBounds>
     ensures { IfSome result (λ t. IsListTold t list.now.entries) }
 {
-    told_by(&list.chunks, &list.entries)
+    let (chunks, entries) = list.chunked();
+    told_by(chunks, entries)
+}
+
+/// How many leaves all entries of a level are or hold, as chunks tell it. None where one is open, or an entry has none.
+fn leaves_by<A: Ledger>(chunks: &[Chunk], entries: &[Entry<A>]) -> Option<usize>
+    requires { Covers chunks.now entries.now }
+    ensures { IfSome result (λ n. n ≡ leaf_count entries.now) }
+{
+    let mut leaves: usize = 0;
+    let mut place = 0;
+    for chunk in chunks {
+        if chunk.is_open {
+            return None;
+        }
+        leaves = leaves.checked_add(chunk.told.leaves)?;
+        place += chunk.count;
+    }
+    if place < entries.len() {
+        return None;
+    }
+    Some(leaves)
+}
+
+/// How many leaves a list has, as its chunks tell it.
+pub(crate) fn list_leaves<A: Ledger>(list: &Kept<A>) -> Option<usize>
+    ensures { IfSome result (λ n. n ≡ length (flat list.now.entries)) }
+{
+    let (chunks, entries) = list.chunked();
+    leaves_by(chunks, entries)
 }
 
 /// Is there no entry?
@@ -91,7 +120,7 @@ fn has_none<A: Ledger>(entries: &[Entry<A>]) -> bool
 fn group_told<A: Ledger>(key: BoxKey, list: &Kept<A>) -> Option<ChunkBounds>
     ensures { IfSome result (λ t. IsGroupTold t key list.now.entries) }
 {
-    if has_none(&list.entries) {
+    if has_none(list.entries()) {
         return None;
     }
     let told = list_told(list)?;

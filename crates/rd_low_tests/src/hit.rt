@@ -7,7 +7,7 @@ use rd_graph::OrderGraph;
 use rd_hit::hit;
 use rd_item::{Item, Leaf, Shape};
 use rd_keys::{BoxKey, Key, Part};
-use rd_list::{Entry, Group, Kept};
+use rd_list::{Entry, Group, Kept, Level};
 use std::alloc::Global;
 use std::marker::Brand;
 use std::sync::ledger::{Blank, Ledger};
@@ -39,6 +39,16 @@ fn part_of<A: Ledger>(
     Some(Entry::Leaf(Item::make(leaf, 1, made)))
 }
 
+// The list of these entries.
+fn list_of<A: Ledger>(alloc: Global, entries: Vec<Entry<A>>) -> Option<Kept<A>> {
+    let level = Level {
+        entries,
+        graph: OrderGraph::empty(alloc),
+        chunks: Vec::new(alloc),
+    };
+    Kept::new(alloc, level).ok()
+}
+
 // From bottom to top: box 1 on columns 0 to 3; in a group box 2 on columns 2 to 5;
 // box 3 on columns 3 to 6, which takes no hits; the outline of box 4 on columns 0 to 3.
 fn scene<A: Ledger>(alloc: Global, made: &mut Steps<A>) -> Option<Kept<A>> {
@@ -46,11 +56,7 @@ fn scene<A: Ledger>(alloc: Global, made: &mut Steps<A>) -> Option<Kept<A>> {
     entries.push(part_of(1, Part::Back, 0, true, made)?).ok()?;
     let mut inner = Vec::new(alloc);
     inner.push(part_of(2, Part::Back, 2, true, made)?).ok()?;
-    let inner = Kept {
-        entries: inner,
-        graph: OrderGraph::empty(alloc),
-        chunks: Vec::new(alloc),
-    };
+    let inner = list_of(alloc, inner)?;
     entries
         .push(Entry::Group(Group {
             key: Key::new(2, 0),
@@ -63,12 +69,7 @@ fn scene<A: Ledger>(alloc: Global, made: &mut Steps<A>) -> Option<Kept<A>> {
     entries
         .push(part_of(4, Part::Outline, 0, true, made)?)
         .ok()?;
-    let graph = OrderGraph::empty(alloc);
-    Some(Kept {
-        entries,
-        graph,
-        chunks: Vec::new(alloc),
-    })
+    list_of(alloc, entries)
 }
 
 fn is_hit_right<A: Ledger>(list: &Kept<A>) -> bool {

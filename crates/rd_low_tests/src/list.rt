@@ -96,23 +96,25 @@ fn nested<A: Ledger>(
     in_two(rt, alloc, entries, top)
 }
 
-// A graph has so many names.
-fn has_names(rt: &impl Abort, alloc: Global, graph: &OrderGraph, names: usize) {
+// The graph of a level has so many names.
+fn has_names<A: Ledger>(rt: &impl Abort, alloc: Global, list: &Kept<A>, names: usize) {
+    let graph = list.graph().expect(rt, "a graph");
     let order = graph.order(alloc).expect(rt, "an order");
     assert_eq!(rt; order.len(), names);
 }
 
 // Two entries in a chain, of which the second is a group of two in a chain.
 fn is_nested<A: Ledger>(rt: &impl Abort, alloc: Global, kept: &Kept<A>) {
-    has_names(rt, alloc, &kept.graph, 2);
-    assert_eq!(rt; kept.entries.len(), 2);
-    match &kept.entries[1] {
+    has_names(rt, alloc, kept, 2);
+    let entries = kept.entries();
+    assert_eq!(rt; entries.len(), 2);
+    match &entries[1] {
         Entry::Leaf(_) => panic!(rt; "no group"),
         Entry::Group(group) => {
-            has_names(rt, alloc, &group.inner.graph, 2);
+            has_names(rt, alloc, &group.inner, 2);
             assert_eq!(rt; group.opacity, 128);
             assert_eq!(rt; group.blend, Blend::Screen);
-            assert_eq!(rt; group.inner.entries.len(), 2);
+            assert_eq!(rt; group.inner.entries().len(), 2);
         }
     }
 }

@@ -151,15 +151,16 @@ fn is_leaf<A: Ledger>(entry: &Entry<A>, owner: BoxKey, part: Part, at: u64) -> b
 
 // The back and the content stay as they were. In the group the other box was touched, and the border lies in the same area.
 fn is_as_worked<A: Ledger>(kept: &Kept<A>, one: BoxKey, other: BoxKey) -> bool {
-    if kept.entries.len() != 3 {
+    let entries = kept.entries();
+    if entries.len() != 3 {
         return false;
     }
-    let back = is_leaf(&kept.entries[0], one, Part::Back, 1);
-    let content = is_leaf(&kept.entries[2], one, Part::Content, 1);
-    match &kept.entries[1] {
+    let back = is_leaf(&entries[0], one, Part::Back, 1);
+    let content = is_leaf(&entries[2], one, Part::Content, 1);
+    match &entries[1] {
         Entry::Leaf(_) => false,
         Entry::Group(group) => {
-            let inside = &group.inner.entries;
+            let inside = group.inner.entries();
             back && content
                 && group.opacity == 128
                 && group.blend == Blend::Multiply
@@ -204,15 +205,16 @@ fn late<A: Ledger>(
 
 // Two entries of one box and a group of one leaf between them.
 fn is_lessened<A: Ledger>(kept: &Kept<A>, one: BoxKey) -> bool {
-    if kept.entries.len() != 3 {
+    let entries = kept.entries();
+    if entries.len() != 3 {
         return false;
     }
-    let back = is_leaf(&kept.entries[0], one, Part::Back, 1);
-    let content = is_leaf(&kept.entries[2], one, Part::Content, 1);
-    match &kept.entries[1] {
+    let back = is_leaf(&entries[0], one, Part::Back, 1);
+    let content = is_leaf(&entries[2], one, Part::Content, 1);
+    match &entries[1] {
         Entry::Leaf(_) => false,
         Entry::Group(group) => {
-            let inside = &group.inner.entries;
+            let inside = group.inner.entries();
             back && content && inside.len() == 1 && is_leaf(&inside[0], one, Part::Border, 1)
         }
     }
@@ -220,16 +222,17 @@ fn is_lessened<A: Ledger>(kept: &Kept<A>, one: BoxKey) -> bool {
 
 // The content of the other box has come between the group and the content of the first one.
 fn is_widened<A: Ledger>(kept: &Kept<A>, one: BoxKey, other: BoxKey) -> bool {
-    if kept.entries.len() != 4 {
+    let entries = kept.entries();
+    if entries.len() != 4 {
         return false;
     }
-    let back = is_leaf(&kept.entries[0], one, Part::Back, 1);
-    let between = is_leaf(&kept.entries[2], other, Part::Content, 2);
-    let content = is_leaf(&kept.entries[3], one, Part::Content, 2);
-    match &kept.entries[1] {
+    let back = is_leaf(&entries[0], one, Part::Back, 1);
+    let between = is_leaf(&entries[2], other, Part::Content, 2);
+    let content = is_leaf(&entries[3], one, Part::Content, 2);
+    match &entries[1] {
         Entry::Leaf(_) => false,
         Entry::Group(group) => {
-            let inside = &group.inner.entries;
+            let inside = group.inner.entries();
             let border = inside.len() == 2 && is_leaf(&inside[0], one, Part::Border, 1);
             back && between && content && border && is_leaf(&inside[1], other, Part::Back, 2)
         }
@@ -256,7 +259,7 @@ fn first<A: Ledger>(
         all: true,
         key: other,
     };
-    match merge(alloc, Kept::empty(alloc), list, &all) {
+    match merge(alloc, Kept::empty(), list, &all) {
         Ok(kept) => Ok(kept),
         Err((_, e)) => Err(e),
     }

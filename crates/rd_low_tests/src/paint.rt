@@ -10,7 +10,7 @@ use rd_geom::{Blend, Color, NoMemory, Px, Rect, Size, Steps, px_of};
 use rd_graph::OrderGraph;
 use rd_item::{Item, Leaf, Shape};
 use rd_keys::{Key, Part};
-use rd_list::{Entry, Group, Kept};
+use rd_list::{Entry, Group, Kept, Level};
 use rd_paint::{Buffers, Canvas, paint_span, repaint};
 use std::alloc::Global;
 use std::marker::Brand;
@@ -71,18 +71,26 @@ fn columns<A: Ledger>(
     Item::make(leaf, 1, made)
 }
 
-fn faded<A: Ledger>(alloc: Global, opacity: u8, entries: Vec<Entry<A>>) -> Group<A>
+// The list of these entries.
+fn list_of<A: Ledger>(rt: &impl Abort, alloc: Global, entries: Vec<Entry<A>>) -> Kept<A>
+    ensures { levels result.entries ≡ levels (kept_entries entries.items) }
+{
+    let level = Level {
+        entries,
+        graph: OrderGraph::empty(alloc),
+        chunks: Vec::new(alloc),
+    };
+    Kept::new(alloc, level).expect(rt, "a level")
+}
+
+fn faded<A: Ledger>(rt: &impl Abort, alloc: Global, opacity: u8, entries: Vec<Entry<A>>) -> Group<A>
     ensures { levels result.inner.entries ≡ levels (kept_entries entries.items) }
 {
     Group {
         key: Key::new(0, 0),
         opacity,
         blend: Blend::Normal,
-        inner: Kept {
-            entries,
-            graph: OrderGraph::empty(alloc),
-            chunks: Vec::new(alloc),
-        },
+        inner: list_of(rt, alloc, entries),
     }
 }
 
@@ -92,7 +100,7 @@ fn half<A: Ledger>(rt: &impl Abort, alloc: Global, entry: Entry<A>) -> Group<A>
 {
     let mut entries = Vec::new(alloc);
     match entries.push(entry) {
-        Ok(()) => faded(alloc, 128, entries),
+        Ok(()) => faded(rt, alloc, 128, entries),
         Err(_) => panic!(rt; "no room for an entry"),
     }
 }
@@ -162,12 +170,7 @@ fn scene<A: Ledger>(rt: &impl Abort, alloc: Global, made: &mut Steps<A>) -> Kept
     put(rt, &mut entries, Entry::Leaf(green));
     put_orange(rt, alloc, &mut entries, 3, Blend::Screen, made);
     put_orange(rt, alloc, &mut entries, 4, Blend::Multiply, made);
-    let graph = OrderGraph::empty(alloc);
-    Kept {
-        entries,
-        graph,
-        chunks: Vec::new(alloc),
-    }
+    list_of(rt, alloc, entries)
 }
 
 const SIZE: Size = Size { w: 6, h: 4 };

@@ -9,7 +9,7 @@ use rd_geom::{Color, NoMemory, Px, Rect, Size, Steps, px_of};
 use rd_graph::OrderGraph;
 use rd_item::{Item, Leaf, Shape};
 use rd_keys::{Key, Part};
-use rd_list::{Entry, Kept};
+use rd_list::{Entry, Kept, Level};
 use rd_paint::{Buffers, Canvas};
 use rd_tiles::{TileCanvas, cover};
 use std::alloc::Global;
@@ -95,11 +95,12 @@ fn list_of<A: Ledger>(
         let item = leaf(rt, *side, *color, made);
         push(&mut entries, item).expect(rt, "room for an entry");
     }
-    Kept {
+    let level = Level {
         entries,
         graph: OrderGraph::empty(alloc),
         chunks: Vec::new(alloc),
-    }
+    };
+    Kept::new(alloc, level).expect(rt, "a level")
 }
 
 // The square of so many pixels in the upper left corner.

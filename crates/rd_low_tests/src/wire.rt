@@ -123,7 +123,7 @@ fn groups_are_no_deeper_than_256(rt: HostRuntime) {
 }
 
 fn no_entry<A: Ledger>(alloc: Global) -> Result<Vec<u8>, NoMemory> {
-    let list: Kept<A> = Kept::empty(alloc);
+    let list: Kept<A> = Kept::empty();
     encode(alloc, list.view(), Size { w: 3, h: 258 })
 }
 

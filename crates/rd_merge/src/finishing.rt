@@ -13,7 +13,7 @@ use crate::moving::in_line;
 use crate::opening::{next_item, open, push_next};
 use crate::plan::{Plan, Step};
 use crate::taking::NewEntries;
-use rd_list::{Chunk, ChunkCursor, Entry, FIRST_CHUNK, Group, Kept, NewList, renew_chunks};
+use rd_list::{Chunk, ChunkCursor, Entry, FIRST_CHUNK, Group, Kept, Level, NewList, renew_chunks};
 use std::sync::ledger::Ledger;
 
 /// The plan, filled from the two lists: new entries are put at their places, and the rest stays where it is unless the plan has a line.
@@ -32,9 +32,13 @@ pub fn finish<A: Ledger>(kept: Kept<A>, new: NewList<A>, plan: Plan<A>) -> Kept<
         room,
         parts,
         mut chunks,
+        mut level,
     } = plan;
-    let mut entries = kept.entries;
-    let mut had = kept.chunks;
+    let Level {
+        mut entries,
+        graph,
+        chunks: mut had,
+    } = kept.into_level(alloc);
     let mut seek = FIRST_CHUNK;
     let mut fresh = NewEntries::new(alloc, new);
     for step in steps {
@@ -43,11 +47,12 @@ pub fn finish<A: Ledger>(kept: Kept<A>, new: NewList<A>, plan: Plan<A>) -> Kept<
     let had = in_line_chunks(had, &entries, &made, patch.line(), parts);
     let entries = in_line(alloc, entries, made, patch.line(), aside, room);
     renew_chunks(&mut chunks, &entries, &had);
-    Kept {
+    *level = Level {
         entries,
-        graph: kept.graph.apply(patch),
+        graph: graph.apply(patch),
         chunks,
-    }
+    };
+    Kept::of(level)
 }
 
 /// One step: an entry is put at its place, or on top of the ones that are made.

@@ -65,7 +65,7 @@ fn goes_at<A: Ledger, T: Touches>(entry: &Entry<A>, tree: &T) -> bool
     match entry {
         Entry::Leaf(item) => tree.touches(item.owner()),
         Entry::Group(group) => {
-            has_none(&group.inner.entries) || any_goes(&group.inner.entries, tree)
+            has_none(group.inner.entries()) || any_goes(group.inner.entries(), tree)
         }
     }
 }
@@ -76,7 +76,7 @@ fn goes_inside<A: Ledger, T: Touches>(entry: &Entry<A>, tree: &T) -> bool
 {
     match entry {
         Entry::Leaf(_) => false,
-        Entry::Group(group) => any_goes(&group.inner.entries, tree),
+        Entry::Group(group) => any_goes(group.inner.entries(), tree),
     }
 }
 

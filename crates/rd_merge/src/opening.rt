@@ -150,7 +150,7 @@ pub(crate) fn open<A: Ledger>(
             key,
             opacity,
             blend,
-            kept: Kept::empty(alloc),
+            kept: Kept::empty(),
             new: inner,
         };
     };

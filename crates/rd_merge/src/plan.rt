@@ -2,13 +2,13 @@
 ghost use Rattle.std.specs.Prelude.{◌≡◌};
 
 use rd_graph::Patch;
-use rd_list::{Chunk, Entry};
+use rd_list::{Chunk, Entry, Level};
 use std::alloc::Global;
 use std::marker::Model;
 use std::sync::ledger::Ledger;
 
 /// What a merge does at a level: the patch of its graph, what is put where, and room for the entries that are made, for those that are
-/// set aside and for the line, and for what chunks say of the line and then of the result.
+/// set aside and for the line, for what chunks say of the line and then of the result, and for the level itself.
 #[derive(Drop)]
 #[cycle(plan)]
 pub struct Plan<A: Ledger> {
@@ -20,6 +20,7 @@ pub struct Plan<A: Ledger> {
     pub(crate) room: Vec<Entry<A>>,
     pub(crate) parts: Vec<Chunk>,
     pub(crate) chunks: Vec<Chunk>,
+    pub(crate) level: Box<Level<A>>,
 }
 
 /// The next new leaf goes to a place of the level, or is made. Or there is something to do in a group: at a place of the level, or it is made; the next

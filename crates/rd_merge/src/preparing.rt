@@ -1,6 +1,6 @@
 //! The first half of a merge: all memory is taken, and nothing is changed.
-ghost use Rattle.std.specs.Prelude.{◌≡◌, ◌≤◌, ◌∷◌, [], Some, IfOk, OnOk, map};
-ghost use Rattle.rd_graph.specs.Patches.{line_of};
+ghost use Rattle.std.specs.Prelude.{◌≡◌, ◌<◌, ◌≤◌, ◌∷◌, [], Some, IfOk, OnOk, length, map, slice_index_or};
+ghost use Rattle.rd_graph.specs.Patches.{CanBePatched, FitsPatch, IsPatched, line_of};
 ghost use Rattle.rd_graph.specs.Runs.{HasLineRoom};
 ghost use Rattle.rd_list.specs.Entries as list;
 ghost use Rattle.rd_list.specs.EntryNames.{new_names};
@@ -16,8 +16,8 @@ ghost use Rattle.rd_merge.specs.Internal.Planning.{EntriesFit, GroupFits, Groups
 use crate::going::Touches;
 use crate::looking::look;
 use crate::plan::{Plan, Step};
-use rd_graph::{Change, Patch, aside_room, line_room};
-use rd_list::{Chunk, Entry, Kept, NewEntry, NewList, new_keys};
+use rd_graph::{Change, OrderGraph, Patch, aside_room, line_room};
+use rd_list::{Chunk, Entry, Kept, Level, NewEntry, NewList, new_keys};
 use std::alloc::{AllocError, Global};
 use std::sync::ledger::Ledger;
 
@@ -38,6 +38,22 @@ pub fn prepare<A: Ledger, T: Touches>(
 {
     let plan = plan_level(alloc, kept, new, tree)?;
     Ok(plan)
+}
+
+/// The patch of the graph of a level. That of a level without room is empty.
+fn patch_of<A: Ledger>(
+    alloc: Global,
+    kept: &Kept<A>,
+    change: Change<'_>,
+) -> Result<Patch, AllocError>
+    requires { CanBePatched change.removed.now change.chain.now change.old_places.now kept.now.graph }
+    ensures fits { IfOk result (λ p. FitsPatch p kept.now.graph) }
+    ensures patched { IfOk result (λ p. IsPatched change.entry.removed.now change.entry.chain.now change.entry.old_places.now kept.now.graph p) }
+{
+    match kept.graph() {
+        Some(graph) => graph.patch(alloc, change),
+        None => OrderGraph::empty(alloc).patch(alloc, change),
+    }
 }
 
 /// Room for the entries of a patch's line, if there is one.
@@ -99,6 +115,7 @@ fn with_room<A: Ledger>(
     let room = entry_room(alloc, &patch)?;
     let parts = part_room(alloc, &patch, had)?;
     let chunks = chunk_room(alloc, &patch, had, steps.len(), groups)?;
+    let level = Box::new(alloc, Level::empty(alloc))?;
     Ok(Plan {
         alloc,
         patch,
@@ -108,6 +125,7 @@ fn with_room<A: Ledger>(
         room,
         parts,
         chunks,
+        level,
     })
 }
 
@@ -129,19 +147,20 @@ fn plan_level<A: Ledger, T: Touches>(
     ensures { IfOk result (IsPlan (T.is_touched tree.now) kept.now new.now) }
 {
     let names = new_keys(alloc, new)?;
-    let looked = look(alloc, &kept.entries, &kept.chunks, &names, tree)?;
+    let (chunks, entries) = kept.chunked();
+    let looked = look(alloc, entries, chunks, &names, tree)?;
     let change = Change {
         removed: &looked.gone,
         chain: &names,
         old_places: &looked.found,
     };
-    let patch = kept.graph.patch(alloc, change)?;
+    let patch = patch_of(alloc, kept, change)?;
     let planned = plan_entries(alloc, kept, &new.runs, &looked.found, tree)?;
     let mut steps = planned.steps;
     let mut inner = plan_groups(alloc, kept, &looked.inner, tree)?;
     steps.append(&mut inner)?;
     let groups = planned.groups.saturating_add(looked.inner.len());
-    let plan = with_room(alloc, patch, steps, names.len(), groups, kept.chunks.len())?;
+    let plan = with_room(alloc, patch, steps, names.len(), groups, chunks.len())?;
     Ok(plan)
 }
 
@@ -245,6 +264,14 @@ fn plan_group_step<A: Ledger, T: Touches>(
     })
 }
 
+/// The entry at a place.
+fn entry_at<A: Ledger>(entries: &[Entry<A>], place: usize) -> &Entry<A>
+    requires { place < length entries.now }
+    ensures { result.now ≡ slice_index_or entries.now place result.now }
+{
+    &entries[place]
+}
+
 /// The plan of the merge of a group's new list with the group at a place of the kept level, if there is one.
 #[cycle(planning)]
 fn plan_new_group<A: Ledger, T: Touches>(
@@ -258,10 +285,10 @@ fn plan_new_group<A: Ledger, T: Touches>(
     ensures { IfOk result (IsPlan (T.is_touched tree.now) (old_list place kept.now.entries) new.now) }
 {
     let Some(place) = place else {
-        let none = Kept::empty(alloc);
+        let none = Kept::empty();
         return plan_level(alloc, &none, new, tree);
     };
-    match &kept.entries[place] {
+    match entry_at(kept.entries(), place) {
         Entry::Leaf(_) => unreachable!(),
         Entry::Group(group) => plan_level(alloc, &group.inner, new, tree),
     }
@@ -298,7 +325,7 @@ fn plan_kept_group<A: Ledger, T: Touches>(
     ensures { IfOk result (λ s.
         InnerSteps (T.is_touched tree.now) kept.now.entries (place ∷ []) (steps_seen (s ∷ []))) }
 {
-    match &kept.entries[place] {
+    match entry_at(kept.entries(), place) {
         Entry::Leaf(_) => unreachable!(),
         Entry::Group(group) => {
             let none = NewList::empty(alloc);

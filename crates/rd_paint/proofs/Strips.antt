@@ -3,7 +3,7 @@ use Rattle.std.proofs.Common.{◌≡◌, ℕ, pos, ◌+◌, ◌<◌, ◌≤◌, 
 use Rattle.rd_paint.specs.Pictures.{Picture}
 use Rattle.rd_paint.specs.declared.strip.Strip.{Strip}
 use Rattle.rd_paint.specs.declared.strip.PixelRect.{PixelRect}
-use Rattle.rd_paint.specs.Internal.Strips.{IsRectOn, IsStripOn, IsWithinLimits}
+use Rattle.rd_paint.specs.Internal.Strips.{IsRectOn, IsStripOn}
 
 module _ (old new : Picture) where
   pub strip_still : (s : Strip) → new.width ≡ old.width → new.height ≡ old.height → IsStripOn old s → IsStripOn new s

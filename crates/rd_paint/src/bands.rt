@@ -346,7 +346,8 @@ pub(crate) fn paint_kept<A: Ledger>(
     ensures same { IsFalse result → canvas.new ≡ canvas.old }
 {
     if from == 0 {
-        return paint_all(canvas, window, &list.entries, &list.chunks, rows, room);
+        let (chunks, entries) = list.chunked();
+        return paint_all(canvas, window, entries, chunks, rows, room);
     }
-    paint_all(canvas, window, upper(&list.entries, from), &[], rows, room)
+    paint_all(canvas, window, upper(list.entries(), from), &[], rows, room)
 }

@@ -181,8 +181,7 @@ fn lay_seen<A: Ledger>(
         return;
     }
     let (row, rest) = rows.split_at_mut(n);
-    let inner = &group.inner;
-    let entries: &[Entry<A>] = &inner.entries;
+    let entries = group.inner.entries();
     let laid = begin_row(entries, own, y, x0, row);
     lay_picks(entries, &own[laid..], y, x0, row, rest);
     lay_row(out, row, group.blend, group.opacity);

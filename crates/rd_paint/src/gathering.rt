@@ -118,14 +118,8 @@ fn gather_group<A: Ledger>(
     if room.is_empty() || place > MOST {
         return None;
     }
-    let inside = gather(
-        &inner.entries,
-        &inner.chunks,
-        area,
-        columns,
-        rows,
-        &mut room[1..],
-    )?;
+    let (chunks, entries) = inner.chunked();
+    let inside = gather(entries, chunks, area, columns, rows, &mut room[1..])?;
     if inside == 0 {
         return Some(0);
     }

@@ -129,7 +129,7 @@ fn narrow_group<A: Ledger>(
         (list.group w (kept_leaves inner.now.entries) list.nil)
         (list.group w (picked own.now (kept_leaves inner.now.entries)) list.nil) (take result room.new) }
 {
-    let inside = narrow(&inner.entries, own, y0, y1, &mut room[1..]);
+    let inside = narrow(inner.entries(), own, y0, y1, &mut room[1..]);
     if inside == 0 {
         return 0;
     }

@@ -55,7 +55,7 @@ pub(crate) fn places<A: Ledger>(
     ensures unseen { (k : ℕ) (d : Premultiplied) → k < count → (nat_le result.0 k && nat_lt k result.1) ≡ false
         → composed (x0 +ℤ pos k) y d (picked own.now (kept_leaves inner.now.entries)) ≡ d }
 {
-    match reach(&inner.entries, own, y, INTO) {
+    match reach(inner.entries(), own, y, INTO) {
         Some(seen) => clipped(seen, x0, count),
         None => (0, count),
     }
@@ -124,5 +124,5 @@ fn reach_group<A: Ledger>(inner: &Kept<A>, own: &[Pick], y: i32, into: u32) -> O
     if into == 0 {
         return None;
     }
-    reach(&inner.entries, own, y, into - 1)
+    reach(inner.entries(), own, y, into - 1)
 }

@@ -155,7 +155,7 @@ fn only_leaf<'a, A: Ledger>(inner: &'a Kept<A>, own: &[Pick]) -> Option<&'a Item
         return None;
     }
     let (place, _) = pick_at(own, 0);
-    leaf_at(&inner.entries, place)
+    leaf_at(inner.entries(), place)
 }
 
 /// The leaf at a place, if there is one.

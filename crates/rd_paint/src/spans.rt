@@ -62,8 +62,7 @@ fn lay_group<A: Ledger>(group: &Group<A>, y: i32, x0: i32, out: &mut [Px], rows:
     }
     let (row, rest) = rows.split_at_mut(n);
     fill(row, Px::CLEAR);
-    let inner = &group.inner;
-    lay_all(&inner.entries, y, x0, row, rest);
+    lay_all(group.inner.entries(), y, x0, row, rest);
     lay_row(out, row, group.blend, group.opacity);
 }
 

@@ -24,7 +24,8 @@ pub(crate) fn add_list<A: Ledger, B: Ledger>(
 ) -> Result<(), NoMemory>
     ensures { OnOk result (Joins (any_shows tree.now (kept_leaves list.now.entries)) area.old area.new) }
 {
-    add_level(tree, area, &list.chunks, &list.entries)
+    let (chunks, entries) = list.chunked();
+    add_level(tree, area, chunks, entries)
 }
 
 /// The same of a level, chunk by chunk.

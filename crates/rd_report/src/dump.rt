@@ -79,7 +79,7 @@ fn push_group_line<A: Ledger, B: Ledger>(
 fn width<A: Ledger>(list: &Kept<A>) -> usize
     ensures { result ≡ width (unordered list.now.entries) }
 {
-    list.entries.len()
+    list.entries().len()
 }
 
 #[cycle(lines)]
@@ -93,7 +93,7 @@ fn push_list<A: Ledger, B: Ledger>(
     ensures { OnOk result (string_bytes out.new ≡ string_bytes out.old
         ++ dumps.lines depth (named_list tree.now.boxes (unordered list.now.entries))) }
 {
-    push_entries(out, tree, depth, &list.entries)
+    push_entries(out, tree, depth, list.entries())
 }
 
 /// A line for each entry, and the lines of a group after its own.

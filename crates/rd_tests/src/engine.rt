@@ -103,7 +103,7 @@ fn with_entry<A: Ledger>(sum: u64, entry: &Entry<A>) -> u64 {
         Entry::Leaf(item) => with_item(sum, item),
         Entry::Group(group) => with_all_inner(
             mixed(sum, u64::from(group.opacity)),
-            &group.inner.entries,
+            group.inner.entries(),
         ),
     }
 }

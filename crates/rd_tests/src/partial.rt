@@ -6,7 +6,7 @@ use rd_area::Area;
 use rd_geom::{Color, Sides, Size, Steps};
 use rd_graph::OrderGraph;
 use rd_keys::{BoxKey, Part};
-use rd_list::{Entry, Group, Kept, NewEntry, NewList, PlainEntry};
+use rd_list::{Entry, Group, Kept, Level, NewEntry, NewList, PlainEntry};
 use rd_partial::{build, build_all, touched_area};
 use rd_style::{Display, Floating, Position, Style, fits_rect};
 use rd_tree::Tree;
@@ -208,7 +208,7 @@ fn plain_words<B: Ledger>(
     }
 }
 
-fn kept_entry<A: Ledger>(alloc: Global, entry: NewEntry<A>) -> Entry<A> {
+fn kept_entry<A: Ledger>(entry: NewEntry<A>) -> Entry<A> {
     match entry {
         NewEntry::Leaf(item) => Entry::Leaf(item),
         NewEntry::Group {
@@ -220,7 +220,7 @@ fn kept_entry<A: Ledger>(alloc: Global, entry: NewEntry<A>) -> Entry<A> {
             key,
             opacity,
             blend,
-            inner: Kept::empty(alloc),
+            inner: Kept::empty(),
         }),
     }
 }
@@ -231,16 +231,16 @@ fn kept<A: Ledger>(rt: &impl Abort, alloc: Global, list: NewList<A>) -> Kept<A> 
     for run in list.runs {
         for entry in run {
             entries
-                .push(kept_entry(alloc, entry))
+                .push(kept_entry(entry))
                 .expect(rt, "room for an entry");
         }
     }
-    let graph = OrderGraph::empty(alloc);
-    Kept {
+    let level = Level {
         entries,
-        graph,
+        graph: OrderGraph::empty(alloc),
         chunks: Vec::new(alloc),
-    }
+    };
+    Kept::new(alloc, level).expect(rt, "a level")
 }
 
 /// The area that is to be painted anew.

@@ -1,13 +1,14 @@
 //! Lines as docs/FORMATS.md has them, worked out from there.
 
-ghost use Rattle.std.specs.Prelude.{◌≡◌, ◌<◌};
+ghost use Rattle.std.specs.Prelude.{◌≡◌, ◌<◌, ◌∷◌, []};
+ghost use Rattle.rd_list.specs.KeptView.{kept_entries};
 
 use super::planting::{id_of, rect_of, root_alone};
 use rd_geom::{Blend, Color, Rect, Steps};
 use rd_graph::OrderGraph;
 use rd_item::{Item, Leaf, Shape};
 use rd_keys::Part;
-use rd_list::{Entry, Group, Kept};
+use rd_list::{Entry, Group, Kept, Level};
 use rd_report::{Answer, Totals, digest, push_dump, push_line, push_summary};
 use rd_style::Style;
 use rd_tree::{BoxKey, Tree};
@@ -120,6 +121,18 @@ fn leaf<A: Ledger>(rt: &impl Abort, owner: BoxKey, made: &mut Steps<A>) -> Item<
     Item::make(leaf, 1, made)
 }
 
+/// The list of one entry.
+fn list_of<A: Ledger>(rt: &impl Abort, alloc: Global, entry: Entry<A>) -> Kept<A>
+    ensures { result.entries ≡ kept_entries (entry ∷ []) }
+{
+    let level = Level {
+        entries: vec![in alloc; entry].expect(rt, "an entry"),
+        graph: OrderGraph::empty(alloc),
+        chunks: Vec::new(alloc),
+    };
+    Kept::new(alloc, level).expect(rt, "a level")
+}
+
 /// The dump of a list with one group, which has one leaf.
 fn dumped<A: Ledger, B: Ledger>(
     rt: &impl Abort,
@@ -128,22 +141,14 @@ fn dumped<A: Ledger, B: Ledger>(
     made: &mut Steps<A>,
 ) -> String {
     let item = leaf(rt, tree.root(), made);
-    let inner = Kept {
-        entries: vec![in alloc; Entry::Leaf(item)].expect(rt, "an entry"),
-        graph: OrderGraph::empty(alloc),
-        chunks: Vec::new(alloc),
-    };
+    let inner = list_of(rt, alloc, Entry::Leaf(item));
     let group = Group {
         key: tree.root(),
         opacity: 128,
         blend: Blend::Multiply,
         inner,
     };
-    let list = Kept {
-        entries: vec![in alloc; Entry::Group(group)].expect(rt, "an entry"),
-        graph: OrderGraph::empty(alloc),
-        chunks: Vec::new(alloc),
-    };
+    let list = list_of(rt, alloc, Entry::Group(group));
     let mut text = String::new(alloc);
     push_dump(&mut text, list.view(), tree).expect(rt, "a dump");
     text

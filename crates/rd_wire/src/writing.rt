@@ -174,8 +174,8 @@ fn push_level<A: Ledger>(out: &mut Vec<u8>, list: &Kept<A>) -> Result<(), NoMemo
     ensures spelled { OnOk result (out.new.items ≡ out.old.items ++ level (unordered list.now.entries)) }
     ensures fits { OnOk result (NumbersFit (unordered list.now.entries)) }
 {
-    push_number(out, list.entries.len() as u32)?;
-    push_entries(out, &list.entries)
+    push_number(out, list.entries().len() as u32)?;
+    push_entries(out, list.entries())
 }
 
 /// Each entry in order.

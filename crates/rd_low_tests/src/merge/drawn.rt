@@ -229,20 +229,21 @@ fn agrees<A: Ledger>(
     kept: &Kept<A>,
     model: &Model,
 ) -> bool {
-    let list = numbers(rt, alloc, every, &kept.entries, &model.made);
+    let list = numbers(rt, alloc, every, kept.entries(), &model.made);
     has_all(&list, &model.matrix) && is_forward(&list, &model.matrix)
 }
 
 /// Is each entry in a chunk of which something is said?
 fn is_in_chunks<A: Ledger>(kept: &Kept<A>) -> bool {
+    let (chunks, entries) = kept.chunked();
     let mut covered: usize = 0;
-    for chunk in &kept.chunks {
+    for chunk in chunks {
         if chunk.is_open {
             return false;
         }
         covered = covered.wrapping_add(chunk.count);
     }
-    covered == kept.entries.len()
+    covered == entries.len()
 }
 
 /// One drawn merge of a level, which can be made and agrees.
@@ -292,7 +293,7 @@ pub(super) fn compare<A: Ledger>(
     let mut free: u64 = 0;
     let mut draws = Draws::new(1);
     let mut model = empty_model(rt, alloc);
-    let mut kept = Kept::empty(alloc);
+    let mut kept = Kept::empty();
     let mut spots = Vec::new(alloc);
     for at in 0..MERGES {
         let (joined, now) = next(

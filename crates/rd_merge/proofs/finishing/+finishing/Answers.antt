@@ -19,25 +19,25 @@ finish-loop-step-init g t c =
     let steps = ap steps_seen gives ∙ ap (λ p. p.steps) c.plan.view_is in
     let made_ok = c.plan.inside.made.ok in
     let empty = c.plan.invariant.0 in
-    let level = start_level c.kept.inside.entries.items c.plan.inside.made.items (omega (arith, made_ok.0, empty)) ∙ ap (λ k. k.entries) c.kept.view_is in
+    let level = start_level c.into_level-entries.result.entries.items c.plan.inside.made.items (omega (arith, made_ok.0, empty)) ∙ c.into_level-entries.ensures.seen.1 in
     let news = c.new-fresh.ensures in
-    let ok = c.kept.inside.entries.ok in
-    let size = kept-size c.kept.inside.entries.items in
-    let kept_size = ap (λ k. size_of k.entries) c.kept.view_is in
+    let ok = c.into_level-entries.result.entries.ok in
+    let size = kept-size c.into_level-entries.result.entries.items in
+    let kept_size = ap size_of c.into_level-entries.ensures.seen.1 in
     let count = ap made_count steps in
     let counted = ap (λ p. made_count p.steps) c.plan.view_is in
     let room = c.plan.invariant.1 in
     let listed = ap list_size steps in (
       tt,
       tt,
-      start_fits (size_of c.args.kept.entries) (steps_seen c.into_iter-step-iterator.result.rest.items) c.args.plan.steps (kept_entries c.kept.inside.entries.items ▷ kept_entries c.plan.inside.made.items) c.args.kept.entries (untaken c.new-fresh.result) c.args.new steps level news c.requires.steps,
-      start_stepped (size_of c.args.kept.entries) (steps_seen c.into_iter-step-iterator.result.rest.items) c.args.plan.steps (kept_entries c.kept.inside.entries.items ▷ kept_entries c.plan.inside.made.items) c.args.kept.entries (untaken c.new-fresh.result) c.args.new steps level news,
+      start_fits (size_of c.args.kept.entries) (steps_seen c.into_iter-step-iterator.result.rest.items) c.args.plan.steps (kept_entries c.into_level-entries.result.entries.items ▷ kept_entries c.plan.inside.made.items) c.args.kept.entries (untaken c.new-fresh.result) c.args.new steps level news c.requires.steps,
+      start_stepped (size_of c.args.kept.entries) (steps_seen c.into_iter-step-iterator.result.rest.items) c.args.plan.steps (kept_entries c.into_level-entries.result.entries.items ▷ kept_entries c.plan.inside.made.items) c.args.kept.entries (untaken c.new-fresh.result) c.args.new steps level news,
       omega (arith, ok.0, size, kept_size),
       omega (arith, empty, count),
       omega (arith, room, counted),
       omega (arith, listed),
       (omega arith, refl),
-      c.kept.invariant,
+      c.into_level-entries.ensures.covers,
     )
 
 pub finish-loop-step-init-derived : goal.finish-loop-step-init-derived
@@ -143,11 +143,11 @@ finish-renew_chunks-requires-clause-had g t c =
     let all = ap (λ es. es ++ c.deref-2.result.now) c.deref.ensures.value ∙ ap (λ es. c.loop-step.entries.items ++ es) c.deref-2.ensures.value in
     rw (c.deref-4.ensures.value, c.deref-3.ensures.value, c.in_line-entries.ensures.items, ← same, ← all) c.in_line_chunks-had.ensures
 
-pub finish-invariant_of-result : goal.finish-invariant_of-result
-finish-invariant_of-result g t c = subst (Covers c.renew_chunks.new.chunks.items) c.deref-3.ensures.value c.renew_chunks.ensures
+pub finish-of-requires : goal.finish-of-requires
+finish-of-requires g t c = subst (Covers c.renew_chunks.new.chunks.items) c.deref-3.ensures.value c.renew_chunks.ensures
 
 pub finish-apply-requires : goal.finish-apply-requires
-finish-apply-requires g t c = fits c.plan.inside.patch c.args.plan.patch c.kept.inside.graph c.args.kept.graph (ap (λ p. p.patch) c.plan.view_is) (ap (λ k. k.graph) c.kept.view_is) c.requires.patch
+finish-apply-requires g t c = fits c.plan.inside.patch c.args.plan.patch c.into_level-entries.result.graph c.args.kept.graph (ap (λ p. p.patch) c.plan.view_is) c.into_level-entries.ensures.seen.0 c.requires.patch
 
 pub finish_step-finish_group-entry-requires : goal.finish_step-finish_group-entry-requires
 finish_step-finish_group-entry-requires g t c κs within =

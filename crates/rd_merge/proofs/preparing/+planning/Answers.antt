@@ -1,13 +1,9 @@
-use Rattle.std.proofs.Common.{arith, ap, ◌∙◌, sym, subst, refl, length, List, [], ◌∷◌, Some}
+use Rattle.std.proofs.Common.{arith, ap, ◌∙◌, sym, subst, refl, length, [], ◌∷◌, Some}
 use Rattle.std.specs.Prelude.{IfOk, map}
 use Rattle.rd_graph.specs.Orders.{Once}
-use Rattle.rd_graph.specs.Patches.{FitsPatch}
-use Rattle.rd_list.specs.Chunks.{Covers}
 use Rattle.rd_list.specs.Entries.{list_size, nil}
 use Rattle.rd_list.specs.EntryNames.{new_names}
-use Rattle.rd_list.specs.KeptView.{kept_entries}
 use Rattle.rd_list.specs.NewView.{new_entries, in_runs}
-use Rattle.rd_list.specs.declared.chunks.Chunk.{Chunk}
 use Rattle.rd_merge.specs.Going.{is_untouched}
 use Rattle.rd_merge.specs.Internal.Fitting.{FitsFor}
 use Rattle.rd_merge.specs.Looking.{kept_names}
@@ -145,36 +141,33 @@ plan_groups-returns g t c =
 
 -- ---- plan_kept_group
 
-pub plan_kept_group-index-requires : goal.plan_kept_group-index-requires
-plan_kept_group-index-requires g t c =
-    let ok = c.kept.inside.entries.ok in
-    let w = group_within c.kept.inside.entries.items c.args.kept.now.entries (ap (λ k. k.entries) c.kept.view_is) c.args.place c.requires.there in
-    omega (arith, ok.0, w)
+pub plan_kept_group-entry_at-requires : goal.plan_kept_group-entry_at-requires
+plan_kept_group-entry_at-requires g t c = group_within c.entries.result.now c.args.kept.now.entries c.entries.ensures c.args.place c.requires.there
 
 pub plan_kept_group-unreachable-requires : goal.plan_kept_group-unreachable-requires
 plan_kept_group-unreachable-requires g t c =
-    group_no_leaf c.kept.inside.entries.items c.args.kept.now.entries (ap (λ k. k.entries) c.kept.view_is) c.args.place c.requires.there c.index.result.now c.index.ensures c.in-Leaf.field-0 c.in-Leaf.is
+    group_no_leaf c.entries.result.now c.args.kept.now.entries c.entries.ensures c.args.place c.requires.there c.entry_at.result.now c.entry_at.ensures c.in-Leaf.field-0 c.in-Leaf.is
 
 pub plan_kept_group-unreachable-unreachable : goal.plan_kept_group-unreachable-unreachable
 plan_kept_group-unreachable-unreachable g t c =
-    group_no_leaf c.kept.inside.entries.items c.args.kept.now.entries (ap (λ k. k.entries) c.kept.view_is) c.args.place c.requires.there c.index.result.now c.index.ensures c.in-Leaf.field-0 c.in-Leaf.is
+    group_no_leaf c.entries.result.now c.args.kept.now.entries c.entries.ensures c.args.place c.requires.there c.entry_at.result.now c.entry_at.ensures c.in-Leaf.field-0 c.in-Leaf.is
 
 pub plan_kept_group-plan_level-requires : goal.plan_kept_group-plan_level-requires
 plan_kept_group-plan_level-requires g t c κs within =
-    let es = c.kept.inside.entries.items in
+    let es = c.entries.result.now in
     let xs = c.args.kept.now.entries in
-    let view = ap (λ k. k.entries) c.kept.view_is in
-    let size = group_size es xs view c.args.place c.requires.there c.index.result.now c.index.ensures c.in-Group.group c.in-Group.is in
-    let is = group_list es xs view c.args.place c.requires.there c.index.result.now c.index.ensures c.in-Group.group c.in-Group.is in
+    let view = c.entries.ensures in
+    let size = group_size es xs view c.args.place c.requires.there c.entry_at.result.now c.entry_at.ensures c.in-Group.group c.in-Group.is in
+    let is = group_list es xs view c.args.place c.requires.there c.entry_at.result.now c.entry_at.ensures c.in-Group.group c.in-Group.is in
     let none = ap list_size c.empty-none.ensures in
     (omega (arith, size, none, c.decreases), (within.0, (within.1, list_fits (is_untouched (g.T.Touches.is_touched c.args.tree.now)) c.in-Group.group.inner (old_list (Some c.args.place) xs) c.empty-none.result is c.empty-none.ensures c.requires.fits)))
 
 pub plan_kept_group-returns : goal.plan_kept_group-returns
 plan_kept_group-returns g t c =
-    let es = c.kept.inside.entries.items in
+    let es = c.entries.result.now in
     let xs = c.args.kept.now.entries in
-    let view = ap (λ k. k.entries) c.kept.view_is in
-    let is = group_list es xs view c.args.place c.requires.there c.index.result.now c.index.ensures c.in-Group.group c.in-Group.is in (
+    let view = c.entries.ensures in
+    let is = group_list es xs view c.args.place c.requires.there c.entry_at.result.now c.entry_at.ensures c.in-Group.group c.in-Group.is in (
       record {
         old_is = refl;
         new_is = refl;
@@ -192,67 +185,64 @@ plan_new_group-plan_level-requires g t c κs within =
     let none = ap (λ k. list_size k.entries) c.empty-none.ensures in
     (omega (arith, none, c.decreases), (within.0, (within.1, none_fits (is_untouched (g.T.Touches.is_touched c.args.tree.now)) c.args.kept.now.entries c.args.place c.empty-none.result c.args.new.now c.in_default.is c.empty-none.ensures c.requires.fits)))
 
-pub plan_new_group-index-requires : goal.plan_new_group-index-requires
-plan_new_group-index-requires g t c =
-    let ok = c.kept.inside.entries.ok in
+pub plan_new_group-entry_at-requires : goal.plan_new_group-entry_at-requires
+plan_new_group-entry_at-requires g t c =
     let there = subst (λ o. IsGroupPlace o c.args.kept.now.entries) c.in-Some.is c.requires.there in
-    let w = group_within c.kept.inside.entries.items c.args.kept.now.entries (ap (λ k. k.entries) c.kept.view_is) c.in-Some.place there in
-    omega (arith, ok.0, w)
+    group_within c.entries.result.now c.args.kept.now.entries c.entries.ensures c.in-Some.place there
 
 pub plan_new_group-unreachable-requires : goal.plan_new_group-unreachable-requires
 plan_new_group-unreachable-requires g t c =
     let there = subst (λ o. IsGroupPlace o c.args.kept.now.entries) c.in-Some.is c.requires.there in
-    group_no_leaf c.kept.inside.entries.items c.args.kept.now.entries (ap (λ k. k.entries) c.kept.view_is) c.in-Some.place there c.index.result.now c.index.ensures c.in-Leaf.field-0 c.in-Leaf.is
+    group_no_leaf c.entries.result.now c.args.kept.now.entries c.entries.ensures c.in-Some.place there c.entry_at.result.now c.entry_at.ensures c.in-Leaf.field-0 c.in-Leaf.is
 
 pub plan_new_group-unreachable-unreachable : goal.plan_new_group-unreachable-unreachable
 plan_new_group-unreachable-unreachable g t c =
     let there = subst (λ o. IsGroupPlace o c.args.kept.now.entries) c.in-Some.is c.requires.there in
-    group_no_leaf c.kept.inside.entries.items c.args.kept.now.entries (ap (λ k. k.entries) c.kept.view_is) c.in-Some.place there c.index.result.now c.index.ensures c.in-Leaf.field-0 c.in-Leaf.is
+    group_no_leaf c.entries.result.now c.args.kept.now.entries c.entries.ensures c.in-Some.place there c.entry_at.result.now c.entry_at.ensures c.in-Leaf.field-0 c.in-Leaf.is
 
 pub plan_new_group-plan_level-requires-in-Group : goal.plan_new_group-plan_level-requires-in-Group
 plan_new_group-plan_level-requires-in-Group g t c κs within =
-    let es = c.kept.inside.entries.items in
+    let es = c.entries.result.now in
     let xs = c.args.kept.now.entries in
-    let view = ap (λ k. k.entries) c.kept.view_is in
+    let view = c.entries.ensures in
     let there = subst (λ o. IsGroupPlace o xs) c.in-Some.is c.requires.there in
-    let size = group_size es xs view c.in-Some.place there c.index.result.now c.index.ensures c.in-Group.group c.in-Group.is in
-    let is = group_list es xs view c.in-Some.place there c.index.result.now c.index.ensures c.in-Group.group c.in-Group.is ∙ ap (λ o. old_list o xs) (sym c.in-Some.is) in
+    let size = group_size es xs view c.in-Some.place there c.entry_at.result.now c.entry_at.ensures c.in-Group.group c.in-Group.is in
+    let is = group_list es xs view c.in-Some.place there c.entry_at.result.now c.entry_at.ensures c.in-Group.group c.in-Group.is ∙ ap (λ o. old_list o xs) (sym c.in-Some.is) in
     (omega (arith, size, c.decreases), (within.0, (within.1, subst (λ y. FitsFor (is_untouched (g.T.Touches.is_touched c.args.tree.now)) y c.args.new.now) (sym is) c.requires.fits)))
 
 pub plan_new_group-returns : goal.plan_new_group-returns
 plan_new_group-returns g t c =
-    let es = c.kept.inside.entries.items in
+    let es = c.entries.result.now in
     let xs = c.args.kept.now.entries in
-    let view = ap (λ k. k.entries) c.kept.view_is in
+    let view = c.entries.ensures in
     let there = subst (λ o. IsGroupPlace o xs) c.in-Some.is c.requires.there in
-    let is = group_list es xs view c.in-Some.place there c.index.result.now c.index.ensures c.in-Group.group c.in-Group.is ∙ ap (λ o. old_list o xs) (sym c.in-Some.is) in
+    let is = group_list es xs view c.in-Some.place there c.entry_at.result.now c.entry_at.ensures c.in-Group.group c.in-Group.is ∙ ap (λ o. old_list o xs) (sym c.in-Some.is) in
     subst (λ y. IfOk c.plan_level-in-Group.result (IsPlan (g.T.Touches.is_touched c.args.tree.now) y c.args.new.now)) is c.plan_level-in-Group.ensures
 
 -- ---- plan_level
 
 pub plan_level-look-requires-clause-names : goal.plan_level-look-requires-clause-names
 plan_level-look-requires-clause-names g t c =
-    let names = c.deref-3.ensures.value ∙ c.in_ok-names.ensures in
+    let names = c.deref.ensures.value ∙ c.in_ok-names.ensures in
     subst (λ ks. Once ks) (sym names) (c.requires.fits.once_new [])
 
 pub plan_level-look-requires-clause-entries : goal.plan_level-look-requires-clause-entries
 plan_level-look-requires-clause-entries g t c =
-    let entries = ap kept_entries c.deref.ensures.value ∙ ap (λ k. k.entries) c.kept.view_is in
+    let entries = c.chunked.ensures.entries in
     subst (λ ys. Once (kept_names ys)) (sym entries) (c.requires.fits.once_kept [])
 
 pub plan_level-look-requires-clause-covers : goal.plan_level-look-requires-clause-covers
 plan_level-look-requires-clause-covers g t c =
-    subst (λ (bs : List Chunk). Covers bs c.deref.result.now) (sym c.deref-2.ensures.value)
-    (subst (λ es. Covers c.kept.inside.chunks.items es) (sym c.deref.ensures.value) c.kept.invariant)
+    c.chunked.ensures.covers
 
-pub plan_level-patch-requires : goal.plan_level-patch-requires
-plan_level-patch-requires g t c =
+pub plan_level-patch_of-requires : goal.plan_level-patch_of-requires
+plan_level-patch_of-requires g t c =
     let touched = g.T.Touches.is_touched c.args.tree.now in
     let keys = c.in_ok-names.ensures in
-    let entries = ap kept_entries c.deref.ensures.value ∙ ap (λ k. k.entries) c.kept.view_is in
+    let entries = c.chunked.ensures.entries in
     let l = c.in_ok-looked.looked in
-    let looked = looked_as touched c.args.kept.now.entries _ _ (new_names c.args.new.now) l.gone.items l.found.items l.inner.items entries (c.deref-3.ensures.value ∙ keys) c.in_ok-looked.ensures in
-    can_patch_as l.gone.items _ (new_names c.args.new.now) _ l.found.items _ c.args.kept.now.graph _ c.deref-4.ensures.value (c.deref-5.ensures.value ∙ keys) c.deref-6.ensures.value (ap (λ k. k.graph) c.kept.view_is)
+    let looked = looked_as touched c.args.kept.now.entries _ _ (new_names c.args.new.now) l.gone.items l.found.items l.inner.items entries (c.deref.ensures.value ∙ keys) c.in_ok-looked.ensures in
+    can_patch_as l.gone.items _ (new_names c.args.new.now) _ l.found.items _ c.args.kept.now.graph _ c.deref-2.ensures.value (c.deref-3.ensures.value ∙ keys) c.deref-4.ensures.value refl
     (can_patch touched c.args.kept.now c.args.new.now c.requires l.gone.items l.found.items l.inner.items looked)
 
 pub plan_level-plan_entries-requires : goal.plan_level-plan_entries-requires
@@ -260,10 +250,10 @@ plan_level-plan_entries-requires g t c κs within =
     let touched = g.T.Touches.is_touched c.args.tree.now in
     let xs = c.args.kept.now.entries in
     let keys = c.in_ok-names.ensures in
-    let entries = ap kept_entries c.deref.ensures.value ∙ ap (λ k. k.entries) c.kept.view_is in
+    let entries = c.chunked.ensures.entries in
     let l = c.in_ok-looked.looked in
-    let looked = looked_as touched xs _ _ (new_names c.args.new.now) l.gone.items l.found.items l.inner.items entries (c.deref-3.ensures.value ∙ keys) c.in_ok-looked.ensures in
-    let new_is = ap in_runs c.deref-7.ensures.value ∙ c.new.view_is in
+    let looked = looked_as touched xs _ _ (new_names c.args.new.now) l.gone.items l.found.items l.inner.items entries (c.deref.ensures.value ∙ keys) c.in_ok-looked.ensures in
+    let new_is = ap in_runs c.deref-5.ensures.value ∙ c.new.view_is in
     let size = ap list_size new_is in (
       omega (arith, size, c.decreases),
       (
@@ -272,7 +262,7 @@ plan_level-plan_entries-requires g t c κs within =
           within.1,
           (
             subst (λ z. EntriesFit touched xs z) (sym new_is) (entries_fit touched c.args.kept.now c.args.new.now c.requires),
-            c.deref-8.ensures.value ∙ looked.found_are ∙ ap (λ z. map (λ k. place_in touched xs k) (new_names z)) (sym new_is),
+            c.deref-6.ensures.value ∙ looked.found_are ∙ ap (λ z. map (λ k. place_in touched xs k) (new_names z)) (sym new_is),
           ),
         ),
       ),
@@ -283,11 +273,11 @@ plan_level-plan_groups-requires g t c κs within =
     let touched = g.T.Touches.is_touched c.args.tree.now in
     let xs = c.args.kept.now.entries in
     let keys = c.in_ok-names.ensures in
-    let entries = ap kept_entries c.deref.ensures.value ∙ ap (λ k. k.entries) c.kept.view_is in
+    let entries = c.chunked.ensures.entries in
     let l = c.in_ok-looked.looked in
-    let looked = looked_as touched xs _ _ (new_names c.args.new.now) l.gone.items l.found.items l.inner.items entries (c.deref-3.ensures.value ∙ keys) c.in_ok-looked.ensures in (
+    let looked = looked_as touched xs _ _ (new_names c.args.new.now) l.gone.items l.found.items l.inner.items entries (c.deref.ensures.value ∙ keys) c.in_ok-looked.ensures in (
       omega (arith, c.decreases),
-      (within.0, (within.1, subst (λ z. GroupsFit touched xs z) (sym c.deref-9.ensures.value) (groups_fit touched c.args.kept.now c.args.new.now c.requires l.gone.items l.found.items l.inner.items looked))),
+      (within.0, (within.1, subst (λ z. GroupsFit touched xs z) (sym c.deref-7.ensures.value) (groups_fit touched c.args.kept.now c.args.new.now c.requires l.gone.items l.found.items l.inner.items looked))),
     )
 
 pub plan_level-same-patch : goal.plan_level-same-patch
@@ -298,15 +288,14 @@ plan_level-with_room-requires g t c =
     let touched = g.T.Touches.is_touched c.args.tree.now in
     let xs = c.args.kept.now.entries in
     let keys = c.in_ok-names.ensures in
-    let entries = ap kept_entries c.deref.ensures.value ∙ ap (λ k. k.entries) c.kept.view_is in
-    let graph = ap (λ k. k.graph) c.kept.view_is in
+    let entries = c.chunked.ensures.entries in
     let l = c.in_ok-looked.looked in
-    let looked = looked_as touched xs _ _ (new_names c.args.new.now) l.gone.items l.found.items l.inner.items entries (c.deref-3.ensures.value ∙ keys) c.in_ok-looked.ensures in
-    let fits = subst (λ z. FitsPatch c.in_ok-patch.patch z) graph c.in_ok-patch.ensures.fits in
-    let patched = is_patched_as l.gone.items _ (new_names c.args.new.now) _ l.found.items _ c.args.kept.now.graph _ c.deref-4.ensures.value (c.deref-5.ensures.value ∙ keys) c.deref-6.ensures.value graph c.in_ok-patch.patch c.in_ok-patch.ensures.patched in
-    let new_is = ap in_runs c.deref-7.ensures.value ∙ c.new.view_is in
+    let looked = looked_as touched xs _ _ (new_names c.args.new.now) l.gone.items l.found.items l.inner.items entries (c.deref.ensures.value ∙ keys) c.in_ok-looked.ensures in
+    let fits = c.in_ok-patch.ensures.fits in
+    let patched = is_patched_as l.gone.items _ (new_names c.args.new.now) _ l.found.items _ c.args.kept.now.graph _ c.deref-2.ensures.value (c.deref-3.ensures.value ∙ keys) c.deref-4.ensures.value refl c.in_ok-patch.patch c.in_ok-patch.ensures.patched in
+    let new_is = ap in_runs c.deref-5.ensures.value ∙ c.new.view_is in
     let firsts = subst (λ z. NewSteps touched xs z (steps_seen c.in_ok-planned.planned.steps.items)) new_is c.in_ok-planned.ensures in
-    let lasts = subst (λ z. InnerSteps touched xs z (steps_seen c.in_ok-inner.inner.items)) c.deref-9.ensures.value c.in_ok-inner.ensures in
+    let lasts = subst (λ z. InnerSteps touched xs z (steps_seen c.in_ok-inner.inner.items)) c.deref-7.ensures.value c.in_ok-inner.ensures in
     let few = few_made touched c.args.kept.now c.args.new.now c.requires l.gone.items l.found.items l.inner.items looked c.in_ok-patch.patch fits patched (steps_seen c.in_ok-planned.planned.steps.items) (steps_seen c.in_ok-inner.inner.items) firsts lasts in
     let all = ap made_count (ap steps_seen c.in_ok-append.ensures.items ∙ steps_append c.in_ok-planned.planned.steps.items c.in_ok-inner.inner.items) in
     let many = ap length keys in
@@ -319,14 +308,13 @@ plan_level-returns g t c =
     let touched = g.T.Touches.is_touched c.args.tree.now in
     let xs = c.args.kept.now.entries in
     let keys = c.in_ok-names.ensures in
-    let entries = ap kept_entries c.deref.ensures.value ∙ ap (λ k. k.entries) c.kept.view_is in
-    let graph = ap (λ k. k.graph) c.kept.view_is in
+    let entries = c.chunked.ensures.entries in
     let l = c.in_ok-looked.looked in
-    let looked = looked_as touched xs _ _ (new_names c.args.new.now) l.gone.items l.found.items l.inner.items entries (c.deref-3.ensures.value ∙ keys) c.in_ok-looked.ensures in
-    let fits = subst (λ z. FitsPatch c.in_ok-patch.patch z) graph c.in_ok-patch.ensures.fits in
-    let patched = is_patched_as l.gone.items _ (new_names c.args.new.now) _ l.found.items _ c.args.kept.now.graph _ c.deref-4.ensures.value (c.deref-5.ensures.value ∙ keys) c.deref-6.ensures.value graph c.in_ok-patch.patch c.in_ok-patch.ensures.patched in
-    let new_is = ap in_runs c.deref-7.ensures.value ∙ c.new.view_is in
+    let looked = looked_as touched xs _ _ (new_names c.args.new.now) l.gone.items l.found.items l.inner.items entries (c.deref.ensures.value ∙ keys) c.in_ok-looked.ensures in
+    let fits = c.in_ok-patch.ensures.fits in
+    let patched = is_patched_as l.gone.items _ (new_names c.args.new.now) _ l.found.items _ c.args.kept.now.graph _ c.deref-2.ensures.value (c.deref-3.ensures.value ∙ keys) c.deref-4.ensures.value refl c.in_ok-patch.patch c.in_ok-patch.ensures.patched in
+    let new_is = ap in_runs c.deref-5.ensures.value ∙ c.new.view_is in
     let firsts = subst (λ z. NewSteps touched xs z (steps_seen c.in_ok-planned.planned.steps.items)) new_is c.in_ok-planned.ensures in
-    let lasts = subst (λ z. InnerSteps touched xs z (steps_seen c.in_ok-inner.inner.items)) c.deref-9.ensures.value c.in_ok-inner.ensures in
+    let lasts = subst (λ z. InnerSteps touched xs z (steps_seen c.in_ok-inner.inner.items)) c.deref-7.ensures.value c.in_ok-inner.ensures in
     subst (λ p. IsPlan touched c.args.kept.now c.args.new.now p) (sym c.in_ok-plan.ensures) (subst (λ z. IsPlan touched c.args.kept.now c.args.new.now (record { patch = c.in_ok-patch.patch; steps = z })) (sym (ap steps_seen c.in_ok-append.ensures.items ∙ steps_append c.in_ok-planned.planned.steps.items c.in_ok-inner.inner.items))
     (planned touched c.args.kept.now c.args.new.now c.requires l.gone.items l.found.items l.inner.items looked c.in_ok-patch.patch fits patched (steps_seen c.in_ok-planned.planned.steps.items) (steps_seen c.in_ok-inner.inner.items) firsts lasts))

@@ -6,7 +6,7 @@ use Rattle.rd_keys.specs.declared.entry.EntryKey.{EntryKey}
 use Rattle.rd_list.specs.Displayed.{shown}
 use Rattle.rd_list.specs.Entries.{Entries}
 use Rattle.rd_list.specs.EntryNames.{kept_leaves}
-use Rattle.rd_list.specs.Kept.{KeptList, Ordered}
+use Rattle.rd_list.specs.Kept.{Ordered}
 use Rattle.rd_list.specs.KeptView.{kept_entries}
 use Rattle.rd_list.specs.Views.{levels}
 use Rattle.rd_list.specs.Wrappers.{Wrapper}
@@ -16,21 +16,18 @@ use Rattle.rd_paint.specs.Parts.{entry_count, entries_from}
 use Rattle.rd_paint.proofs.Depths.{entry_count-shown, entries_from-shown, levels-from}
 use Rattle.rd_paint.proofs.bands.paint_kept.Goals as goal
 
-abbrev entries_of : KeptList EntryKey Wrapper Made → Entries (Ordered EntryKey Wrapper) Made
-entries_of k = k.entries
-
 pub upper-requires : goal.upper-requires
 upper-requires g c =
-    let e : kept_entries c.deref-2.result.now ≡ c.args.list.now.entries = ap kept_entries c.deref-2.ensures.value ∙ ap entries_of c.list.view_is in
-    let n = entry_count-shown c.deref-2.result.now in
+    let e : kept_entries c.entries.result.now ≡ c.args.list.now.entries = c.entries.ensures in
+    let n = entry_count-shown c.entries.result.now in
     let m = ap entry_count e in
     omega (arith, n, m, c.requires.from)
 
 pub paint_all-requires-2-clause-rows : goal.paint_all-requires-2-clause-rows
 paint_all-requires-2-clause-rows g c =
-    let e : kept_entries c.deref-2.result.now ≡ c.args.list.now.entries = ap kept_entries c.deref-2.ensures.value ∙ ap entries_of c.list.view_is in
+    let e : kept_entries c.entries.result.now ≡ c.args.list.now.entries = c.entries.ensures in
     let u = ap (λ (es : List (Entry g.row.A.Denot)). levels (kept_entries es)) c.upper.ensures in
-    let d = levels-from c.args.from c.deref-2.result.now in
+    let d = levels-from c.args.from c.entries.result.now in
     let k = ap levels e in
     let l : levels (kept_entries c.upper.result.now) - 1 ≤ levels c.args.list.now.entries - 1 = omega (arith, u, d, k) in
     let p = mul-le-mul_left c.args.canvas.now.width l in
@@ -38,7 +35,7 @@ paint_all-requires-2-clause-rows g c =
 
 pub returns-clause-painted : goal.returns-clause-painted
 returns-clause-painted g c = λ t.
-    let e : kept_entries c.deref-2.result.now ≡ c.args.list.now.entries = ap kept_entries c.deref-2.ensures.value ∙ ap entries_of c.list.view_is in
+    let e : kept_entries c.entries.result.now ≡ c.args.list.now.entries = c.entries.ensures in
     let same : shown c.upper.result.now ≡ entries_from c.args.from (kept_leaves c.args.list.now.entries) =
-    ap shown c.upper.ensures ∙ entries_from-shown c.args.from c.deref-2.result.now ∙ ap (λ (es : Entries (Ordered EntryKey Wrapper) Made). entries_from c.args.from (kept_leaves es)) e in
+    ap shown c.upper.ensures ∙ entries_from-shown c.args.from c.entries.result.now ∙ ap (λ (es : Entries (Ordered EntryKey Wrapper) Made). entries_from c.args.from (kept_leaves es)) e in
     subst (λ (es : Entries Wrapper Leaf). IsPainted c.args.window.corner es c.args.window.area.now c.args.canvas.now c.paint_all-2.new.canvas) same (c.paint_all-2.ensures.painted t)

@@ -8,7 +8,7 @@ use Rattle.rd_keys.specs.declared.entry.EntryKey.{EntryKey}
 use Rattle.rd_list.specs.Displayed.{shown}
 use Rattle.rd_list.specs.Entries.{Entries, list_size}
 use Rattle.rd_list.specs.EntryNames.{kept_leaves}
-use Rattle.rd_list.specs.Kept.{KeptList, Ordered}
+use Rattle.rd_list.specs.Kept.{Ordered}
 use Rattle.rd_list.specs.KeptView.{kept_entries}
 use Rattle.rd_list.specs.Views.{levels, deeper}
 use Rattle.rd_list.specs.Wrappers.{Wrapper}
@@ -25,9 +25,6 @@ use Rattle.rd_paint.proofs.chosen.+choosing.Goals as goal
 
 all_behind : (i : ℕ) (ps : List Pick) → i ≤ length ps → take (length ps - i) (drop i ps) ≡ drop i ps
 all_behind i ps h = take_all (length ps - i) (drop i ps) (let n = length-drop i ps in omega (arith, n))
-
-abbrev entries_of : KeptList EntryKey Wrapper Made → Entries (Ordered EntryKey Wrapper) Made
-entries_of k = k.entries
 
 pub lay_at-lay_pick-requires : goal.lay_at-lay_pick-requires
 lay_at-lay_pick-requires g t c κs within =
@@ -77,18 +74,18 @@ lay_seen-returns-then-rows-n g t c =
 
 pub lay_seen-lay_picks-requires : goal.lay_seen-lay_picks-requires
 lay_seen-lay_picks-requires g t c κs within =
-    let e : kept_entries c.deref-entries.result.now ≡ c.args.group.now.inner.entries = ap kept_entries c.deref-entries.ensures.value ∙ ap entries_of c.inner.view_is in
+    let e : kept_entries c.entries-entries.result.now ≡ c.args.group.now.inner.entries = c.entries-entries.ensures in
     let n = ap (λ (es : Entries (Ordered EntryKey Wrapper) Made). list_size es) e in
     let l = ap (λ (es : Entries (Ordered EntryKey Wrapper) Made). levels (picked c.args.own.now (kept_leaves es))) e in
     let tail = all_behind c.begin_row-laid.result c.args.own.now c.begin_row-laid.ensures.within in
-    let b = levels_by _ _ (ap (λ (ps : List Pick). picked ps (shown c.deref-entries.result.now)) tail) in
-    let more : levels (picked (take (length c.args.own.now - c.begin_row-laid.result) (drop c.begin_row-laid.result c.args.own.now)) (shown c.deref-entries.result.now)) ≤ levels (picked c.args.own.now (shown c.deref-entries.result.now)) =
+    let b = levels_by _ _ (ap (λ (ps : List Pick). picked ps (shown c.entries-entries.result.now)) tail) in
+    let more : levels (picked (take (length c.args.own.now - c.begin_row-laid.result) (drop c.begin_row-laid.result c.args.own.now)) (shown c.entries-entries.result.now)) ≤ levels (picked c.args.own.now (shown c.entries-entries.result.now)) =
     omega (arith, b, c.begin_row-laid.ensures.levels) in (
       omega (arith, n, c.decreases),
       (
         within,
         (
-          rows_by (length c.begin_row-laid.new.row) _ (picked (take (length c.args.own.now - c.begin_row-laid.result) (drop c.begin_row-laid.result c.args.own.now)) (shown c.deref-entries.result.now)) (picked c.args.own.now (shown c.deref-entries.result.now)) more
+          rows_by (length c.begin_row-laid.new.row) _ (picked (take (length c.args.own.now - c.begin_row-laid.result) (drop c.begin_row-laid.result c.args.own.now)) (shown c.entries-entries.result.now)) (picked c.args.own.now (shown c.entries-entries.result.now)) more
               (rows_left (length c.args.out.now) (length c.args.rows.now) (levels (picked c.args.own.now (kept_leaves c.args.group.now.inner.entries))) _ _ _ (omega arith) c.requires.rows (c.begin_row-laid.auto.row ∙ c.split_at_mut-row.ensures.front_len) (omega (arith, c.split_at_mut-row.ensures.back_len)) l),
           (omega (arith, ints), omega (arith, ints, c.begin_row-laid.auto.row, c.split_at_mut-row.ensures.front_len)),
         ),
@@ -99,12 +96,12 @@ pub lay_seen-returns : goal.lay_seen-returns
 lay_seen-returns g t c =
     let fx : FitsSigned w32 c.args.x0 = search rules in
     let fy : FitsSigned w32 c.args.y = search rules in
-    let e : kept_entries c.deref-entries.result.now ≡ c.args.group.now.inner.entries = ap kept_entries c.deref-entries.ensures.value ∙ ap entries_of c.inner.view_is in
+    let e : kept_entries c.entries-entries.result.now ≡ c.args.group.now.inner.entries = c.entries-entries.ensures in
     let begun = simp to_z-of_z at c.begin_row-laid.ensures.laid in
     let tail = all_behind c.begin_row-laid.result c.args.own.now c.begin_row-laid.ensures.within in
     let row = simp to_z-of_z at c.lay_picks.ensures in
-    group_from c.args.y c.args.x0 c.args.group.now.blend c.args.group.now.opacity _ (picked c.args.own.now (kept_leaves c.args.group.now.inner.entries)) (picked c.args.own.now (shown c.deref-entries.result.now)) c.args.out.now _ _ _
-    (ap (λ (es : Entries (Ordered EntryKey Wrapper) Made). picked c.args.own.now (kept_leaves es)) e) (c.split_at_mut-row.ensures.front_len) refl (row ∙ ap (λ (ps : List Pick). laid_along c.args.y c.args.x0 (picked ps (shown c.deref-entries.result.now)) c.begin_row-laid.new.row) tail ∙ begun) c.lay_row.ensures
+    group_from c.args.y c.args.x0 c.args.group.now.blend c.args.group.now.opacity _ (picked c.args.own.now (kept_leaves c.args.group.now.inner.entries)) (picked c.args.own.now (shown c.entries-entries.result.now)) c.args.out.now _ _ _
+    (ap (λ (es : Entries (Ordered EntryKey Wrapper) Made). picked c.args.own.now (kept_leaves es)) e) (c.split_at_mut-row.ensures.front_len) refl (row ∙ ap (λ (ps : List Pick). laid_along c.args.y c.args.x0 (picked ps (shown c.entries-entries.result.now)) c.begin_row-laid.new.row) tail ∙ begun) c.lay_row.ensures
 
 pub lay_pick-returns-in-Leaf : goal.lay_pick-returns-in-Leaf
 lay_pick-returns-in-Leaf g t c =

@@ -1,13 +1,9 @@
 use Rattle.std.proofs.Common.{◌≡◌, ◌≤◌, ◌+◌, ◌-◌, ◌∷◌, [], List, length, take, drop, arith, rules, sym, ap, subst, ◌∙◌, length-take, length-drop}
 use Rattle.std.proofs.lemmas.List.{length-take-le, drop_all}
 use Rattle.rd_item.specs.declared.leaf.Leaf as item
-use Rattle.rd_item.specs.Items.{Made}
-use Rattle.rd_keys.specs.declared.entry.EntryKey.{EntryKey}
 use Rattle.rd_list.specs.Displayed.{shown}
 use Rattle.rd_list.specs.Entries.{Entries, group, nil, ◌▷◌}
 use Rattle.rd_list.specs.EntryNames.{kept_leaves}
-use Rattle.rd_list.specs.Kept.{KeptList, Ordered}
-use Rattle.rd_list.specs.KeptView.{kept_entries}
 use Rattle.rd_list.specs.Lists.{composed}
 use Rattle.rd_list.specs.Wrappers.{Wrapper}
 use Rattle.rd_list.proofs.Displaying.{shown_from}
@@ -68,17 +64,14 @@ gather-returns-clause-levels g t c =
     let b = c.loop-i.invariant.same.1 in
     omega (arith, a, b)
 
-abbrev entries_of : KeptList EntryKey Wrapper Made → Entries (Ordered EntryKey Wrapper) Made
-entries_of k = k.entries
-
 pub gather_group-returns-then-inside-eq0-clause-closed : goal.gather_group-returns-then-inside-eq0-clause-closed
 gather_group-returns-then-inside-eq0-clause-closed g t c = closed_none
 
 pub gather_group-returns-then-inside-eq0-clause-same : goal.gather_group-returns-then-inside-eq0-clause-same
 gather_group-returns-then-inside-eq0-clause-same g t c = λ w.
-    let e : shown c.deref.result.now ≡ kept_leaves c.args.inner.now.entries = ap kept_leaves (ap kept_entries c.deref.ensures.value ∙ ap entries_of c.inner.view_is) in
+    let e : shown c.chunked.result.1.now ≡ kept_leaves c.args.inner.now.entries = ap kept_leaves (c.chunked.ensures.entries) in
     none_named (InAreaWithin c.args.area.now c.args.columns c.args.rows) c.args.place (group w (kept_leaves c.args.inner.now.entries) nil) (group w (kept_leaves c.args.inner.now.entries) nil)
-    (group_unseen (InAreaWithin c.args.area.now c.args.columns c.args.rows) w (kept_leaves c.args.inner.now.entries) (nothing_left (InAreaWithin c.args.area.now c.args.columns c.args.rows) c.in_ok-inside.inside c.gather.new.room (shown c.deref.result.now) (shown c.deref.result.now) (kept_leaves c.args.inner.now.entries) c.if-inside-eq0.true e c.in_ok-inside.ensures.same))
+    (group_unseen (InAreaWithin c.args.area.now c.args.columns c.args.rows) w (kept_leaves c.args.inner.now.entries) (nothing_left (InAreaWithin c.args.area.now c.args.columns c.args.rows) c.in_ok-inside.inside c.gather.new.room (shown c.chunked.result.1.now) (shown c.chunked.result.1.now) (kept_leaves c.args.inner.now.entries) c.if-inside-eq0.true e c.in_ok-inside.ensures.same))
 
 pub gather_group-returns-clause-closed : goal.gather_group-returns-clause-closed
 gather_group-returns-clause-closed g t c =
@@ -89,7 +82,7 @@ gather_group-returns-clause-closed g t c =
 
 pub gather_group-returns-clause-same : goal.gather_group-returns-clause-same
 gather_group-returns-clause-same g t c = λ w.
-    let e : shown c.deref.result.now ≡ kept_leaves c.args.inner.now.entries = ap kept_leaves (ap kept_entries c.deref.ensures.value ∙ ap entries_of c.inner.view_is) in
+    let e : shown c.chunked.result.1.now ≡ kept_leaves c.args.inner.now.entries = ap kept_leaves (c.chunked.ensures.entries) in
     let fits : c.in_ok-inside.inside ≤ length c.gather.new.room = omega (arith, c.in_ok-inside.ensures.within, c.gather.auto.room) in
     let some : 1 ≤ length c.args.room.now = search rules in
     let q = put_first c.args.place c.in_ok-inside.inside _ c.args.room.now c.gather.new.room _ some fits c.put.ensures.written in

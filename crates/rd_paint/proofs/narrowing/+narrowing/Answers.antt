@@ -2,13 +2,9 @@ use Rattle.std.proofs.Common.{◌≡◌, ◌≤◌, ◌+◌, ◌-◌, length, ta
 use Rattle.std.proofs.lemmas.Int.{to_z-of_z}
 use Rattle.std.proofs.lemmas.List.{length-take-le}
 use Rattle.rd_item.specs.declared.leaf.Leaf as item
-use Rattle.rd_item.specs.Items.{Made}
-use Rattle.rd_keys.specs.declared.entry.EntryKey.{EntryKey}
 use Rattle.rd_list.specs.Displayed.{shown}
 use Rattle.rd_list.specs.Entries.{Entries, group, nil, ◌▷◌}
 use Rattle.rd_list.specs.EntryNames.{kept_leaves}
-use Rattle.rd_list.specs.Kept.{KeptList, Ordered}
-use Rattle.rd_list.specs.KeptView.{kept_entries}
 use Rattle.rd_list.specs.Wrappers.{Wrapper}
 use Rattle.rd_list.proofs.Viewing.{size_at}
 use Rattle.rd_paint.specs.Internal.Picks.{InRows, ServesWhere, picked, chosen}
@@ -77,9 +73,6 @@ narrow_at-returns-clause-closed g t c = closed_none
 pub narrow_at-returns-clause-same : goal.narrow_at-returns-clause-same
 narrow_at-returns-clause-same g t c = serves_by (InRows c.args.y0 c.args.y1) _ _ (picked-none (shown c.args.entries.now) ∙ sym (entry_at-past (picked c.args.own.now) c.args.entries.now c.args.place c.if-index-entries.false))
 
-abbrev entries_of : KeptList EntryKey Wrapper Made → Entries (Ordered EntryKey Wrapper) Made
-entries_of k = k.entries
-
 pub narrow_group-returns-then-inside-eq0-clause-closed : goal.narrow_group-returns-then-inside-eq0-clause-closed
 narrow_group-returns-then-inside-eq0-clause-closed g t c = closed_none
 
@@ -88,9 +81,9 @@ narrow_group-returns-then-inside-eq0-clause-same g t c = λ w.
     let f0 : FitsSigned w32 c.args.y0 = search rules in
     let f1 : FitsSigned w32 c.args.y1 = search rules in
     let s = simp to_z-of_z at c.narrow-inside.ensures.same in
-    let e : shown c.deref.result.now ≡ kept_leaves c.args.inner.now.entries = ap kept_leaves (ap kept_entries c.deref.ensures.value ∙ ap entries_of c.inner.view_is) in
+    let e : shown c.entries.result.now ≡ kept_leaves c.args.inner.now.entries = ap kept_leaves (c.entries.ensures) in
     none_named (InRows c.args.y0 c.args.y1) c.args.place (group w (kept_leaves c.args.inner.now.entries) nil) (group w (picked c.args.own.now (kept_leaves c.args.inner.now.entries)) nil)
-    (group_unseen (InRows c.args.y0 c.args.y1) w (picked c.args.own.now (kept_leaves c.args.inner.now.entries)) (nothing_inside (InRows c.args.y0 c.args.y1) c.narrow-inside.result _ c.args.own.now (shown c.deref.result.now) (kept_leaves c.args.inner.now.entries) c.if-inside-eq0.true e s))
+    (group_unseen (InRows c.args.y0 c.args.y1) w (picked c.args.own.now (kept_leaves c.args.inner.now.entries)) (nothing_inside (InRows c.args.y0 c.args.y1) c.narrow-inside.result _ c.args.own.now (shown c.entries.result.now) (kept_leaves c.args.inner.now.entries) c.if-inside-eq0.true e s))
 
 pub narrow_group-returns-clause-closed : goal.narrow_group-returns-clause-closed
 narrow_group-returns-clause-closed g t c =
@@ -104,12 +97,12 @@ narrow_group-returns-clause-same g t c = λ w.
     let f0 : FitsSigned w32 c.args.y0 = search rules in
     let f1 : FitsSigned w32 c.args.y1 = search rules in
     let s = simp to_z-of_z at c.narrow-inside.ensures.same in
-    let e : shown c.deref.result.now ≡ kept_leaves c.args.inner.now.entries = ap kept_leaves (ap kept_entries c.deref.ensures.value ∙ ap entries_of c.inner.view_is) in
+    let e : shown c.entries.result.now ≡ kept_leaves c.args.inner.now.entries = ap kept_leaves (c.entries.ensures) in
     let len = simp (length-take, length-drop) at c.narrow-inside.auto.room in
     let fits : c.narrow-inside.result ≤ length c.narrow-inside.new.room = omega (arith, len, c.narrow-inside.ensures.within, c.requires.room) in
     let q = put_first c.args.place c.narrow-inside.result _ c.args.room.now c.narrow-inside.new.room _ (omega (arith, c.requires.room)) fits c.put.ensures.written in
     group_named (InRows c.args.y0 c.args.y1) c.args.place w (kept_leaves c.args.inner.now.entries) (picked c.args.own.now (kept_leaves c.args.inner.now.entries)) c.narrow-inside.result (take c.narrow-inside.result c.narrow-inside.new.room) _ (length-take-le c.narrow-inside.result c.narrow-inside.new.room fits) q
-    (some_inside (InRows c.args.y0 c.args.y1) (take c.narrow-inside.result c.narrow-inside.new.room) (take c.narrow-inside.result c.narrow-inside.new.room) c.args.own.now (shown c.deref.result.now) (kept_leaves c.args.inner.now.entries) refl e (s, c.narrow-inside.ensures.levels))
+    (some_inside (InRows c.args.y0 c.args.y1) (take c.narrow-inside.result c.narrow-inside.new.room) (take c.narrow-inside.result c.narrow-inside.new.room) c.args.own.now (shown c.entries.result.now) (kept_leaves c.args.inner.now.entries) refl e (s, c.narrow-inside.ensures.levels))
 
 pub narrow_pick-returns-in-Leaf-clause-same : goal.narrow_pick-returns-in-Leaf-clause-same
 narrow_pick-returns-in-Leaf-clause-same g t c =

@@ -6,7 +6,7 @@ use Rattle.rd_keys.specs.declared.entry.EntryKey.{EntryKey}
 use Rattle.rd_list.specs.Displayed.{shown}
 use Rattle.rd_list.specs.Entries.{Entries, list_size}
 use Rattle.rd_list.specs.EntryNames.{kept_leaves}
-use Rattle.rd_list.specs.Kept.{KeptList, Ordered}
+use Rattle.rd_list.specs.Kept.{Ordered}
 use Rattle.rd_list.specs.KeptView.{kept_entries}
 use Rattle.rd_list.specs.Lists.{composed}
 use Rattle.rd_list.specs.Wrappers.{Wrapper}
@@ -51,12 +51,9 @@ reach_at-returns-then-index-entries g t c =
 pub reach_at-returns : goal.reach_at-returns
 reach_at-returns g t c = same_by (OffSpan c.nothing.result c.args.y) _ _ (sym (entry_at-past (picked c.args.own.now) c.args.entries.now c.args.place c.if-index-entries.false))
 
-abbrev entries_of : KeptList EntryKey Wrapper Made → Entries (Ordered EntryKey Wrapper) Made
-entries_of k = k.entries
-
 pub reach_group-reach-requires : goal.reach_group-reach-requires
 reach_group-reach-requires g t c κs within =
-    let e : kept_entries c.deref.result.now ≡ c.args.inner.now.entries = ap kept_entries c.deref.ensures.value ∙ ap entries_of c.inner.view_is in
+    let e : kept_entries c.entries.result.now ≡ c.args.inner.now.entries = c.entries.ensures in
     let n = ap (λ (es : Entries (Ordered EntryKey Wrapper) Made). list_size es) e in
     (omega (arith, n, c.decreases), within)
 
@@ -64,7 +61,7 @@ pub reach_group-returns : goal.reach_group-returns
 reach_group-returns g t c =
     let fy : FitsSigned w32 c.args.y = search rules in
     let s = simp to_z-of_z at c.reach.ensures in
-    let e : shown c.deref.result.now ≡ kept_leaves c.args.inner.now.entries = ap kept_leaves (ap kept_entries c.deref.ensures.value ∙ ap entries_of c.inner.view_is) in
+    let e : shown c.entries.result.now ≡ kept_leaves c.args.inner.now.entries = ap kept_leaves (c.entries.ensures) in
     where_found _ _ c.reach.result
     (λ found u w. group_unseen (OffSpan found c.args.y) w (picked c.args.own.now (kept_leaves c.args.inner.now.entries)) (λ x y d h. u x y d h ∙ ap (λ (xs : Entries Wrapper item.Leaf). composed x y d (picked c.args.own.now xs)) e)) s
 

@@ -1,19 +1,10 @@
 use Rattle.std.proofs.Common.{◌≡◌, ap, ◌∙◌, FitsSigned, w32, rules}
 use Rattle.std.proofs.lemmas.Int.{to_z-of_z}
-use Rattle.rd_item.specs.Items.{Made}
-use Rattle.rd_keys.specs.declared.entry.EntryKey.{EntryKey}
 use Rattle.rd_list.specs.Displayed.{shown}
-use Rattle.rd_list.specs.Entries.{Entries}
 use Rattle.rd_list.specs.EntryNames.{kept_leaves}
-use Rattle.rd_list.specs.Kept.{KeptList, Ordered}
-use Rattle.rd_list.specs.KeptView.{kept_entries}
-use Rattle.rd_list.specs.Wrappers.{Wrapper}
 use Rattle.rd_paint.specs.Internal.Picks.{picked}
 use Rattle.rd_paint.proofs.Shown.Seen.{off_places, all_places}
 use Rattle.rd_paint.proofs.reaching.places.Goals as goal
-
-abbrev entries_of : KeptList EntryKey Wrapper Made → Entries (Ordered EntryKey Wrapper) Made
-entries_of k = k.entries
 
 pub returns-in-Some-clause-unseen : goal.returns-in-Some-clause-unseen
 returns-in-Some-clause-unseen g c =
@@ -21,7 +12,7 @@ returns-in-Some-clause-unseen g c =
     let fy : FitsSigned w32 c.args.y = search rules in
     let at = simp to_z-of_z at c.clipped.ensures.places in
     let unseen = simp to_z-of_z at c.in-Some.ensures in
-    let e : shown c.deref.result.now ≡ kept_leaves c.args.inner.now.entries = ap kept_leaves (ap kept_entries c.deref.ensures.value ∙ ap entries_of c.inner.view_is) in
+    let e : shown c.entries.result.now ≡ kept_leaves c.args.inner.now.entries = ap kept_leaves (c.entries.ensures) in
     off_places c.in-Some.seen c.args.y c.args.x0 c.args.count c.clipped.result.0 c.clipped.result.1 _ (picked c.args.own.now (kept_leaves c.args.inner.now.entries)) (ap (picked c.args.own.now) e) unseen at
 
 pub returns-in-None-clause-unseen : goal.returns-in-None-clause-unseen

@@ -6,7 +6,7 @@ use Rattle.rd_item.specs.Items.{Made}
 use Rattle.rd_keys.specs.declared.entry.EntryKey.{EntryKey}
 use Rattle.rd_list.specs.Entries.{Entries, list_size}
 use Rattle.rd_list.specs.EntryNames.{kept_leaves}
-use Rattle.rd_list.specs.Kept.{KeptList, Ordered}
+use Rattle.rd_list.specs.Kept.{Ordered}
 use Rattle.rd_list.specs.KeptView.{kept_entries}
 use Rattle.rd_list.specs.Wrappers.{Wrapper}
 use Rattle.rd_list.specs.Views.{levels}
@@ -37,12 +37,9 @@ lay_group-returns-then-rows-n g t c =
     let none = no_rows (length c.args.out.now) (length c.args.rows.now) (levels c.args.group.now.inner.entries) (omega arith) c.requires.rows in
     sym (laid_none c.args.y c.args.x0 c.args.group.now.blend c.args.group.now.opacity (kept_leaves c.args.group.now.inner.entries) c.args.out.now (λ x y. leafless x y clear c.args.group.now.inner.entries none))
 
-abbrev entries_of : KeptList EntryKey Wrapper Made → Entries (Ordered EntryKey Wrapper) Made
-entries_of k = k.entries
-
 pub lay_group-lay_all-requires : goal.lay_group-lay_all-requires
 lay_group-lay_all-requires g t c κs within =
-    let e : kept_entries c.deref.result.now ≡ c.args.group.now.inner.entries = ap kept_entries c.deref.ensures.value ∙ ap entries_of c.inner.view_is in
+    let e : kept_entries c.entries.result.now ≡ c.args.group.now.inner.entries = c.entries.ensures in
     let n = ap (λ (es : Entries (Ordered EntryKey Wrapper) Made). list_size es) e in
     let l = ap (λ (es : Entries (Ordered EntryKey Wrapper) Made). levels es) e in (
       omega (arith, n, c.decreases),
@@ -59,6 +56,6 @@ pub lay_group-returns : goal.lay_group-returns
 lay_group-returns g t c =
     let fx : FitsSigned w32 c.args.x0 = search rules in
     let fy : FitsSigned w32 c.args.y = search rules in
-    let e : kept_entries c.deref.result.now ≡ c.args.group.now.inner.entries = ap kept_entries c.deref.ensures.value ∙ ap entries_of c.inner.view_is in
+    let e : kept_entries c.entries.result.now ≡ c.args.group.now.inner.entries = c.entries.ensures in
     let row = simp to_z-of_z at c.lay_all.ensures in
-    group_from c.args.y c.args.x0 c.args.group.now.blend c.args.group.now.opacity _ (kept_leaves c.args.group.now.inner.entries) (shown c.deref.result.now) c.args.out.now _ _ _ (ap kept_leaves e) (c.split_at_mut-row.ensures.front_len) c.fill.ensures row c.lay_row.ensures
+    group_from c.args.y c.args.x0 c.args.group.now.blend c.args.group.now.opacity _ (kept_leaves c.args.group.now.inner.entries) (shown c.entries.result.now) c.args.out.now _ _ _ (ap kept_leaves e) (c.split_at_mut-row.ensures.front_len) c.fill.ensures row c.lay_row.ensures
