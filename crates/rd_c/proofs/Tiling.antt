@@ -1,5 +1,5 @@
 -- Tiles that are told one after another, and what a call that tells them answers. Assumes nothing.
-use Rattle.std.proofs.Common.{◌≡◌, ◌∙◌, ℕ, suc, ℤ, pos, ◌+◌, ◌-◌, ◌*◌, ◌<◌, ◌≤◌, true, false, List, [], ◌∷◌, ◌++◌, length, map, refl, sym, subst, ap, append-nil, append_assoc, inr, arith}
+use Rattle.std.proofs.Common.{◌≡◌, ◌∙◌, ℕ, suc, ℤ, pos, ◌+◌, ◌-◌, ◌*◌, ◌<◌, ◌≤◌, ◌≤ℤ◌, true, false, List, [], ◌∷◌, ◌++◌, length, map, refl, sym, subst, ap, append-nil, append_assoc, inr, arith}
 use Rattle.std.specs.Prelude.{Option, Some, None, IfSome, IsSomeAnd, filter, unsigned_abs}
 use Rattle.std.proofs.lemmas.Int.{ints}
 use Rattle.std.proofs.lemmas.List.{map-append}
@@ -7,6 +7,7 @@ use Rattle.std.proofs.lemmas.List.Elements.{filter-append}
 use Rattle.std.proofs.Math.Nat.{le-div_iff_mul-le, mul_comm}
 use Rattle.rd_geom.specs.Areas.{Region, meets_area}
 use Rattle.rd_geom.specs.Canvas.{IsCanvas, canvas_of}
+use Rattle.rd_geom.specs.Figures.{max_canvas_side}
 use Rattle.rd_geom.specs.Plane.{IsPlaced, Rectangle, meet}
 use Rattle.rd_geom.specs.declared.rect.Size.{Size}
 use Rattle.rd_c.specs.Listed.{told_rect}
@@ -24,7 +25,7 @@ begins side n place some h =
     omega (arith, some, m, c)
 
 -- the square of a tile, by its parts, and cut
-pub square_placed : (side : ℕ) (s : Size) (column row : ℕ) (x y w h : ℤ) → IsCanvas s → side ≤ 4096 → side * column < unsigned_abs s.w → side * row < unsigned_abs s.h
+pub square_placed : (side : ℕ) (s : Size) (column row : ℕ) (x y w h : ℤ) → IsCanvas s → pos side ≤ℤ max_canvas_side → side * column < unsigned_abs s.w → side * row < unsigned_abs s.h
     → x ≡ pos (side * column) → y ≡ pos (side * row) → w ≡ pos side → h ≡ pos side → IsPlaced (record { x = x; y = y; w = w; h = h })
 square_placed side s column row x y w h c most a b ex ey ew eh =
     let wide = c.wide in let high = c.high in

@@ -1,7 +1,8 @@
 -- The tiles of a canvas as C is told them. The form is this project's own choice.
-use Rattle.std.specs.Prelude.{ℕ, zero, suc, pos, ◌+◌, ◌-◌, ◌*◌, ◌/◌, ◌&&◌, nat_lt, nat_le, if◌then◌else◌, Bool, List, [], ◌∷◌, ◌++◌, length, map, filter, Option, Some, None, IsSomeAnd, unsigned_abs}
+use Rattle.std.specs.Prelude.{ℕ, zero, suc, pos, ◌+◌, ◌-◌, ◌*◌, ◌/◌, ◌&&◌, nat_lt, int_le, if◌then◌else◌, Bool, List, [], ◌∷◌, ◌++◌, length, map, filter, Option, Some, None, IsSomeAnd, unsigned_abs}
 use Rattle.rd_geom.specs.Areas.{Region, meets_area}
 use Rattle.rd_geom.specs.Canvas.{canvas_of}
+use Rattle.rd_geom.specs.Figures.{max_canvas_side}
 use Rattle.rd_geom.specs.Plane.{Rectangle, meet}
 use Rattle.rd_geom.specs.declared.rect.Size.{Size}
 use Rattle.rd_paint.specs.Pictures.{size_of}
@@ -15,7 +16,7 @@ use Rattle.rd_c.specs.declared.values.RdRect.{RdRect}
 
 -- may a tile have so many pixels across and down?
 abbrev pub is_side : ℕ → Bool
-is_side side = nat_lt 0 side && nat_le side 4096
+is_side side = nat_lt 0 side && int_le (pos side) max_canvas_side
 
 -- how many tiles lie along so many pixels, each of a side but for the last
 abbrev pub tiles_along : ℕ → ℕ → ℕ

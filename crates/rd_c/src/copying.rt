@@ -1,6 +1,7 @@
 //! The canvas, copied into the caller's memory.
 
-ghost use Rattle.std.specs.Prelude.{◌≡◌, ◌≤◌, ◌<◌, ◌+◌, ◌*◌, ◌^◌, ◌++◌, ℕ, pos, is_some, OnOk, OnErr, IfSome, None, drop, flat_map, length, take};
+ghost use Rattle.std.specs.Prelude.{◌≡◌, ◌≤◌, ◌≤ℤ◌, ◌<◌, ◌+◌, ◌*◌, ◌^◌, ◌++◌, ℕ, pos, is_some, OnOk, OnErr, IfSome, None, drop, flat_map, length, take};
+ghost use Rattle.rd_geom.specs.Figures.{max_canvas_side};
 ghost use Rattle.rd_paint.specs.Pictures.{span_of};
 ghost use Rattle.rd_c.specs.Copied.{IsCopied, bytes_wanted, copied, copy_answer, lies_on, put_at, quad};
 ghost use Rattle.rd_c.specs.Handles.{IsSound};
@@ -78,8 +79,8 @@ fn part_of(canvas: &Canvas, place: &RdRect) -> Option<Part>
     ensures value { IfSome result (λ p. place.now ≡ record { x = pos p.x; y = pos p.y; w = pos p.w; h = pos p.h }) }
     ensures columns { IfSome result (λ p. p.x + p.w ≤ canvas.now.width) }
     ensures rows { IfSome result (λ p. p.y + p.h ≤ canvas.now.height) }
-    ensures few { IfSome result (λ p. p.y + p.h ≤ 4096) }
-    ensures narrow { IfSome result (λ p. p.x + p.w ≤ 4096) }
+    ensures few { IfSome result (λ p. pos (p.y + p.h) ≤ℤ max_canvas_side) }
+    ensures narrow { IfSome result (λ p. pos (p.x + p.w) ≤ℤ max_canvas_side) }
     ensures lies { is_some result ≡ lies_on place.now canvas.now }
 {
     let size = canvas.size();
@@ -118,7 +119,7 @@ fn bytes_of(rows: usize, stride: usize, width: usize) -> Option<usize>
 fn copy_rows(canvas: &Canvas, part: &Part, format: u32, stride: usize, out: &mut [u8])
     requires columns { part.now.x + part.now.w ≤ canvas.now.width }
     requires rows { part.now.y + part.now.h ≤ canvas.now.height }
-    requires few { part.now.y + part.now.h ≤ 4096 }
+    requires few { pos (part.now.y + part.now.h) ≤ℤ max_canvas_side }
     requires room { (i : ℕ) → i < part.now.h → i * stride + 4 * part.now.w ≤ length out.old }
     ensures { out.new ≡ copied format stride canvas.now part.now.x part.now.y part.now.w part.now.h out.old }
 {

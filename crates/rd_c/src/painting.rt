@@ -1,6 +1,7 @@
 //! Paints, and what they painted anew.
 
-ghost use Rattle.std.specs.Prelude.{◌≡◌, ◌<◌, ◌≤◌, ◌++◌, IfOk, IfSome, OnOk, OnErr, None, length, map};
+ghost use Rattle.std.specs.Prelude.{◌≡◌, ◌<◌, ◌≤◌, ◌≤ℤ◌, ◌<ℤ◌, ◌++◌, pos, IfOk, IfSome, OnOk, OnErr, None, length, map};
+ghost use Rattle.rd_geom.specs.Figures.{max_canvas_side};
 ghost use Rattle.rd_c.specs.Handles.{IsSound};
 ghost use Rattle.rd_c.specs.Held.{OnHeld, Holds, IsPainted};
 ghost use Rattle.rd_c.specs.Numbers.{number_of};
@@ -73,7 +74,7 @@ impl Painter {
 
 /// A span of row `y`.
 fn told(y: u32, span: &Span) -> RdSpan
-    requires { y < 4096 }
+    requires { pos y <ℤ max_canvas_side }
     ensures { result ≡ told_span y span.now }
 {
     RdSpan {
@@ -85,7 +86,7 @@ fn told(y: u32, span: &Span) -> RdSpan
 
 /// The spans of row `y`.
 fn push_row(out: &mut Vec<RdSpan>, y: u32, row: &[Span]) -> Result<(), NoMemory>
-    requires { y < 4096 }
+    requires { pos y <ℤ max_canvas_side }
     ensures { OnOk result (out.new.items ≡ out.old.items ++ map (told_span y) row.now) }
 {
     for span in row {
@@ -97,7 +98,7 @@ fn push_row(out: &mut Vec<RdSpan>, y: u32, row: &[Span]) -> Result<(), NoMemory>
 /// The spans of each of the first rows, from the top.
 #[tactic(auto, using(crate::proofs::Spanning::told_next))]
 fn spans_of(alloc: Global, area: &Area, height: u32) -> Result<Vec<RdSpan>, NoMemory>
-    requires { height ≤ 4096 }
+    requires { pos height ≤ℤ max_canvas_side }
     ensures { IfOk result (λ v. v.items ≡ told_rows area.now height) }
 {
     let mut out = Vec::new(alloc);

@@ -1,7 +1,8 @@
 //! The tiles that the last paint painted anew.
 
-ghost use Rattle.std.specs.Prelude.{◌≡◌, ◌<◌, ◌≤◌, ◌*◌, ◌++◌, ◌∷◌, [], IfOk, IfSome, OnOk, OnErr, IsTrue, None, length, unsigned_abs};
+ghost use Rattle.std.specs.Prelude.{◌≡◌, ◌<◌, ◌≤ℤ◌, pos, ◌*◌, ◌++◌, ◌∷◌, [], IfOk, IfSome, OnOk, OnErr, IsTrue, None, length, unsigned_abs};
 ghost use Rattle.rd_geom.specs.Canvas.{IsCanvas};
+ghost use Rattle.rd_geom.specs.Figures.{max_canvas_side};
 ghost use Rattle.rd_paint.specs.Pictures.{size_of};
 ghost use Rattle.rd_c.specs.Handles.{IsSound};
 ghost use Rattle.rd_c.specs.Held.{Holds};
@@ -23,7 +24,7 @@ use std::alloc::Global;
 fn is_side(side: u32) -> bool
     ensures value { result ≡ is_side side }
     ensures some { IsTrue result → 0 < side }
-    ensures most { IsTrue result → side ≤ 4096 }
+    ensures most { IsTrue result → pos side ≤ℤ max_canvas_side }
 {
     0 < side && side <= MAX_CANVAS_SIDE as u32
 }
@@ -32,7 +33,7 @@ fn is_side(side: u32) -> bool
 fn across(size: Size) -> u32
     requires { IsCanvas size }
     ensures value { result ≡ unsigned_abs size.w }
-    ensures most { result ≤ 4096 }
+    ensures most { pos result ≤ℤ max_canvas_side }
 {
     size.w as u32
 }
@@ -41,7 +42,7 @@ fn across(size: Size) -> u32
 fn down(size: Size) -> u32
     requires { IsCanvas size }
     ensures value { result ≡ unsigned_abs size.h }
-    ensures most { result ≤ 4096 }
+    ensures most { pos result ≤ℤ max_canvas_side }
 {
     size.h as u32
 }
@@ -49,8 +50,8 @@ fn down(size: Size) -> u32
 /// How many tiles lie along so many pixels.
 fn tiles_along(side: u32, pixels: u32) -> u32
     requires some { 0 < side }
-    requires side { side ≤ 4096 }
-    requires most { pixels ≤ 4096 }
+    requires side { pos side ≤ℤ max_canvas_side }
+    requires most { pos pixels ≤ℤ max_canvas_side }
     ensures { result ≡ told.tiles_along side pixels }
 {
     (pixels + (side - 1)) / side
@@ -59,7 +60,7 @@ fn tiles_along(side: u32, pixels: u32) -> u32
 /// The pixels of the tile in a column and a row of a canvas.
 fn tile(size: Size, side: u32, column: u32, row: u32) -> Rect
     requires canvas { IsCanvas size }
-    requires side { side ≤ 4096 }
+    requires side { pos side ≤ℤ max_canvas_side }
     requires column { side * column < unsigned_abs size.w }
     requires row { side * row < unsigned_abs size.h }
     ensures { result ≡ tile_of side size column row }
@@ -92,7 +93,7 @@ fn push_row(
 ) -> Result<(), NoMemory>
     requires canvas { IsCanvas size }
     requires some { 0 < side }
-    requires side { side ≤ 4096 }
+    requires side { pos side ≤ℤ max_canvas_side }
     requires row { side * row < unsigned_abs size.h }
     ensures { OnOk result (out.new.items ≡ out.old.items ++ told_tiles area.now (first_tiles side size row (told.tiles_along side (unsigned_abs size.w)))) }
 {
@@ -106,7 +107,7 @@ fn push_row(
 fn tiles_of(alloc: Global, area: &Area, size: Size, side: u32) -> Result<Vec<RdRect>, NoMemory>
     requires canvas { IsCanvas size }
     requires some { 0 < side }
-    requires side { side ≤ 4096 }
+    requires side { pos side ≤ℤ max_canvas_side }
     ensures { IfOk result (λ v. v.items ≡ tiles_met side size area.now) }
 {
     let mut out = Vec::new(alloc);
