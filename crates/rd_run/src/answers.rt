@@ -11,7 +11,7 @@ ghost use Rattle.rd_run.specs.Internal.Lasts.{IsWellFormed};
 ghost use Rattle.rd_run.specs.Internal.Session.{Shows, IsFew, AreCounted, AreWithin};
 ghost use Rattle.rd_run.specs.Machine.{State, Step};
 
-use crate::performing::started;
+use crate::performing::{close, started};
 use crate::session::Session;
 use crate::status::Status;
 use rd_geom::Steps;
@@ -130,7 +130,9 @@ pub(crate) fn answer<O: Sink, A: Ledger, B: Ledger>(
         Ok(session) => session,
         Err(_) => return Status::NoMemory,
     };
-    match answer_all(alloc, &mut session, &script.commands, out, made, looks) {
+    let done = answer_all(alloc, &mut session, &script.commands, out, made, looks);
+    close(session);
+    match done {
         Ok(()) => Status::Done,
         Err(status) => status,
     }

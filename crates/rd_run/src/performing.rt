@@ -1,6 +1,6 @@
 //! The commands of a script without their answers, and what is written at their end.
 
-ghost use Rattle.std.specs.Prelude.{◌≡◌, ◌⊎◌, ◌≤◌, false, length, OnErr, OnOk, IfOk, string_bytes};
+ghost use Rattle.std.specs.Prelude.{◌≡◌, ◌⊎◌, ◌≤◌, false, length, OnErr, OnOk, IfOk};
 ghost use Rattle.rd_gen.specs.Figures.{max_edits};
 ghost use Rattle.rd_tree.specs.Figures.{max_boxes};
 ghost use Rattle.rd_report.specs.Summaries.{summary_lines};
@@ -102,11 +102,42 @@ pub(crate) fn write<O: Sink>(out: &mut O, bytes: &[u8]) -> Status
     }
 }
 
-/// What is told of what is painted at the end of a script: its picture, or its list in the wire form.
+/// The summary of a storm of these numbers.
+fn summary<A: Ledger, B: Ledger>(
+    alloc: Global,
+    session: &Session<A, B>,
+    seed: u64,
+    boxes: u32,
+    edits: u32,
+) -> Result<Vec<u8>, NoMemory>
+    requires { session.now.engine.pending ≡ false }
+    ensures { IfOk result (λ bytes. (s : State) → Shows session.now s
+        → bytes.items ≡ summary_lines (totals_of seed boxes edits s)) }
+{
+    let picture = session.picture(alloc)?;
+    let totals = Totals {
+        seed,
+        boxes,
+        edits,
+        accepted: session.accepted,
+        refused: session.refused,
+        paints: session.engine.paints(),
+        built: session.built,
+        area: session.area,
+        digest: digest(&picture),
+    };
+    let mut text = String::new(alloc);
+    push_summary(alloc, &mut text, &totals)?;
+    Ok(text.into_bytes())
+}
+
+/// What is told of what is painted at the end of a script: its picture, its list in the wire form, or the summary of a storm of these
+/// numbers.
 #[derive(Clone, Copy)]
 enum Told {
     Picture,
     Wire,
+    Summary { seed: u64, boxes: u32, edits: u32 },
 }
 
 /// The bytes of what is told of a session in which no paint is pending.
@@ -121,8 +152,12 @@ fn told_of<A: Ledger, B: Ledger>(
     match told {
         Told::Picture => session.picture(alloc),
         Told::Wire => session.wire(alloc),
+        Told::Summary { seed, boxes, edits } => summary(alloc, session, seed, boxes, edits),
     }
 }
+
+/// Ends a session: all that it holds goes.
+pub(crate) fn close<A: Ledger, B: Ledger>(_session: Session<A, B>) {}
 
 /// Does the commands of a script, and gives the bytes of what is told of its end.
 fn end_of<A: Ledger, B: Ledger>(
@@ -137,8 +172,12 @@ fn end_of<A: Ledger, B: Ledger>(
         ⊎ MayFinish (counter made.old made.new) (counter looks.old looks.new) script.now) }
 {
     let session = performed(alloc, script, made, looks)?;
-    let bytes = told_of(alloc, &session, told)?;
-    Ok(bytes)
+    let bytes = told_of(alloc, &session, told);
+    close(session);
+    match bytes {
+        Ok(bytes) => Ok(bytes),
+        Err(error) => Err(error),
+    }
 }
 
 /// Does the commands of a script, and writes the picture of what is painted at its end.
@@ -179,55 +218,6 @@ pub(crate) fn wire<O: Sink, A: Ledger, B: Ledger>(
     }
 }
 
-/// The summary of a storm of these numbers.
-fn summary<A: Ledger, B: Ledger>(
-    alloc: Global,
-    session: &Session<A, B>,
-    seed: u64,
-    boxes: u32,
-    edits: u32,
-) -> Result<String, NoMemory>
-    requires { session.now.engine.pending ≡ false }
-    ensures { IfOk result (λ text. (s : State) → Shows session.now s
-        → string_bytes text ≡ summary_lines (totals_of seed boxes edits s)) }
-{
-    let picture = session.picture(alloc)?;
-    let totals = Totals {
-        seed,
-        boxes,
-        edits,
-        accepted: session.accepted,
-        refused: session.refused,
-        paints: session.engine.paints(),
-        built: session.built,
-        area: session.area,
-        digest: digest(&picture),
-    };
-    let mut text = String::new(alloc);
-    push_summary(alloc, &mut text, &totals)?;
-    Ok(text)
-}
-
-/// Does the commands of a script, and gives the summary of a storm of these numbers.
-fn summary_of<A: Ledger, B: Ledger>(
-    alloc: Global,
-    script: &Script,
-    seed: u64,
-    boxes: u32,
-    edits: u32,
-    made: &mut Steps<A>,
-    looks: &mut Steps<B>,
-) -> Result<String, NoMemory>
-    ensures told { IfOk result (λ bytes. AreOfEnd (counter made.old made.new) (counter looks.old looks.new)
-        (λ x ys. (s : State) → Shows x s → ys ≡ summary_lines (totals_of seed boxes edits s)) script.now (string_bytes bytes)) }
-    ensures part { OnErr result (((made.new ≡ made.old) × (looks.new ≡ looks.old))
-        ⊎ MayFinish (counter made.old made.new) (counter looks.old looks.new) script.now) }
-{
-    let session = performed(alloc, script, made, looks)?;
-    let text = summary(alloc, &session, seed, boxes, edits)?;
-    Ok(text)
-}
-
 /// Does the commands of the generated script of these numbers, and writes a summary.
 pub(crate) fn storm<O: Sink, A: Ledger, B: Ledger>(
     alloc: Global,
@@ -249,8 +239,9 @@ pub(crate) fn storm<O: Sink, A: Ledger, B: Ledger>(
     let Ok(script) = rd_gen::script(alloc, seed, boxes, edits) else {
         return Status::NoMemory;
     };
-    match summary_of(alloc, &script, seed, boxes, edits, made, looks) {
-        Ok(text) => write(out, text.as_bytes()),
+    let told = Told::Summary { seed, boxes, edits };
+    match end_of(alloc, &script, told, made, looks) {
+        Ok(summary) => write(out, &summary),
         Err(_) => Status::NoMemory,
     }
 }

@@ -4,20 +4,20 @@ use Rattle.rd_scene.specs.Scripts.{Script}
 use Rattle.rd_run.proofs.Planted.{answered_all, answered_part, ends_early}
 use Rattle.rd_run.proofs.answers.answer.Goals as goal
 
-pub returns-in-Ok-answer_all : goal.returns-in-Ok-answer_all
-returns-in-Ok-answer_all g c =
+pub returns-in-Ok-done : goal.returns-in-Ok-done
+returns-in-Ok-done g c =
     let begun = c.in-Ok.ensures.begun in (
-      c.in-Ok-answer_all.ensures.faultless,
+      c.in-Ok-done.ensures.faultless,
       answered_all (Unit {0}) c.args.script.now _ begun.0 _ (stream _ _ 0 0) _ _ _ _ begun.1 refl
           (c.deref.ensures.value ∙ ap (λ (s : Script). s.commands) c.script.view_is)
-          (c.in-Ok-answer_all.ensures.all _ begun.2),
+          (c.in-Ok-done.ensures.all _ begun.2),
     )
 
-pub returns : goal.returns
-returns g c =
+pub returns-in-Err-done : goal.returns-in-Err-done
+returns-in-Err-done g c =
     let begun = c.in-Ok.ensures.begun in
-    ends_early _ (IsScriptAnswer c.args.script.now) _ _ _ _ _ refl c.in-Err-answer_all.ensures.only
+    ends_early _ (IsScriptAnswer c.args.script.now) _ _ _ _ _ refl c.in-Err-done.ensures.only
     (answered_part (Unit {0}) c.args.script.now _ begun.0 _ (stream _ _ 0 0) _ _ _ _ begun.1 refl
     (c.deref.ensures.value ∙ ap (λ (s : Script). s.commands) c.script.view_is)
-    (c.in-Err-answer_all.ensures.part _ begun.2))
-    c.in-Err-answer_all.ensures.fault c.in-Err-answer_all.ensures.still
+    (c.in-Err-done.ensures.part _ begun.2))
+    c.in-Err-done.ensures.fault c.in-Err-done.ensures.still

@@ -7,10 +7,8 @@ pub returns-in_err-session-clause-part : goal.returns-in_err-session-clause-part
 returns-in_err-session-clause-part g c =
     let r = err_from_is_err_and c.from_residual.result c.from_residual.ensures.1 in rw (r.1) c.in_err-session.ensures.part
 
-pub returns-in_err-bytes-clause-part : goal.returns-in_err-bytes-clause-part
-returns-in_err-bytes-clause-part g c =
-    let r = err_from_is_err_and c.from_residual-in_err-bytes.result c.from_residual-in_err-bytes.ensures.1 in
-    rw (r.1) (inr (finished_may c.args.script.now _ _ _ _ _ c.in_ok-session.ensures.finished))
+pub returns-in-Ok-clause-told : goal.returns-in-Ok-clause-told
+returns-in-Ok-clause-told g c = (c.in_ok-session.session, c.in_ok-session.ensures.finished, c.in-Ok.ensures)
 
-pub returns-clause-told : goal.returns-clause-told
-returns-clause-told g c = (c.in_ok-session.session, c.in_ok-session.ensures.finished, c.in_ok-bytes.ensures)
+pub returns-in-Err-clause-part : goal.returns-in-Err-clause-part
+returns-in-Err-clause-part g c = inr (finished_may c.args.script.now _ _ _ _ _ c.in_ok-session.ensures.finished)
