@@ -1,20 +1,18 @@
 -- Marks of boxes: where the mark of a name's box is not set, the name is none of those that are sought.
 use Rattle.std.proofs.Common.{◌≡◌, refl, ap, ◌∙◌, sym, subst, ℕ, ◌+◌, ◌<◌, ◌==◌, Bool, true, false, List, length, get_or, set, arith, inl, inr, Some, None}
-use Rattle.std.proofs.lemmas.List.{get_or-set_same, get_or-set_other, get_or-map}
+use Rattle.std.proofs.lemmas.Bool.{cases_lt}
+use Rattle.std.proofs.lemmas.List.{get_or_default, get_or-set_same, get_or-set_other, get_or-map}
 use Rattle.rd_keys.specs.Keys.{BoxKey}
 use Rattle.rd_keys.specs.declared.entry.EntryKey.{EntryKey}
 use Rattle.rd_graph.specs.Names.{place_of, same_entry}
 use Rattle.rd_graph.proofs.Lists.Entries.{place_some, same_entry-sound, same_entry-refl}
 use Rattle.rd_graph.proofs.Lists.Listing.{cases, never}
 use Rattle.rd_graph.proofs.Patches.ListsAt.{same_place, other_place}
-use Rattle.rd_merge.specs.Internal.Marks.{AreMarkedBy, box_mark, box_marks, box_of, name_marks, page_mark}
+use Rattle.rd_merge.specs.Internal.Marks.{AreMarkedBy, box_mark, box_marks, box_of, name_marks, slot_mark}
 
 pub mark_small : (wide : Bool) (k : BoxKey) → box_mark wide k < box_marks wide
 mark_small true k = omega arith
 mark_small false k = omega arith
-
-pub page_small : (k : BoxKey) → page_mark k < 512
-page_small k = omega arith
 
 module _ (at : BoxKey → ℕ) (count : ℕ) (small : (k : BoxKey) → at k < count) (names : List EntryKey) where
   mark_at : (i : ℕ) (d : EntryKey) → i < length names → get_or (name_marks at names) i 0 ≡ at (box_of (get_or names i d))
@@ -47,3 +45,27 @@ module _ (at : BoxKey → ℕ) (count : ℕ) (small : (k : BoxKey) → at k < co
         let t : get_or marks (at (box_of k)) false ≡ true = ap (λ z. get_or marks z false) (sym m) ∙ are.marked p r.0 in
         absurd (never (get_or marks (at (box_of k)) false) t f)
   ] refl
+
+-- ---- marks by pages
+
+-- the mark of one more name is set
+pub page_next : (names : List EntryKey) (i : ℕ) (d : EntryKey) (owner : BoxKey) (old new : List ℕ) → i < length names → owner ≡ box_of (get_or names i d)
+    → ((j : ℕ) (e : EntryKey) → j < i → slot_mark old (box_of (get_or names j e)) ≡ 1) → ((k : BoxKey) → slot_mark old k ≡ 1 → slot_mark new k ≡ 1)
+    → slot_mark new owner ≡ 1 → (j : ℕ) (e : EntryKey) → j < i + 1 → slot_mark new (box_of (get_or names j e)) ≡ 1
+page_next names i d owner old new l is was kept set j e b = elim (cases_lt j i) [
+  | inl m ↦ kept (box_of (get_or names j e)) (was j e m)
+  | inr m ↦
+      let q : j ≡ i = omega (arith, b, m) in
+      let same : get_or names i d ≡ get_or names j e = get_or_default names i d e l ∙ ap (λ n. get_or names n e) (sym q) in
+      ap (λ k. slot_mark new (box_of k)) (sym same) ∙ (ap (slot_mark new) (sym is) ∙ set)
+]
+
+pub page_unmarked : (names : List EntryKey) (pages : List ℕ) → ((i : ℕ) (d : EntryKey) → i < length names → slot_mark pages (box_of (get_or names i d)) ≡ 1) → (k : EntryKey)
+    → slot_mark pages (box_of k) ≡ 0 → place_of same_entry names k ≡ None
+page_unmarked names pages are k f = elim (place_of same_entry names k) as (λ o. place_of same_entry names k ≡ o → o ≡ None) [
+  | None ↦ λ e. refl
+  | Some p ↦ λ e.
+      let r = place_some same_entry same_entry-sound same_entry-refl names k p e in
+      let m : slot_mark pages (box_of k) ≡ 1 = ap (λ z. slot_mark pages (box_of z)) (sym (r.1 k)) ∙ are p k r.0 in
+      absurd (omega (arith, m, f))
+] refl

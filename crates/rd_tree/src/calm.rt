@@ -1,11 +1,11 @@
 //! Pages of rows that a walk among siblings passes at once. A page of 64 rows is calm where their boxes are untouched and have no
 //! children, and each but the last is followed by the box of the next slot. Where that is known, it stands beside the page.
-ghost use Rattle.std.specs.Prelude.{◌≡◌, ℕ, ◌*◌, ◌+◌, ◌<◌, IfSome, IsTrue, [], ◌∷◌, ◌++◌, length, slice_set, vec_capacity};
-ghost use Rattle.rd_tree.specs.Internal.Glances.{pages, seen_at};
+ghost use Rattle.std.specs.Prelude.{◌≡◌, ◌*◌, ◌+◌, ◌<◌, IfSome, IsTrue, [], ◌∷◌, ◌++◌, length, slice_set, vec_capacity};
+ghost use Rattle.rd_tree.specs.Internal.Glances.{pages};
 ghost use Rattle.rd_tree.specs.Internal.Calm.{AreCalm, IsCalmPage, IsCalmRow, IsFollowed, IsPassed, IsRun};
 
 use crate::glance::Glance;
-use crate::shared::{NOT_QUIET, PAGE};
+use crate::shared::{PAGE, PageWord};
 use rd_keys::BoxKey;
 
 /// The row of a slot changes: its page is not known to be calm any more.
@@ -73,13 +73,13 @@ fn is_calm_page(rows: &[Glance], page: usize) -> bool
 }
 
 /// Works out anew which pages are calm, of those that are not known to be, and whose rows are not known to share a word.
-pub(crate) fn renew(rows: &[Glance], shared: &[u64], calm: &mut [bool])
+pub(crate) fn renew(rows: &[Glance], shared: &[PageWord], calm: &mut [bool])
     requires calm { AreCalm rows.now calm.old }
     requires shared { length shared.now ≡ length calm.old }
     ensures { AreCalm rows.now calm.new }
 {
     for page in 0..calm.len() {
-        if shared[page] == NOT_QUIET && !calm[page] {
+        if shared[page].odd != 0 && !calm[page] {
             calm[page] = is_calm_page(rows, page);
         }
     }

@@ -1,5 +1,5 @@
 //! What walks read of all boxes. Beside each row stands one word that tells at once whether a key's box is live and untouched,
-//! and beside each page of rows one that tells so of all of them, and whether a walk among siblings may pass the page at once.
+//! and beside each page of rows what tells so of many of them, and whether a walk among siblings may pass the page at once.
 ghost use Rattle.std.specs.Prelude.{◌≡◌, ◌<◌, ◌⊎◌, [], false, true, length, slice_set, IfSome, IsTrue, OnOk};
 ghost use Rattle.rd_keys.specs.Keys.{BoxKey as Box};
 ghost use Rattle.rd_keys.specs.Ranges.{IsAmong};
@@ -8,7 +8,7 @@ ghost use Rattle.rd_tree.specs.Internal.Glances.{HasRoom, quiet_word, seen_at, t
 
 use crate::calm;
 use crate::glance::Glance;
-use crate::shared::{NOT_QUIET, all_share, extend, forget, renew};
+use crate::shared::{NOT_QUIET, PageWord, all_share, extend, forget, renew};
 use rd_keys::{BoxKey, KeyRange};
 use std::alloc::{AllocError, Global};
 use std::marker::Model;
@@ -19,8 +19,8 @@ pub(crate) struct Glances {
     rows: Vec<Glance>,
     /// Of each row the generation, where its box is untouched, and otherwise `NOT_QUIET`.
     words: Vec<u64>,
-    /// Of each page of rows the word that all of them have, or `NOT_QUIET`.
-    shared: Vec<u64>,
+    /// Of each page of rows a word, and which of them may have another.
+    shared: Vec<PageWord>,
     /// Of each page of rows, is it known to be calm?
     calm: Vec<bool>,
 }
@@ -120,8 +120,8 @@ impl Glances {
         at >= self.words.len() || self.words[at] != u64::from(key.generation())
     }
 
-    /// Is each key of a range that of its row, and its box untouched? It is said only of a range of one generation, where all
-    /// rows of the few pages that it meets are known to share that; where it is not said, nothing is known.
+    /// Is each key of a range that of its row, and its box untouched? It is said only of a range of one generation, where the
+    /// rows of its slots, of few pages, are known to share that; where it is not said, nothing is known.
     #[inline(always)]
     pub(crate) fn none_touched(&self, keys: KeyRange) -> bool
         ensures { IsTrue result → (k : Box) → IsAmong keys k → told_touched self.now.rows k
@@ -130,12 +130,7 @@ impl Glances {
         let last = keys.last_slot as usize;
         keys.oldest == keys.newest
             && last < self.words.len()
-            && all_share(
-                &self.shared,
-                keys.first_slot as usize,
-                last,
-                u64::from(keys.oldest),
-            )
+            && all_share(&self.shared, keys, u64::from(keys.oldest))
     }
 
     /// Room for a row more. After a refusal nothing but room has changed.
@@ -181,7 +176,7 @@ impl Glances {
         if (slot as usize) < self.rows.len() {
             self.write(slot, glance);
         } else {
-            extend(&self.words, &mut self.shared);
+            extend(&self.words, &mut self.shared, glance.generation);
             calm::extend(&self.rows, &mut self.calm);
             self.words.push_reserved(word_of(&glance));
             self.rows.push_reserved(glance);

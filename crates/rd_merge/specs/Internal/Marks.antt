@@ -1,5 +1,6 @@
 -- Marks of the boxes of which something is sought, by their slots.
-use Rattle.std.specs.Prelude.{◌≡◌, ℕ, ◌<◌, ◌%◌, ◌/◌, Bool, true, false, List, length, map, slice_index_or}
+use Rattle.std.specs.Prelude.{◌≡◌, ℕ, ◌<◌, ◌%◌, ◌/◌, Bool, true, false, List, length, map, slice_index, slice_index_or}
+use Rattle.std.specs.Int.{bit_at}
 use Rattle.rd_keys.specs.Keys.{BoxKey}
 use Rattle.rd_keys.specs.declared.entry.EntryKey.{EntryKey}
 use Rattle.rd_keys.specs.declared.entry.EntryKey.TheVariants as key
@@ -18,9 +19,13 @@ abbrev pub box_of : EntryKey → BoxKey
 box_of (key.Leaf k p) = k
 box_of (key.Group k) = k
 
--- where the 64 slots of a box have their mark, of which there are 512
+-- the page of a box, of which there are 256
 abbrev pub page_mark : BoxKey → ℕ
-page_mark k = (k.slot / 64) % 512
+page_mark k = (k.slot / 64) % 256
+
+-- the mark of a box in its page
+abbrev pub slot_mark : List ℕ → BoxKey → ℕ
+slot_mark pages k = bit_at (slice_index pages (page_mark k)) (k.slot % 64)
 
 -- where the boxes of names have their marks
 abbrev pub name_marks : (BoxKey → ℕ) → List EntryKey → List ℕ
@@ -35,6 +40,13 @@ pub record AreMarkedBy (mark : BoxKey → ℕ) (count : ℕ) (names : List Entry
 abbrev pub AreMarked : Bool → List EntryKey → List Bool → Type 0
 AreMarked wide names marks = AreMarkedBy (box_mark wide) (box_marks wide) names marks
 
--- marks of 64 slots each
-abbrev pub ArePagesMarked : List EntryKey → List Bool → Type 0
-ArePagesMarked names marks = AreMarkedBy page_mark 512 names marks
+-- as many words of marks as there are pages, and of each 64 pages which have some
+pub record ArePages (pages groups : List ℕ) : Type 0 where
+  pub size : length pages ≡ 256
+  pub count : length groups ≡ 4
+  pub right : (p : ℕ) → p < 256 → bit_at (slice_index groups (p / 64)) (p % 64) ≡ 0 → slice_index pages p ≡ 0
+
+-- those of the boxes of these names are set
+pub record ArePagesMarked (names : List EntryKey) (pages groups : List ℕ) : Type 0 where
+  pub are : ArePages pages groups
+  pub marked : (i : ℕ) (d : EntryKey) → i < length names → slot_mark pages (box_of (slice_index_or names i d)) ≡ 1

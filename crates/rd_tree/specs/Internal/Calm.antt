@@ -4,6 +4,7 @@ use Rattle.rd_keys.specs.Arena.{Arena, slot_at, value}
 use Rattle.rd_keys.specs.Keys.{BoxKey}
 use Rattle.rd_tree.specs.declared.node.Node as inner
 use Rattle.rd_tree.specs.declared.glance.Glance.{Glance}
+use Rattle.rd_tree.specs.declared.shared.PageWord.{PageWord}
 use Rattle.rd_tree.specs.declared.shared.TheConstants.{PAGE}
 use Rattle.rd_tree.specs.Internal.Glances.{glance_in, pages, seen_at, AreWords}
 
@@ -31,7 +32,7 @@ pub record AreCalm (gs : List Glance) (calm : List Bool) : Type 0 where
   pub right : (p : ℕ) → slice_index_or calm p false ≡ true → IsCalmPage gs p
 
 -- What stands beside rows: their words, those of pages, and which pages are calm.
-pub record AreKnown (gs : List Glance) (ws sh : List ℕ) (cs : List Bool) : Type 0 where
+pub record AreKnown (gs : List Glance) (ws : List ℕ) (sh : List PageWord) (cs : List Bool) : Type 0 where
   pub words : AreWords gs ws sh
   pub calm : AreCalm gs cs
 

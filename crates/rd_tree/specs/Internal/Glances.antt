@@ -1,9 +1,12 @@
 -- What a walk reads of a box, without opening its node.
-use Rattle.std.specs.Prelude.{◌≡◌, ◌≢◌, ℕ, ◌+◌, ◌-◌, ◌/◌, ◌<◌, ◌==◌, ◌||◌, Bool, true, false, not, if◌then◌else◌, List, [], ◌∷◌, ◌++◌, length, map, nat_le, nat_lt, slice_index, slice_index_or, slice_set, Option, Some, None}
+use Rattle.std.specs.Prelude.{◌≡◌, ◌≢◌, ℕ, ◌+◌, ◌-◌, ◌*◌, ◌/◌, ◌%◌, ◌<◌, ◌==◌, ◌||◌, Bool, true, false, not, if◌then◌else◌, List, [], ◌∷◌, ◌++◌, length, map, nat_le, nat_lt, slice_index, slice_index_or, slice_set, Option, Some, None}
+use Rattle.std.specs.Int.{bit_at}
+use Rattle.std.specs.Int.Bits.{bit_and}
 use Rattle.rd_keys.specs.Arena.{Arena, slot_at}
 use Rattle.rd_keys.specs.Keys.{BoxKey}
 use Rattle.rd_tree.specs.declared.node.Node as inner
 use Rattle.rd_tree.specs.declared.glance.Glance.{Glance}
+use Rattle.rd_tree.specs.declared.shared.PageWord.{PageWord}
 use Rattle.rd_tree.specs.declared.shared.TheConstants.{NOT_QUIET, PAGE}
 
 -- of a slot without a live key: whatever key is asked for counts as touched
@@ -70,14 +73,56 @@ told_touched gs k =
     nat_le (length gs) k.slot || (seen_at gs k.slot).touched
     || not ((seen_at gs k.slot).generation == k.generation)
 
--- Each page of rows has a word, and where that is a generation, each of its rows has it.
-pub record AreShared (words shared : List ℕ) : Type 0 where
+-- what is known of the page of this number
+abbrev pub known_of : List PageWord → ℕ → PageWord
+known_of shared b = slice_index_or shared b (record { word = 0; odd = 0; stirred = 0 })
+
+-- the bit of a page beside the first of its 64
+abbrev pub is_stirred : List PageWord → ℕ → ℕ
+is_stirred shared b = bit_at (known_of shared (b / 64 * 64)).stirred (b % 64)
+
+-- each page that is not stirred has the word 0 and no odd row
+abbrev pub ArePlain : List PageWord → Type 0
+ArePlain shared = (b : ℕ) → is_stirred shared b ≡ 0 → ((known_of shared b).word ≡ 0) × ((known_of shared b).odd ≡ 0)
+
+-- Each page of rows has a word, which is a generation, and each of its rows that is not odd has it.
+pub record AreShared (words : List ℕ) (shared : List PageWord) : Type 0 where
   pub all : length shared ≡ pages (length words)
-  pub right : (s : ℕ) → s < length words → slice_index shared (s / PAGE) ≢ NOT_QUIET
-      → slice_index words s ≡ slice_index shared (s / PAGE)
+  pub quiet : (b : ℕ) → (known_of shared b).word < NOT_QUIET
+  pub right : (s : ℕ) → s < length words → bit_at (known_of shared (s / PAGE)).odd (s % PAGE) ≡ 0
+      → slice_index words s ≡ (known_of shared (s / PAGE)).word
+  pub plain : ArePlain shared
+
+-- The word of a page is this one, and none of these rows is odd.
+pub record HasWord (known : PageWord) (slots word : ℕ) : Type 0 where
+  pub same : known.word ≡ word
+  pub none : bit_and known.odd slots ≡ 0
+
+-- A page is stirred, and no other one is calmed.
+pub record IsStirred (old new : List PageWord) (page : ℕ) : Type 0 where
+  pub len : length new ≡ length old
+  pub word : (b : ℕ) → (known_of new b).word ≡ (known_of old b).word
+  pub odd : (b : ℕ) → (known_of new b).odd ≡ (known_of old b).odd
+  pub here : is_stirred new page ≡ 1
+  pub others : (b : ℕ) → is_stirred new b ≡ 0 → is_stirred old b ≡ 0
+
+-- No page but this one is calmed.
+pub record IsCalmed (old new : List PageWord) (page : ℕ) : Type 0 where
+  pub len : length new ≡ length old
+  pub word : (b : ℕ) → (known_of new b).word ≡ (known_of old b).word
+  pub odd : (b : ℕ) → (known_of new b).odd ≡ (known_of old b).odd
+  pub others : (b : ℕ) → b ≢ page → is_stirred new b ≡ 0 → is_stirred old b ≡ 0
+
+-- A page has these odd rows, and nothing else changes.
+pub record HasOdd (old new : List PageWord) (page odd : ℕ) : Type 0 where
+  pub len : length new ≡ length old
+  pub word : (b : ℕ) → (known_of new b).word ≡ (known_of old b).word
+  pub stirred : (b : ℕ) → (known_of new b).stirred ≡ (known_of old b).stirred
+  pub here : (known_of new page).odd ≡ odd
+  pub others : (b : ℕ) → b ≢ page → (known_of new b).odd ≡ (known_of old b).odd
 
 -- What stands beside rows: the word of each, and what those of a page share.
-pub record AreWords (gs : List Glance) (ws sh : List ℕ) : Type 0 where
+pub record AreWords (gs : List Glance) (ws : List ℕ) (sh : List PageWord) : Type 0 where
   pub words : ws ≡ map quiet_word gs
   pub shared : AreShared ws sh
 
