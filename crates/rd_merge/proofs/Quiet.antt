@@ -21,9 +21,9 @@ use Rattle.rd_list.proofs.Admitting.{named_at, read_some}
 use Rattle.rd_merge.specs.Going.{any_stays, is_untouched}
 use Rattle.rd_merge.specs.Looking.{any_goes, kept_names}
 use Rattle.rd_merge.specs.Internal.Looks.{LeafStays, LeavesStay, NothingNoted, gone_at, inner_at, name_of, noted}
-use Rattle.rd_merge.specs.Internal.Marks.{ArePagesMarked, page_mark}
+use Rattle.rd_merge.specs.Internal.Marks.{ArePagesMarked, slot_mark}
 use Rattle.rd_merge.proofs.Looks.{add_none, ends, gone_next, inner_next, named_next, nothing_itself, nothing_more}
-use Rattle.rd_merge.proofs.Marked.{page_small, unmarked}
+use Rattle.rd_merge.proofs.Marked.{page_unmarked}
 
 module _ (touched : BoxKey → Bool) (keys : KeyRange) (quiet : (k : BoxKey) → IsAmong keys k → touched k ≡ false) where
   stays : (l : item.Leaf) → IsAmong keys l.owner → is_untouched touched l ≡ true
@@ -55,19 +55,19 @@ module _ (touched : BoxKey → Bool) (keys : KeyRange) (quiet : (k : BoxKey) →
   has_entry (leaf m rest) e = refl
   has_entry (group g inner rest) e = refl
 
-  none_goes : (xs : Entries (Ordered EntryKey Wrapper) Made) → AreNamed keys xs → any_goes entry_names (is_untouched touched) (kept_leaves xs) ≡ false
+  pub none_goes : (xs : Entries (Ordered EntryKey Wrapper) Made) → AreNamed keys xs → any_goes entry_names (is_untouched touched) (kept_leaves xs) ≡ false
   none_goes nil a = refl
   none_goes (leaf m rest) a = rw (stays m.leaf a.0) (none_goes rest a.1)
   none_goes (group g inner rest) a = rw (has_entry inner a.1) (rw (none_goes inner a.2) (none_goes rest a.3))
 
-  module _ {A : Type 0} (names : List EntryKey) (pages : List Bool) (are : ArePagesMarked names pages) (unnamed : (k : BoxKey) → IsAmong keys k → get_or pages (page_mark k) false ≡ false) where
+  module _ {A : Type 0} (names : List EntryKey) (pages groups : List ℕ) (are : ArePagesMarked names pages groups) (unnamed : (k : BoxKey) → IsAmong keys k → slot_mark pages k ≡ 0) where
     quiet_gone : (x : Entry A) (i : ℕ) (now : List ℕ) → AreNamed keys (kept_entries (x ∷ [])) → now ≡ now ++ gone_at touched i x
     quiet_gone (kept.Leaf m) i now a = add_none now (gone_at {A = A} touched i (kept.Leaf m)) (rw (stays m.leaf a.0) refl)
     quiet_gone (kept.Group g) i now a = add_none now (gone_at {A = A} touched i (kept.Group g)) (rw (some_stays g.inner.entries a.2 a.1) refl)
 
     quiet_found : (x : Entry A) (i : ℕ) (now : List (Option ℕ)) → AreNamed keys (kept_entries (x ∷ [])) → now ≡ noted (place_of same_entry names (name_of x)) i now
-    quiet_found (kept.Leaf m) i now a = ap (λ o. noted o i now) (sym (unmarked page_mark 512 page_small names pages are (name_of {A = A} (kept.Leaf m)) (unnamed m.leaf.owner a.0)))
-    quiet_found (kept.Group g) i now a = ap (λ o. noted o i now) (sym (unmarked page_mark 512 page_small names pages are (name_of {A = A} (kept.Group g)) (unnamed g.key a.0)))
+    quiet_found (kept.Leaf m) i now a = ap (λ o. noted o i now) (sym (page_unmarked names pages are.marked (name_of {A = A} (kept.Leaf m)) (unnamed m.leaf.owner a.0)))
+    quiet_found (kept.Group g) i now a = ap (λ o. noted o i now) (sym (page_unmarked names pages are.marked (name_of {A = A} (kept.Group g)) (unnamed g.key a.0)))
 
     quiet_inner : (x : Entry A) (i : ℕ) (now : List ℕ) → AreNamed keys (kept_entries (x ∷ [])) → now ≡ now ++ inner_at touched names i x
     quiet_inner (kept.Leaf m) i now a = add_none now [] refl

@@ -1,19 +1,18 @@
 //! A look at a kept level: which entries go, where the names of the new level stand, and in which groups something goes.
-ghost use Rattle.std.specs.Prelude.{◌≡◌, ◌<◌, ◌≤◌, ◌+◌, ◌&&◌, not, false, true, if◌then◌else◌, [], ◌∷◌, ◌++◌, drop, length, map, take, None, IfOk, IfSome, OnOk};
+ghost use Rattle.std.specs.Prelude.{◌≡◌, ◌<◌, ◌≤◌, ◌+◌, ◌&&◌, not, false, if◌then◌else◌, [], ◌∷◌, ◌++◌, drop, length, map, take, None, IfOk, IfSome, OnOk};
 ghost use Rattle.rd_graph.specs.Names.{place_of, same_entry};
 ghost use Rattle.rd_graph.specs.Orders.{Once};
 ghost use Rattle.rd_list.specs.Chunks.{Covers, Tells};
-ghost use Rattle.rd_list.specs.Entries.{is_empty};
-ghost use Rattle.rd_list.specs.EntryNames.{kept_leaves};
 ghost use Rattle.rd_list.specs.KeptView.{kept_entries};
-ghost use Rattle.rd_merge.specs.Internal.Looks.{LeavesStay, gone_at, goes_inside, has_touched, inner_at, name_of, noted};
+ghost use Rattle.rd_merge.specs.Internal.Looks.{LeavesStay, gone_at, inner_at, name_of, noted};
 ghost use Rattle.rd_merge.specs.Internal.Passes.{IsNoted, IsPass};
 ghost use Rattle.rd_merge.specs.Internal.Sought.{AreChained};
 ghost use Rattle.rd_merge.specs.Looking.{IsLooked, kept_names};
 ghost use Rattle.rd_merge.specs.declared.passing.Leaves.TheVariants as known;
 
 use crate::going::{Touches, key_of, stays_at};
-use crate::marks::{Marks, are_unnamed};
+use crate::inner::is_inner;
+use crate::marks::Marks;
 use crate::passing::{Leaves, Pass, stands_still};
 use crate::sought::Finder;
 use rd_keys::EntryKey;
@@ -36,55 +35,6 @@ pub(crate) struct LevelDiff {
 struct Notes {
     looked: LevelDiff,
     finder: Finder,
-}
-
-/// Is there no entry?
-fn has_none<A: Ledger>(entries: &[Entry<A>]) -> bool
-    ensures { result ≡ is_empty (kept_leaves (kept_entries entries.now)) }
-{
-    entries.is_empty()
-}
-
-/// Does a leaf of a touched box stand here, in a group or outside, or a group without entries?
-#[cycle(leaving)]
-fn any_goes<A: Ledger, T: Touches>(entries: &[Entry<A>], tree: &T) -> bool
-    ensures { result ≡ has_touched (T.is_touched tree.now) (kept_entries entries.now) }
-{
-    for entry in entries {
-        if goes_at(entry, tree) {
-            return true;
-        }
-    }
-    false
-}
-
-#[cycle(leaving)]
-fn goes_at<A: Ledger, T: Touches>(entry: &Entry<A>, tree: &T) -> bool
-    ensures { result ≡ has_touched (T.is_touched tree.now) (kept_entries (entry.now ∷ [])) }
-{
-    match entry {
-        Entry::Leaf(item) => tree.touches(item.owner()),
-        Entry::Group(group) => {
-            has_none(group.inner.entries()) || any_goes(group.inner.entries(), tree)
-        }
-    }
-}
-
-/// Is it a group of which something goes?
-fn goes_inside<A: Ledger, T: Touches>(entry: &Entry<A>, tree: &T) -> bool
-    ensures { result ≡ goes_inside (T.is_touched tree.now) entry.now }
-{
-    match entry {
-        Entry::Leaf(_) => false,
-        Entry::Group(group) => any_goes(group.inner.entries(), tree),
-    }
-}
-
-/// Is it a group to go into, although the new level does not name it?
-fn is_inner<A: Ledger, T: Touches>(stays: bool, is_new: bool, entry: &Entry<A>, tree: &T) -> bool
-    ensures { result ≡ (stays && not is_new && goes_inside (T.is_touched tree.now) entry.now) }
-{
-    stays && !is_new && goes_inside(entry, tree)
 }
 
 /// The place of a name is noted, where the name is found. The name after it comes next.
@@ -237,7 +187,7 @@ impl<A: Ledger, T: Touches> Pass<'_, A, T> {
         if !stands_still(chunk, self.tree) {
             return self.anywhere(notes, start, end);
         }
-        if are_unnamed(&self.marks.pages, chunk.told.keys) {
+        if self.marks.pages.lacks(chunk.told.keys) {
             return Ok(());
         }
         self.between(notes, Leaves::Untouched, start, end)

@@ -15,7 +15,7 @@ pub record IsPass {A T : Type 0} (p : Pass A T) : Type 0 where
   pub names_once : Once p.names.now
   pub entries_once : Once (kept_names (kept_entries p.entries.now))
   pub marked : AreMarked p.marks.now.is_wide p.names.now p.marks.now.marks.items
-  pub pages_marked : ArePagesMarked p.names.now p.marks.now.pages.items
+  pub pages_marked : ArePagesMarked p.names.now p.marks.now.pages.pages.items p.marks.now.pages.groups
 
 -- What is to be noted of the first so many entries is.
 pub record IsNoted {A T : Type 0} (touched : BoxKey → Bool) (p : Pass A T) (n : ℕ) (notes : Notes) : Type 0 where
