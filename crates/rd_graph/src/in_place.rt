@@ -40,12 +40,19 @@ fn turn_cost(end: usize, start: usize, count: usize) -> usize {
     (end - start).saturating_add(count)
 }
 
+/// Over how many runs a line is made in place where that moves up to twice as many elements as there are.
+const FEW: usize = 32;
+
 /// Are few elements moved where a line is made in place, and is there room for those that come after the old ones?
 pub(crate) fn is_near<T>(old: &Vec<T>, made: &Vec<T>, aside: &Vec<T>, runs: &[Run]) -> bool
     ensures { result ≡ true → vec_len old.now + (vec_len made.now + vec_len aside.now) ≤ vec_capacity old.now }
 {
     let come = made.len().saturating_add(aside.len());
-    come <= old.capacity() - old.len() && moved(runs, old.len()) <= old.len()
+    if come > old.capacity() - old.len() {
+        return false;
+    }
+    let moved = moved(runs, old.len());
+    moved <= old.len() || (runs.len() <= FEW && moved / 2 <= old.len())
 }
 
 /// The elements from `place` up to `middle` come after those from there up to `end`.
