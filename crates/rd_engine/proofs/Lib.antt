@@ -6,6 +6,7 @@ pub mod Shallow
 pub mod Alike
 pub mod Nothing
 pub mod Stood
+pub mod Made
 pub mod Fewer
 pub mod Stands
 pub mod Regions

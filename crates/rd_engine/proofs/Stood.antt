@@ -12,10 +12,10 @@ use Rattle.rd_list.proofs.Merges.Narrowing.{only_only}
 use Rattle.rd_stack.proofs.Leafwise.{EachLeaf, only_where}
 use Rattle.rd_stack.proofs.Orders.Covered.{composed-only}
 
-first_in : {A : Type 0} (x : A) (xs : List A) → Contains (x ∷ xs) x
+pub first_in : {A : Type 0} (x : A) (xs : List A) → Contains (x ∷ xs) x
 first_in x xs = (0, omega arith, refl)
 
-later_in : {A : Type 0} (x y : A) (xs : List A) → Contains xs y → Contains (x ∷ xs) y
+pub later_in : {A : Type 0} (x y : A) (xs : List A) → Contains xs y → Contains (x ∷ xs) y
 later_in x y xs c = let l = c.1 in (suc c.0, omega (arith, l), c.2)
 
 -- what holds of the leaves of a list holds leaf by leaf

@@ -22,7 +22,7 @@ use rd_geom::{Color, NoMemory, Px, Steps};
 use rd_keys::BoxKey;
 use rd_list::{Kept, ListView, NewList};
 use rd_merge::{Plan, finish, prepare};
-use rd_paint::{Buffers, Canvas, repaint};
+use rd_paint::{Buffers, Canvas, repaint_since};
 use rd_partial::{build, touched_area};
 use rd_tree::{MAX_DEPTH, Tree};
 use std::alloc::Global;
@@ -339,10 +339,17 @@ impl<A: Ledger, B: Ledger> Engine<A, B> {
         let _size = self.tree.canvas();
         let old = mem::replace(&mut self.list, Kept::empty());
         self.list = finish(old, new, plan);
-        repaint(&mut self.canvas, self.list.view(), &area, &mut buffers);
+        let number = self.paints + 1;
+        repaint_since(
+            &mut self.canvas,
+            self.list.view(),
+            &area,
+            number,
+            &mut buffers,
+        );
         self.tree.settle();
         self.pending = false;
-        self.paints += 1;
+        self.paints = number;
         let leaves = self.list.view().leaves();
         let pixels = area.count();
         self.area = Some(area);

@@ -1,26 +1,34 @@
 -- An entry comes to a place of a level with chunks.
-use Rattle.std.proofs.Common.{◌≡◌, refl, ap, ◌∙◌, sym, subst, ℕ, zero, suc, ◌+◌, ◌-◌, ◌<◌, ◌≤◌, Bool, false, List, [], ◌∷◌, length, take, drop, get_or, set, Option, Some, None, inl, inr, ◌⊎◌, arith}
-use Rattle.std.specs.Prelude.{IfSome, IsTrue, MatchOption, ◌≢◌}
+use Rattle.std.proofs.Common.{◌≡◌, refl, ap, ◌∙◌, sym, subst, ℕ, zero, suc, ◌+◌, ◌-◌, ◌<◌, ◌≤◌, false, List, [], ◌∷◌, ◌++◌, length, take, drop, get_or, set, Option, Some, None, inl, inr, ◌⊎◌, arith}
+use Rattle.std.specs.Prelude.{IfSome, ◌≢◌}
 use Rattle.std.proofs.lemmas.Bool.{cases_lt}
 use Rattle.std.proofs.lemmas.List.{length-take-le, length-drop, get_or-take, get_or-drop, drop-drop}
 use Rattle.rd_geom.specs.Plane.{Rectangle}
 use Rattle.rd_keys.specs.declared.range.KeyRange.{KeyRange}
-use Rattle.rd_list.specs.Chunks.{IsHeld, AreHeld, AreNamed, IsTold, IsWider, Tells, Covers, total, leaf_count, ChangesTo, IsAt, IsFound, IsLeaf}
+use Rattle.rd_list.specs.Chunks.{IsHeld, AreHeld, AreMadeBy, AreNamed, IsReplaced, IsTold, IsWider, Tells, Covers, total, leaf_count, ChangesTo, IsAt, IsFound, IsLeaf}
 use Rattle.rd_list.specs.KeptView.{kept_entries}
-use Rattle.rd_list.proofs.Covering.{count_append, held_wider, named_on}
+use Rattle.rd_list.specs.Entries.{flat}
+use Rattle.rd_item.specs.Items.{Made}
+use Rattle.rd_list.proofs.Covering.{count_append, held_wider, made_both, made_wider, named_on, told_wider}
 use Rattle.rd_list.specs.declared.chunks.Chunk.{Chunk}
 use Rattle.rd_list.specs.declared.told.ChunkBounds.{ChunkBounds}
 use Rattle.rd_list.specs.declared.kept.Entry.{Entry}
 use Rattle.rd_list.specs.declared.kept.Entry.TheVariants.{Leaf, Group}
-
-clash : (b : Bool) → b ≡ false → IsTrue b → ⊥
-clash b f t = cc
 
 -- what stands at a place of a list, whatever is read where there is none
 pub read_any : {X : Type 0} (xs : List X) (i : ℕ) (x y : X) → i < length xs → x ≡ get_or xs i x → y ≡ get_or xs i y → x ≡ y
 read_any [] i x y h e f = absurd (omega (arith, h))
 read_any (z ∷ zs) zero x y h e f = e ∙ sym f
 read_any (z ∷ zs) (suc i) x y h e f = read_any zs i x y (omega (arith, h)) e f
+
+-- of leaves made by this paint or before, the first and those after them
+made_left : (n : ℕ) (ms ns : List Made) → AreMadeBy n (ms ++ ns) → AreMadeBy n ms
+made_left n [] ns h = tt
+made_left n (m ∷ ms) ns h = (h.0, made_left n ms ns h.1)
+
+made_right : (n : ℕ) (ms ns : List Made) → AreMadeBy n (ms ++ ns) → AreMadeBy n ns
+made_right n [] ns h = h
+made_right n (m ∷ ms) ns h = made_right n ms ns h.1
 
 module _ {A : Type 0} where
   -- ---- entry by entry
@@ -49,6 +57,24 @@ module _ {A : Type 0} where
   named_by r [] f = tt
   named_by r (Leaf i ∷ es) f = ((f 0 (Leaf i) (omega arith) refl).0, named_by r es (λ k x l e. f (suc k) x (omega (arith, l)) e))
   named_by r (Group g ∷ es) f = let h = f 0 (Group g) (omega arith) refl in (h.0, h.1, h.2, named_by r es (λ k x l e. f (suc k) x (omega (arith, l)) e))
+
+  -- an entry's leaves were made by this paint or before
+  abbrev IsMadeBy : ℕ → Entry A → Type 0
+  IsMadeBy n e = AreMadeBy n (flat (kept_entries (e ∷ [])))
+
+  made_at : (n : ℕ) (es : List (Entry A)) → AreMadeBy n (flat (kept_entries es)) → (k : ℕ) (x : Entry A) → k < length es → x ≡ get_or es k x → IsMadeBy n x
+  made_at n [] h k x l e = absurd (omega (arith, l))
+  made_at n (Leaf i ∷ es) h zero x l e = subst (IsMadeBy n) (sym e) (h.0, tt)
+  made_at n (Group g ∷ es) h zero x l e = subst (IsMadeBy n) (sym e) (made_both n (flat g.inner.entries) [] (made_left n (flat g.inner.entries) (flat (kept_entries es)) h) tt)
+  made_at n (Leaf i ∷ es) h (suc k) x l e = made_at n es h.1 k x (omega (arith, l)) e
+  made_at n (Group g ∷ es) h (suc k) x l e = made_at n es (made_right n (flat g.inner.entries) (flat (kept_entries es)) h) k x (omega (arith, l)) e
+
+  made_by : (n : ℕ) (es : List (Entry A)) → ((k : ℕ) (x : Entry A) → k < length es → x ≡ get_or es k x → IsMadeBy n x) → AreMadeBy n (flat (kept_entries es))
+  made_by n [] f = tt
+  made_by n (Leaf i ∷ es) f = ((f 0 (Leaf i) (omega arith) refl).0, made_by n es (λ k x l e. f (suc k) x (omega (arith, l)) e))
+  made_by n (Group g ∷ es) f =
+      made_both n (flat g.inner.entries) (flat (kept_entries es)) (made_left n (flat g.inner.entries) [] (f 0 (Group g) (omega arith) refl))
+      (made_by n es (λ k x l e. f (suc k) x (omega (arith, l)) e))
 
   same_lists : (xs ys : List (Entry A)) → length xs ≡ length ys → ((k : ℕ) (d : Entry A) → k < length xs → get_or xs k d ≡ get_or ys k d) → xs ≡ ys
   same_lists [] [] e f = refl
@@ -129,10 +155,21 @@ module _ {A : Type 0} where
       let rest = count_put n place xs ys (omega (arith, p)) (omega (arith, l)) (omega (arith, e)) (λ k d m. f (suc k) d (λ q. m (omega (arith, q)))) g h in
       count_cons y (take n ys) ∙ ap (λ z. leaf_count (z ∷ []) + leaf_count (take n ys)) first ∙ ap (λ m. leaf_count (x ∷ []) + m) rest ∙ sym (count_cons x (take n xs))
 
+  -- what a chunk says that says all that another one does, and what is told of a leaf that comes for a leaf
+  pub record IsServed (b new : Chunk) (x y : Entry A) : Type 0 where
+    pub was : b.is_open ≡ false
+    pub wider : IsWider b.told new.told
+    pub leaves : new.told.leaves ≡ b.told.leaves
+    pub held : IsHeld new.told.hull x
+    pub leaf : IsLeaf x
+    pub old_leaf : IsLeaf y
+    pub named : IsNamed new.told.keys x
+    pub made : IsMadeBy new.told.newest x
+
   -- what a chunk must be that stands in place of another
   pub record Serves (b new : Chunk) (x y : Entry A) : Type 0 where
     pub count : new.count ≡ b.count
-    pub closed : new.is_open ≡ false → (b ≡ new) × IsHeld new.told.hull x × IsLeaf x × IsLeaf y × IsNamed new.told.keys x
+    pub closed : new.is_open ≡ false → IsServed b new x y
 
   pub read_some : (zs : List (Entry A)) (i : ℕ) → i < length zs → (x : Entry A) × (x ≡ get_or zs i x)
   read_some [] i q = absurd (omega (arith, q))
@@ -161,12 +198,14 @@ module _ {A : Type 0} where
           let some = read_some ys place there in
           let old = read_some xs place (omega (arith, there, e)) in
           let all = (serves some.0 old.0 there some.1 old.1).closed o in
-          let was : Tells new (take b.count xs) = subst (λ z. Tells z (take b.count xs)) all.0 (c.1 (ap (λ z. z.is_open) all.0 ∙ o)) in (
+          let was : Tells new (take b.count xs) = told_wider b.told new.told (take b.count xs) all.wider all.leaves (c.1 all.was) in (
             held_by new.told.hull (take b.count ys)
-                (put_all (IsHeld new.told.hull) b.count place xs ys m e f (λ x q is. ((serves x old.0 q is old.1).closed o).1) (held_at new.told.hull (take b.count xs) was.0)),
-            count_put b.count place xs ys inside m e f (λ y is. ((serves some.0 y there some.1 is).closed o).3) (λ x is. ((serves x old.0 there is old.1).closed o).2) ∙ was.1,
+                (put_all (IsHeld new.told.hull) b.count place xs ys m e f (λ x q is. ((serves x old.0 q is old.1).closed o).held) (held_at new.told.hull (take b.count xs) was.0)),
+            count_put b.count place xs ys inside m e f (λ y is. ((serves some.0 y there some.1 is).closed o).old_leaf) (λ x is. ((serves x old.0 there is old.1).closed o).leaf) ∙ was.1,
             named_by new.told.keys (take b.count ys)
-                (put_all (IsNamed new.told.keys) b.count place xs ys m e f (λ x q is. ((serves x old.0 q is old.1).closed o).4) (named_at new.told.keys (take b.count xs) was.2)),
+                (put_all (IsNamed new.told.keys) b.count place xs ys m e f (λ x q is. ((serves x old.0 q is old.1).closed o).named) (named_at new.told.keys (take b.count xs) was.2)),
+            made_by new.told.newest (take b.count ys)
+                (put_all (IsMadeBy new.told.newest) b.count place xs ys m e f (λ x q is. ((serves x old.0 q is old.1).closed o).made) (made_at new.told.newest (take b.count xs) was.3)),
           )
   covers_put (b ∷ bs) xs ys (suc at) start place new c s l h w e f =
       let m = c.0 in
@@ -188,16 +227,23 @@ module _ {A : Type 0} where
             (λ k d q. get_or-drop b.count ys k d ∙ f (b.count + k) d (λ r. q (omega (arith, r))) ∙ sym (get_or-drop b.count xs k d)),
       )
 
-  -- an open chunk serves for any entry
-  pub opened_serves : (b new : Chunk) (x y : Entry A) → new.count ≡ b.count → IsTrue new.is_open → Serves b new x y
-  opened_serves b new x y e t = record { count = e; closed = λ f. absurd (clash new.is_open f t) }
-
-  -- one that says of the leaf all that is told of it stays, where another leaf was
-  pub same_serves : (b : Chunk) (told : Option ChunkBounds) (x y : Entry A) → MatchOption told ⊥ (λ t. IsWider t b.told) → IfSome told (λ t. IsTold t (x ∷ []) × IsLeaf x × IsLeaf y) → Serves b b x y
-  same_serves b None x y a h = absurd a
-  same_serves b (Some t) x y a h = record {
-    count = refl;
-    closed = λ f. (refl, held_wider t.hull b.told.hull x a.hull h.0.0.0, h.1, h.2, named_on t.keys b.told.keys (x ∷ []) a.keys h.0.2);
+  -- one that says of the leaf all that is told of it, or is open
+  pub replaced_serves : (b new : Chunk) (told : Option ChunkBounds) (x y : Entry A) → IsReplaced told b new → IfSome told (λ t. IsTold t (x ∷ []) × IsLeaf x × IsLeaf y) → Serves b new x y
+  replaced_serves b new None x y r h = record { count = r.count; closed = λ f. absurd (r.closed f).3 }
+  replaced_serves b new (Some t) x y r h = record {
+    count = r.count;
+    closed = λ f.
+        let c = r.closed f in
+        record {
+          was = c.0;
+          wider = c.1;
+          leaves = c.2;
+          held = held_wider t.hull new.told.hull x c.3.hull h.0.0.0;
+          leaf = h.1;
+          old_leaf = h.2;
+          named = named_on t.keys new.told.keys (x ∷ []) c.3.keys h.0.2;
+          made = made_wider t.newest new.told.newest (flat (kept_entries (x ∷ []))) c.3.newest h.0.3;
+        };
   }
 
   -- an entry comes to a place of a chunk, which is another one then, or the same

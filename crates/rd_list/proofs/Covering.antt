@@ -1,10 +1,10 @@
 -- Chunks, one after another.
-use Rattle.std.proofs.Common.{◌≡◌, refl, ap, ◌∙◌, sym, subst, ℕ, zero, suc, ◌+◌, ◌-◌, ◌<◌, ◌==◌, ◌≤◌, false, List, [], ◌∷◌, ◌++◌, length, take, drop, get_or, Option, None, Some, arith, rules}
+use Rattle.std.proofs.Common.{◌≡◌, refl, ap, ◌∙◌, sym, subst, ℕ, zero, suc, ◌+◌, ◌-◌, ◌<◌, ◌==◌, ◌≤◌, false, List, [], ◌∷◌, ◌++◌, length, take, drop, get_or, Option, None, Some, arith, rules, take-add}
 use Rattle.std.specs.Prelude.{IfSome}
 use Rattle.std.proofs.lemmas.List.{length-append, length-take-le, length-drop, take-append-le, drop-append-le, take-append-drop, take_more, drop-drop}
 use Rattle.rd_geom.specs.Plane.{Rectangle, IsWithin}
 use Rattle.rd_item.specs.Items.{Made}
-use Rattle.rd_list.specs.Chunks.{IsHeld, AreHeld, AreNamed, AreWithin, IsGroupTold, IsListTold, IsTold, Tells, Covers, CoversAll, total, leaf_count, IsAt}
+use Rattle.rd_list.specs.Chunks.{IsHeld, AreHeld, AreMadeBy, AreNamed, AreWithin, IsGroupTold, IsListTold, IsTold, IsWider, Tells, Covers, CoversAll, total, leaf_count, IsAt}
 use Rattle.rd_list.specs.Internal.Telling.{IsBoth}
 use Rattle.rd_keys.specs.Keys.{BoxKey}
 use Rattle.rd_keys.specs.Ranges.{IsAmong}
@@ -59,10 +59,19 @@ named_both r nil ys h k = k
 named_both r (leaf m rest) ys h k = (h.0, named_both r rest ys h.1 k)
 named_both r (group g inner rest) ys h k = (h.0, h.1, h.2, named_both r rest ys h.3 k)
 
+-- made by a later paint or before
+pub made_wider : (a b : ℕ) (ms : List Made) → a ≤ b → AreMadeBy a ms → AreMadeBy b ms
+made_wider a b [] l h = tt
+made_wider a b (m ∷ ms) l h = (let f = h.0 in omega (arith, l, f), made_wider a b ms l h.1)
+
+pub made_both : (n : ℕ) (ms ns : List Made) → AreMadeBy n ms → AreMadeBy n ns → AreMadeBy n (ms ++ ns)
+made_both n [] ns h k = k
+made_both n (m ∷ ms) ns h k = (h.0, made_both n ms ns h.1 k)
+
 -- what is told of a list, and the key of its group beside
 pub with_key : (t : ChunkBounds) (keys : KeyRange) (key : BoxKey) (list : Entries (Ordered EntryKey Wrapper) Made) → ((k : BoxKey) → IsAmong t.keys k → IsAmong keys k) → IsAmong keys key → is_empty list ≡ false → IsListTold t list
-    → IsGroupTold (record { hull = t.hull; leaves = t.leaves; keys = keys }) key list
-with_key t keys key list w k e h = ((h.0, h.1, named_wider t.keys keys list w h.2), k, e)
+    → IsGroupTold (record { hull = t.hull; leaves = t.leaves; keys = keys; newest = t.newest }) key list
+with_key t keys key list w k e h = ((h.0, h.1, named_wider t.keys keys list w h.2, h.3), k, e)
 
 module _ {A : Type 0} where
   -- ---- what is told of entries
@@ -102,7 +111,19 @@ module _ {A : Type 0} where
         all_held t.hull xs ys (all_wider a.hull t.hull xs j.left.hull h.0) (all_wider b.hull t.hull ys j.right.hull k.0),
         omega (arith, c, e, f, g),
         subst (AreNamed t.keys) (sym (kept-append xs ys)) (named_both t.keys (kept_entries xs) (kept_entries ys) (named_on a.keys t.keys xs j.left.keys h.2) (named_on b.keys t.keys ys j.right.keys k.2)),
+        subst (AreMadeBy t.newest) (sym (ap flat (kept-append xs ys) ∙ flat-join (kept_entries xs) (kept_entries ys)))
+            (made_both t.newest (flat (kept_entries xs)) (flat (kept_entries ys)) (made_wider a.newest t.newest (flat (kept_entries xs)) j.left.newest h.3)
+            (made_wider b.newest t.newest (flat (kept_entries ys)) j.right.newest k.3)),
       )
+
+  -- what is told of some entries, where more is said
+  pub told_wider : (a t : ChunkBounds) (es : List (Entry A)) → IsWider a t → t.leaves ≡ a.leaves → IsTold a es → IsTold t es
+  told_wider a t es w l h = (
+    all_wider a.hull t.hull es w.hull h.0,
+    h.1 ∙ sym l,
+    named_on a.keys t.keys es w.keys h.2,
+    made_wider a.newest t.newest (flat (kept_entries es)) w.newest h.3,
+  )
 
   -- what is told of some entries and of one more, if it can be told
   pub told_if : (o : Option ChunkBounds) (a b : ChunkBounds) (es : List (Entry A)) (x : Entry A) → IfSome o (IsBoth a b) → IsTold a es → IsTold b (x ∷ []) → IfSome o (λ t. IsTold t (es ++ x ∷ []))
@@ -111,7 +132,7 @@ module _ {A : Type 0} where
 
   -- a list, by what is told of its entries
   pub told_list : (t : ChunkBounds) (es : List (Entry A)) (list : Entries (Ordered EntryKey Wrapper) Made) → kept_entries es ≡ list → IsTold t es → IsListTold t list
-  told_list t es list e h = subst (IsListTold t) e (held_leaves t.hull es h.0, h.1, h.2)
+  told_list t es list e h = subst (IsListTold t) e (held_leaves t.hull es h.0, h.1, h.2, h.3)
 
   -- a level without entries
   pub none_is_empty : (es : List (Entry A)) → (length es == 0) ≡ is_empty (kept_entries es)
@@ -124,7 +145,7 @@ module _ {A : Type 0} where
   told_group t g x is h =
       let count = h.0.1 in
       let end = length-append (flat g.inner.entries) [] in
-      rw is ((h.0.0, tt), omega (arith, count, end), (h.1, h.2, h.0.2, tt))
+      rw is ((h.0.0, tt), omega (arith, count, end), (h.1, h.2, h.0.2, tt), made_both t.newest (flat g.inner.entries) [] h.0.3 tt)
 
   -- ---- chunks one after another
 
@@ -173,15 +194,6 @@ module _ {A : Type 0} where
       take_whole [] = refl
       take_whole (x ∷ xs) = ap (λ ys. x ∷ ys) (take_whole xs)
 
-  take_nil : (m : ℕ) → take {A = Entry A} m [] ≡ []
-  take_nil zero = refl
-  take_nil (suc m) = refl
-
-  pub take_on : (es : List (Entry A)) (p n : ℕ) → take (p + n) es ≡ take p es ++ take n (drop p es)
-  take_on es zero n = ap (λ m. take m es) (let e : 0 + n ≡ n = omega arith in e)
-  take_on [] (suc p) n = take_nil (suc p + n) ∙ sym (take_nil n)
-  take_on (e ∷ es) (suc p) n = ap (λ m. take m (e ∷ es)) (let s : suc p + n ≡ suc (p + n) = omega arith in s) ∙ ap (λ ys. e ∷ ys) (take_on es p n)
-
   -- chunks of the entries before a place are some of all of them
   pub covers_all : (bs : List Chunk) (p : ℕ) (es : List (Entry A)) → Covers bs (take p es) → Covers bs es
   covers_all bs p es c = subst (Covers bs) (take-append-drop p es) (covers_more bs (take p es) (drop p es) c)
@@ -191,7 +203,7 @@ module _ {A : Type 0} where
   next_covers bs b es p c l h =
       let n = length-drop p es in
       let m : length (take b.count (drop p es)) ≡ b.count = length-take-le b.count (drop p es) (omega (arith, l, n)) in
-      subst (CoversAll (bs ++ b ∷ [])) (sym (take_on es p b.count)) (all_append bs (b ∷ []) (take p es) (take b.count (drop p es)) c (one_covers b (take b.count (drop p es)) m h))
+      subst (CoversAll (bs ++ b ∷ [])) (sym (take-add p b.count es)) (all_append bs (b ∷ []) (take p es) (take b.count (drop p es)) c (one_covers b (take b.count (drop p es)) m h))
 
   -- ---- the loops
 

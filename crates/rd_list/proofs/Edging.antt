@@ -1,11 +1,12 @@
 -- Leaves within edges, and what is told by these.
-use Rattle.std.proofs.Common.{◌≡◌, refl, sym, subst, ℕ, List, [], ◌∷◌, ◌++◌, length, arith}
+use Rattle.std.proofs.Common.{◌≡◌, refl, sym, subst, ℕ, ◌≤◌, List, [], ◌∷◌, ◌++◌, length, arith}
 use Rattle.std.proofs.lemmas.Int.{ints}
 use Rattle.rd_geom.specs.Plane.{Rectangle, IsWithin}
 use Rattle.rd_geom.proofs.Pixels.{edges_within}
 use Rattle.rd_item.specs.Items.{Made}
 use Rattle.rd_keys.specs.Ranges.{IsAmong}
-use Rattle.rd_list.specs.Chunks.{AreHeld, AreNamed, IsTold, leaf_count}
+use Rattle.rd_list.specs.Chunks.{AreHeld, AreMadeBy, AreNamed, IsTold, leaf_count}
+use Rattle.rd_list.specs.Entries.{flat}
 use Rattle.rd_list.specs.Internal.Edged.{AreInside, IsBetween, IsFurther, IsInside, IsSpanned}
 use Rattle.rd_list.specs.KeptView.{kept_entries}
 use Rattle.rd_list.specs.declared.edges.Edges.{Edges}
@@ -25,11 +26,11 @@ between_within e s r h b =
     edges_within r s (omega (arith, ints, h.x, b.from_left)) (omega (arith, ints, h.y, b.from_top)) (omega (arith, ints, h.x, h.w, b.to_right)) (omega (arith, ints, h.y, h.h, b.to_bottom))
 
 module _ {A : Type 0} where
-  pub inside_leaf : (e : Edges) (x : Entry A) (i : Made) → x ≡ Leaf i → IsBetween e i.leaf.visible → IsAmong e.keys i.leaf.owner → IsInside e x
-  inside_leaf e x i is b k = subst (IsInside e) (sym is) (b, k)
+  pub inside_leaf : (e : Edges) (x : Entry A) (i : Made) → x ≡ Leaf i → IsBetween e i.leaf.visible → IsAmong e.keys i.leaf.owner → i.made_at ≤ e.newest → IsInside e x
+  inside_leaf e x i is b k m = subst (IsInside e) (sym is) (b, k, m)
 
   inside_further : (a b : Edges) (x : Entry A) → IsFurther a b → IsInside a x → IsInside b x
-  inside_further a b (Leaf i) f h = (between_further a b i.leaf.visible f h.0, f.keys i.leaf.owner h.1)
+  inside_further a b (Leaf i) f h = (between_further a b i.leaf.visible f h.0, f.keys i.leaf.owner h.1, (let n = f.newest in let m = h.2 in omega (arith, n, m)))
   inside_further a b (Group g) f h = h
 
   -- leaves, and one more
@@ -53,5 +54,10 @@ module _ {A : Type 0} where
   inside_named e (Leaf i ∷ xs) k = (k.0.1, inside_named e xs k.1)
   inside_named e (Group g ∷ xs) k = absurd k.0
 
-  pub inside_told : (e : Edges) (n : ℕ) (s : Rectangle) (xs : List (Entry A)) → IsSpanned e s → AreInside e xs → length xs ≡ n → IsTold (record { hull = s; leaves = n; keys = e.keys }) xs
-  inside_told e n s xs h k l = let c = inside_count e xs k in (inside_held e s xs h k, omega (arith, c, l), inside_named e xs k)
+  inside_made : (e : Edges) (xs : List (Entry A)) → AreInside e xs → AreMadeBy e.newest (flat (kept_entries xs))
+  inside_made e [] k = tt
+  inside_made e (Leaf i ∷ xs) k = (k.0.2, inside_made e xs k.1)
+  inside_made e (Group g ∷ xs) k = absurd k.0
+
+  pub inside_told : (e : Edges) (n : ℕ) (s : Rectangle) (xs : List (Entry A)) → IsSpanned e s → AreInside e xs → length xs ≡ n → IsTold (record { hull = s; leaves = n; keys = e.keys; newest = e.newest }) xs
+  inside_told e n s xs h k l = let c = inside_count e xs k in (inside_held e s xs h k, omega (arith, c, l), inside_named e xs k, inside_made e xs k)

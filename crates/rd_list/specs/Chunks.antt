@@ -1,6 +1,6 @@
 -- Chunks of the entries of a level, and what each tells of its entries.
 -- All of it is this project's own choice.
-use Rattle.std.specs.Prelude.{◌≡◌, ℕ, ◌+◌, ◌≤◌, false, ◌<◌, ◌≢◌, IfSome, Option, None, Some, Box, List, [], ◌∷◌, length, take, drop, slice_index_or}
+use Rattle.std.specs.Prelude.{◌≡◌, ℕ, ◌+◌, ◌≤◌, false, ◌<◌, ◌≢◌, IfSome, MatchOption, Option, None, Some, Box, List, [], ◌∷◌, length, take, drop, slice_index_or}
 use Rattle.std.specs.declared.alloc.Global.{Global}
 use Rattle.rd_geom.specs.Plane.{Rectangle, IsWithin}
 use Rattle.rd_item.specs.Items.{Made}
@@ -42,9 +42,14 @@ AreNamed keys nil = Unit {0}
 AreNamed keys (leaf m rest) = IsAmong keys m.leaf.owner × AreNamed keys rest
 AreNamed keys (group g inner rest) = IsAmong keys g.of.key × (is_empty inner ≡ false) × AreNamed keys inner × AreNamed keys rest
 
+-- each of some leaves was made by this paint or before
+abbrev pub AreMadeBy : ℕ → List Made → Type 0
+AreMadeBy n [] = Unit {0}
+AreMadeBy n (m ∷ ms) = (m.made_at ≤ n) × AreMadeBy n ms
+
 -- what is told of a list
 abbrev pub IsListTold : ChunkBounds → Entries (Ordered EntryKey Wrapper) Made → Type 0
-IsListTold t list = AreWithin t.hull (flat list) × (length (flat list) ≡ t.leaves) × AreNamed t.keys list
+IsListTold t list = AreWithin t.hull (flat list) × (length (flat list) ≡ t.leaves) × AreNamed t.keys list × AreMadeBy t.newest (flat list)
 
 -- what is told of the group of a box with a list
 abbrev pub IsGroupTold : ChunkBounds → BoxKey → Entries (Ordered EntryKey Wrapper) Made → Type 0
@@ -54,6 +59,12 @@ IsGroupTold t key list = IsListTold t list × IsAmong t.keys key × (is_empty li
 pub record IsWider (told wider : ChunkBounds) : Type 0 where
   pub hull : IsWithin told.hull wider.hull
   pub keys : (k : BoxKey) → IsAmong told.keys k → IsAmong wider.keys k
+  pub newest : told.newest ≤ wider.newest
+
+-- A chunk where another entry comes: it is open, or it says what it said, and of a leaf, of which this is told, that too.
+pub record IsReplaced (told : Option ChunkBounds) (old new : Chunk) : Type 0 where
+  pub count : new.count ≡ old.count
+  pub closed : new.is_open ≡ false → (old.is_open ≡ false) × IsWider old.told new.told × (new.told.leaves ≡ old.told.leaves) × MatchOption told ⊥ (λ t. IsWider t new.told)
 
 module _ {A : Type 0} where
   -- all that may be seen of an entry is in the rectangle
@@ -72,7 +83,7 @@ module _ {A : Type 0} where
 
   -- what is told of entries
   abbrev pub IsTold : ChunkBounds → List (Entry A) → Type 0
-  IsTold t es = AreHeld t.hull es × (leaf_count es ≡ t.leaves) × AreNamed t.keys (kept_entries es)
+  IsTold t es = AreHeld t.hull es × (leaf_count es ≡ t.leaves) × AreNamed t.keys (kept_entries es) × AreMadeBy t.newest (flat (kept_entries es))
 
   -- What a chunk that is not open says of its entries.
   abbrev pub Tells : Chunk → List (Entry A) → Type 0

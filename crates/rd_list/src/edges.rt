@@ -13,7 +13,7 @@ use rd_keys::KeyRange;
 use std::sync::ledger::Ledger;
 
 /// The first column and row in which anything of some leaves may be seen, the first ones past all of it, in canvas pixels, and the range of
-/// the names of their boxes.
+/// the names of their boxes; and by which paint the newest of them was made.
 #[derive(Clone, Copy)]
 pub(crate) struct Edges {
     left: i32,
@@ -21,6 +21,7 @@ pub(crate) struct Edges {
     right: i32,
     bottom: i32,
     keys: KeyRange,
+    newest: u64,
 }
 
 /// The edges of no leaf.
@@ -30,6 +31,7 @@ const NOWHERE: Edges = Edges {
     right: -MAX_REACH,
     bottom: -MAX_REACH,
     keys: KeyRange::NONE,
+    newest: 0,
 };
 
 /// So many leaves, and their edges.
@@ -52,6 +54,7 @@ fn widened<A: Ledger>(edges: Edges, item: &Item<A>) -> Edges
         right: edges.right.max(seen.right()),
         bottom: edges.bottom.max(seen.bottom()),
         keys: edges.keys.joined(KeyRange::one(item.owner())),
+        newest: edges.newest.max(item.made_at()),
     }
 }
 
@@ -93,5 +96,6 @@ pub(crate) fn leaves_told<A: Ledger>(leaves: &Leaves) -> Option<ChunkBounds>
         hull: spanned(&leaves.edges)?,
         leaves: leaves.count,
         keys: leaves.edges.keys,
+        newest: leaves.edges.newest,
     })
 }

@@ -1,11 +1,11 @@
 //! The chunk of a place. It is sought from the one that was found last, since places mostly rise.
-ghost use Rattle.std.specs.Prelude.{◌≡◌, ◌<◌, ◌≤◌, ◌+◌, IsTrue, MatchOption, List, length, take, drop, false};
-ghost use Rattle.rd_list.specs.Chunks.{ChangesTo, Covers, IsAt, IsFound, IsWider, Tells};
+ghost use Rattle.std.specs.Prelude.{◌≡◌, ◌<◌, ◌≤◌, ◌+◌, IfSome, MatchOption, List, length, take, drop, false};
+ghost use Rattle.rd_list.specs.Chunks.{ChangesTo, Covers, IsAt, IsFound, IsReplaced, IsWider, Tells};
 ghost use Rattle.rd_list.specs.declared.kept.Entry.{Entry};
 
 use crate::chunks::{Chunk, open_chunk};
 use crate::kept::Entry;
-use crate::told::{ChunkBounds, is_wider};
+use crate::told::{ChunkBounds, told_too};
 use std::sync::ledger::Ledger;
 
 /// How many chunks stand before the one that was found last, and how many entries they have.
@@ -53,14 +53,27 @@ fn find_chunk(chunks: &[Chunk], last: ChunkCursor, place: usize) -> ChunkCursor
     now
 }
 
-/// Does the chunk say of another leaf all that is told of it?
+/// What a chunk says where another leaf comes, of which this is told. None where it says something else of that.
 #[inline(always)]
-fn admits(chunk: &Chunk, told: Option<ChunkBounds>) -> bool
-    ensures { IsTrue result → MatchOption told ⊥ (λ t. IsWider t chunk.now.told) }
+fn admitted(chunk: &Chunk, told: Option<ChunkBounds>) -> Option<ChunkBounds>
+    ensures { IfSome result (λ t. IsWider chunk.now.told t × (t.leaves ≡ chunk.now.told.leaves) × MatchOption told ⊥ (λ m. IsWider m t)) }
 {
-    match told {
-        Some(told) => is_wider(told, chunk.told),
-        None => false,
+    let told = told?;
+    told_too(&chunk.told, told)
+}
+
+/// The chunk where another entry comes, of which this is told, if it is a leaf for a leaf. It is open if it says something else of it.
+#[inline(always)]
+fn with_entry(chunk: &Chunk, told: Option<ChunkBounds>) -> Chunk
+    ensures { IsReplaced told chunk.now result }
+{
+    match admitted(chunk, told) {
+        Some(told) => Chunk {
+            count: chunk.count,
+            is_open: chunk.is_open,
+            told,
+        },
+        None => open_chunk(chunk.count),
     }
 }
 
@@ -81,9 +94,7 @@ pub fn replace_entry<A: Ledger>(
     let found = find_chunk(chunks, last, place);
     if found.at < chunks.len() {
         let chunk = chunks[found.at];
-        if !admits(&chunk, told) {
-            chunks[found.at] = open_chunk(chunk.count);
-        }
+        chunks[found.at] = with_entry(&chunk, told);
     }
     found
 }

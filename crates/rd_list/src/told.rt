@@ -1,6 +1,6 @@
-//! What is told of entries at once: where all that may be seen of them lies, how many leaves they are or hold, and the range of
-//! their names.
-ghost use Rattle.std.specs.Prelude.{IfSome, IsTrue, List, length, ◌≡◌, ◌∷◌, ◌++◌, []};
+//! What is told of entries at once: where all that may be seen of them lies, how many leaves they are or hold, the range of their
+//! names, and by which paint the newest of these leaves was made.
+ghost use Rattle.std.specs.Prelude.{IfSome, List, length, ◌≡◌, ◌∷◌, ◌++◌, []};
 ghost use Rattle.rd_list.specs.declared.kept.Entry.{Entry as KeptEntry};
 ghost use Rattle.rd_list.specs.declared.kept.Entry.TheVariants as variants;
 ghost use Rattle.rd_list.specs.Chunks.{Covers, IsGroupTold, IsListTold, IsTold, IsWider, leaf_count};
@@ -16,12 +16,13 @@ use rd_keys::{BoxKey, KeyRange};
 use std::sync::ledger::Ledger;
 
 /// What is told of some entries: all that may be seen of them is in the hull, they are or hold so many leaves, and the boxes of these
-/// leaves and of the groups round them are among the keys. No group of them is empty.
+/// leaves and of the groups round them are among the keys. No group of them is empty. None of the leaves was made after the newest.
 #[derive(Clone, Copy)]
 pub struct ChunkBounds {
     pub hull: Rect,
     pub leaves: usize,
     pub keys: KeyRange,
+    pub newest: u64,
 }
 
 /// What is told of no entry.
@@ -29,14 +30,23 @@ pub(crate) const NOTHING: ChunkBounds = ChunkBounds {
     hull: Rect::EMPTY,
     leaves: 0,
     keys: KeyRange::NONE,
+    newest: 0,
 };
 
-/// Does what is told of other entries say all that the first says?
+/// What is told of entries, where it says of others too what is told of them, but for the paint that made the newest.
 #[inline(always)]
-pub(crate) fn is_wider(told: ChunkBounds, wider: ChunkBounds) -> bool
-    ensures { IsTrue result → IsWider told wider }
+pub(crate) fn told_too(told: &ChunkBounds, more: ChunkBounds) -> Option<ChunkBounds>
+    ensures { IfSome result (λ t. IsWider told.now t × IsWider more t × (t.leaves ≡ told.now.leaves)) }
 {
-    is_within(told.hull, wider.hull) && wider.keys.has_all(told.keys)
+    if !is_within(more.hull, told.hull) || !told.keys.has_all(more.keys) {
+        return None;
+    }
+    Some(ChunkBounds {
+        hull: told.hull,
+        leaves: told.leaves,
+        keys: told.keys,
+        newest: told.newest.max(more.newest),
+    })
 }
 
 /// What is told of some entries and of some more. None where that would be too many leaves.
@@ -49,6 +59,7 @@ fn joined(told: &ChunkBounds, more: &ChunkBounds) -> Option<ChunkBounds>
         hull: hull(told.hull, more.hull),
         leaves,
         keys: told.keys.joined(more.keys),
+        newest: told.newest.max(more.newest),
     })
 }
 
@@ -128,6 +139,7 @@ fn group_told<A: Ledger>(key: BoxKey, list: &Kept<A>) -> Option<ChunkBounds>
         hull: told.hull,
         leaves: told.leaves,
         keys: told.keys.joined(KeyRange::one(key)),
+        newest: told.newest,
     })
 }
 
@@ -140,6 +152,7 @@ pub fn item_told<A: Ledger>(item: &Item<A>) -> ChunkBounds
         hull: item.visible(),
         leaves: 1,
         keys: KeyRange::one(item.owner()),
+        newest: item.made_at(),
     }
 }
 

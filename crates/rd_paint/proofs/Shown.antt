@@ -3,6 +3,7 @@ pub mod Showing
 pub mod Transparent
 pub mod Passing
 pub mod OffChunks
+pub mod Older
 pub mod Hiding
 pub mod Seen
 pub mod Beside

@@ -1,10 +1,11 @@
 //! Painting bands of rows, each with picks of those entries alone that may show in it.
 
-ghost use Rattle.std.specs.Prelude.{◌≡◌, ℕ, pos, ◌+◌, ◌-◌, ◌*◌, ◌^◌, ◌≤◌, ◌<◌, ◌≤ℤ◌, IsTrue, IsFalse, IfSome, length, take, vec_capacity};
+ghost use Rattle.std.specs.Prelude.{◌≡◌, ℕ, pos, ◌+◌, ◌-◌, ◌*◌, ◌^◌, ◌≤◌, ◌<◌, IsTrue, IsFalse, IfSome, length, take, vec_capacity};
 ghost use Rattle.std.specs.Int.{int_max, int_min};
 ghost use Rattle.rd_geom.specs.Areas.{spans_at};
 ghost use Rattle.rd_list.specs.Chunks.{Covers};
 ghost use Rattle.rd_list.specs.Displayed.{shown};
+ghost use Rattle.rd_list.specs.Entries.{flat};
 ghost use Rattle.rd_list.specs.EntryNames.{kept_leaves};
 ghost use Rattle.rd_list.specs.KeptView.{kept_entries};
 ghost use Rattle.rd_list.specs.Lists.{pixel};
@@ -14,6 +15,7 @@ ghost use Rattle.rd_paint.specs.Internal.Rects.{IsRectChanged, IsRunPainted};
 ghost use Rattle.rd_paint.specs.Internal.Picks.{InAreaWithin, SameWhere, picked};
 ghost use Rattle.rd_paint.specs.Internal.Strips.{IsRectOn, IsStripOn, IsWithinLimits};
 ghost use Rattle.rd_paint.specs.Parts.{entry_count, entries_from};
+ghost use Rattle.rd_paint.specs.Since.{AreMadeSince};
 
 use crate::buffers::{ROOMS, fill_room, open_for, upper};
 use crate::canvas::Canvas;
@@ -24,6 +26,7 @@ use crate::gathering::gather;
 use crate::narrowing::narrow;
 use crate::picks::Pick;
 use crate::rects::{lay_picks_in, whiten};
+use crate::skipping::Sight;
 use crate::strip::{Band, PixelRect, Strip, Window};
 use rd_area::Area;
 use rd_geom::{Px, Span};
@@ -263,28 +266,27 @@ const FIRST_PICKS: usize = 1_024;
 fn gather_all<A: Ledger>(
     entries: &[Entry<A>],
     chunks: &[Chunk],
-    area: &Area,
-    columns: Span,
-    rows: Span,
+    sight: Sight<'_>,
     room: &mut Vec<Pick>,
 ) -> Option<usize>
     requires few { length room.old.items < 2 ^ 32 }
     requires covers { Covers chunks.now entries.now }
+    requires since { AreMadeSince sight.area.now sight.since (flat (kept_entries entries.now)) }
     ensures few { length room.new.items < 2 ^ 32 }
     ensures within { IfSome result (λ n. n ≤ length room.new.items) }
-    ensures same { IfSome result (λ n. SameWhere (InAreaWithin area.now columns rows)
+    ensures same { IfSome result (λ n. SameWhere (InAreaWithin sight.entry.area.now sight.entry.columns sight.entry.rows)
         (picked (take n room.new.items) (shown entries.now)) (shown entries.now)) }
     ensures levels { IfSome result (λ n. levels (picked (take n room.new.items) (shown entries.now))
         ≤ levels (shown entries.now)) }
 {
     fill_room(room, FIRST_PICKS);
-    if let Some(count) = gather(entries, chunks, area, columns, rows, room) {
+    if let Some(count) = gather(entries, chunks, sight, room) {
         fill_room(room, count * ROOMS);
         return Some(count);
     }
     let most = room.capacity();
     fill_room(room, most);
-    gather(entries, chunks, area, columns, rows, room)
+    gather(entries, chunks, sight, room)
 }
 
 /// Paints all rows of the entries of a level. False where the room is too small for picks of all entries that may show: then
@@ -301,18 +303,27 @@ fn paint_all<A: Ledger>(
     requires rows { canvas.old.width * (levels (kept_entries entries.now) - 1) ≤ vec_capacity rows.old }
     requires few { length room.old.items < 2 ^ 32 }
     requires covers { Covers chunks.now entries.now }
+    requires since { AreMadeSince window.area.now window.since (flat (kept_entries entries.now)) }
     ensures few { length room.new.items < 2 ^ 32 }
     ensures rows { vec_capacity rows.old ≤ vec_capacity rows.new }
     ensures painted { IsTrue result → IsPainted window.entry.corner (shown entries.now) window.entry.area.now canvas.old canvas.new }
     ensures same { IsFalse result → canvas.new ≡ canvas.old }
 {
-    let Window { corner, area } = window;
+    let Window {
+        corner,
+        area,
+        since,
+    } = window;
     let size = canvas.size();
     let whole = corner.frame(size.w as usize, size.h as usize);
     let frame = frame_of(area, whole);
-    let columns = frame.columns();
-    let lines = frame.rows();
-    let Some(count) = gather_all(entries, chunks, area, columns, lines, room) else {
+    let sight = Sight {
+        area,
+        since,
+        columns: frame.columns(),
+        rows: frame.rows(),
+    };
+    let Some(count) = gather_all(entries, chunks, sight, room) else {
         return false;
     };
     let (own, rest) = room.split_at_mut(count);
@@ -339,6 +350,7 @@ pub(crate) fn paint_kept<A: Ledger>(
     requires limits { IsWithinLimits canvas.old window.corner }
     requires rows { canvas.old.width * (levels list.now.entries - 1) ≤ vec_capacity rows.old }
     requires few { length room.old.items < 2 ^ 32 }
+    requires since { AreMadeSince window.area.now window.since (flat list.now.entries) }
     ensures few { length room.new.items < 2 ^ 32 }
     ensures rows { vec_capacity rows.old ≤ vec_capacity rows.new }
     ensures painted { IsTrue result

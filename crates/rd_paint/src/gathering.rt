@@ -4,15 +4,16 @@ ghost use Rattle.std.specs.Prelude.{◌^◌, ◌≤◌, ◌<◌, ◌∷◌, [], 
 ghost use Rattle.rd_list.specs.Chunks.{Covers};
 ghost use Rattle.rd_list.specs.Displayed.{shown};
 ghost use Rattle.rd_list.specs.Entries as list;
+ghost use Rattle.rd_list.specs.Entries.{flat};
 ghost use Rattle.rd_list.specs.EntryNames.{kept_leaves};
+ghost use Rattle.rd_list.specs.KeptView.{kept_entries};
 ghost use Rattle.rd_list.specs.Views.{levels};
 ghost use Rattle.rd_list.specs.Wrappers.{Wrapper};
 ghost use Rattle.rd_paint.specs.Internal.Picks.{InAreaWithin, IsClosed, SameWhere, ShowsFor, picked};
+ghost use Rattle.rd_paint.specs.Since.{AreMadeSince};
 
 use crate::picks::{MOST, Pick, put};
 use crate::skipping::{Sight, next_within};
-use rd_area::Area;
-use rd_geom::Span;
 use rd_item::Item;
 use rd_list::{Chunk, Entry, FIRST_CHUNK, Kept};
 use std::sync::ledger::Ledger;
@@ -23,29 +24,23 @@ use std::sync::ledger::Ledger;
 pub(crate) fn gather<A: Ledger>(
     entries: &[Entry<A>],
     chunks: &[Chunk],
-    area: &Area,
-    columns: Span,
-    rows: Span,
+    sight: Sight<'_>,
     room: &mut [Pick],
 ) -> Option<usize>
     requires few { length room.old < 2 ^ 32 }
     requires covers { Covers chunks.now entries.now }
+    requires since { AreMadeSince sight.area.now sight.since (flat (kept_entries entries.now)) }
     ensures within { IfSome result (λ n. n ≤ length room.old) }
-    ensures same { IfSome result (λ n. SameWhere (InAreaWithin area.now columns rows)
+    ensures same { IfSome result (λ n. SameWhere (InAreaWithin sight.entry.area.now sight.entry.columns sight.entry.rows)
         (picked (take n room.new) (shown entries.now)) (shown entries.now)) }
     ensures levels { IfSome result (λ n. levels (picked (take n room.new) (shown entries.now))
         ≤ levels (shown entries.now)) }
 {
     let mut count = 0;
     let mut seek = FIRST_CHUNK;
-    let sight = Sight {
-        area,
-        columns,
-        rows,
-    };
     let mut i = next_within(entries, chunks, sight, &mut seek, 0);
     while i < entries.len() {
-        let more = gather_one(&entries[i], i, area, columns, rows, &mut room[count..])?;
+        let more = gather_one(&entries[i], i, sight, &mut room[count..])?;
         count += more;
         i = next_within(entries, chunks, sight, &mut seek, i + 1);
     }
@@ -58,20 +53,19 @@ pub(crate) fn gather<A: Ledger>(
 fn gather_one<A: Ledger>(
     entry: &Entry<A>,
     place: usize,
-    area: &Area,
-    columns: Span,
-    rows: Span,
+    sight: Sight<'_>,
     room: &mut [Pick],
 ) -> Option<usize>
     requires few { length room.old < 2 ^ 32 }
+    requires since { AreMadeSince sight.area.now sight.since (flat (kept_entries (entry.now ∷ []))) }
     ensures within { IfSome result (λ n. n ≤ length room.old) }
     ensures closed { IfSome result (λ n. IsClosed (take n room.new)) }
-    ensures same { IfSome result (λ n. ShowsFor (InAreaWithin area.now columns rows) place
+    ensures same { IfSome result (λ n. ShowsFor (InAreaWithin sight.entry.area.now sight.entry.columns sight.entry.rows) place
         (shown (entry.now ∷ [])) (shown (entry.now ∷ [])) (take n room.new)) }
 {
     match entry {
-        Entry::Leaf(item) => gather_item(item, place, area, columns, rows, room),
-        Entry::Group(group) => gather_group(&group.inner, place, area, columns, rows, room),
+        Entry::Leaf(item) => gather_item(item, place, sight, room),
+        Entry::Group(group) => gather_group(&group.inner, place, sight, room),
     }
 }
 
@@ -79,17 +73,15 @@ fn gather_one<A: Ledger>(
 fn gather_item<A: Ledger>(
     item: &Item<A>,
     place: usize,
-    area: &Area,
-    columns: Span,
-    rows: Span,
+    sight: Sight<'_>,
     room: &mut [Pick],
 ) -> Option<usize>
     ensures within { IfSome result (λ n. n ≤ length room.old) }
     ensures closed { IfSome result (λ n. IsClosed (take n room.new)) }
-    ensures same { IfSome result (λ n. ShowsFor (InAreaWithin area.now columns rows) place (list.leaf item.now.leaf list.nil)
+    ensures same { IfSome result (λ n. ShowsFor (InAreaWithin sight.entry.area.now sight.entry.columns sight.entry.rows) place (list.leaf item.now.leaf list.nil)
         (list.leaf item.now.leaf list.nil) (take n room.new)) }
 {
-    if !area.meets(item.visible()) {
+    if !sight.area.meets(item.visible()) {
         return Some(0);
     }
     if room.is_empty() || place > MOST {
@@ -103,15 +95,14 @@ fn gather_item<A: Ledger>(
 fn gather_group<A: Ledger>(
     inner: &Kept<A>,
     place: usize,
-    area: &Area,
-    columns: Span,
-    rows: Span,
+    sight: Sight<'_>,
     room: &mut [Pick],
 ) -> Option<usize>
     requires few { length room.old < 2 ^ 32 }
+    requires since { AreMadeSince sight.area.now sight.since (flat inner.now.entries) }
     ensures within { IfSome result (λ n. n ≤ length room.old) }
     ensures closed { IfSome result (λ n. IsClosed (take n room.new)) }
-    ensures same { IfSome result (λ n. (w : Wrapper) → ShowsFor (InAreaWithin area.now columns rows) place
+    ensures same { IfSome result (λ n. (w : Wrapper) → ShowsFor (InAreaWithin sight.entry.area.now sight.entry.columns sight.entry.rows) place
         (list.group w (kept_leaves inner.now.entries) list.nil)
         (list.group w (kept_leaves inner.now.entries) list.nil) (take n room.new)) }
 {
@@ -119,7 +110,7 @@ fn gather_group<A: Ledger>(
         return None;
     }
     let (chunks, entries) = inner.chunked();
-    let inside = gather(entries, chunks, area, columns, rows, &mut room[1..])?;
+    let inside = gather(entries, chunks, sight, &mut room[1..])?;
     if inside == 0 {
         return Some(0);
     }

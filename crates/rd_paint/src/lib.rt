@@ -25,6 +25,6 @@ mod skipping;
 mod spans;
 mod strip;
 
-pub use areas::{repaint, repaint_part};
+pub use areas::{repaint, repaint_part, repaint_since};
 pub use buffers::{Buffers, paint_span};
 pub use canvas::Canvas;

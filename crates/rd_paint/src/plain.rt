@@ -17,9 +17,9 @@ use std::sync::ledger::Ledger;
 
 /// The entries of a list from place `from` on.
 #[derive_where(Clone, Copy)]
-struct Upper<'a, A: Ledger> {
-    list: ListView<'a, A>,
-    from: usize,
+pub(crate) struct Upper<'a, A: Ledger> {
+    pub(crate) list: ListView<'a, A>,
+    pub(crate) from: usize,
 }
 
 /// Makes the pixels of a row of a rectangle that are in a span those of a list, of which the upper entries are painted.

@@ -1,11 +1,15 @@
-//! Entries that show nothing in an area are passed over: chunks of them whose hull is off it, leaves, and groups of no opacity.
+//! Entries that show nothing in an area are passed over: chunks of them whose hull is off it, or which are older than all that meets
+//! it, leaves, and groups of no opacity.
 
-ghost use Rattle.std.specs.Prelude.{◌≡◌, ℤ, ◌+◌, ◌≤◌, ◌∷◌, [], IsTrue, false, length, take, drop};
+ghost use Rattle.std.specs.Prelude.{◌≡◌, ℤ, ◌+◌, ◌<◌, ◌≤◌, ◌∷◌, [], IsTrue, false, length, take, drop};
 ghost use Rattle.rd_geom.specs.Plane.{holds_pixel};
 ghost use Rattle.rd_list.specs.Chunks.{Covers, IsAt, Tells};
 ghost use Rattle.rd_list.specs.Displayed.{shown};
 ghost use Rattle.rd_list.specs.Entries as list;
+ghost use Rattle.rd_list.specs.Entries.{flat};
+ghost use Rattle.rd_list.specs.KeptView.{kept_entries};
 ghost use Rattle.rd_paint.specs.Internal.Picks.{InAreaWithin, InSpans, SameWhere, ServesWhere};
+ghost use Rattle.rd_paint.specs.Since.{AreMadeSince};
 
 use rd_area::Area;
 use rd_geom::{Rect, Span};
@@ -13,10 +17,11 @@ use rd_item::Item;
 use rd_list::{Chunk, ChunkCursor, Entry};
 use std::sync::ledger::Ledger;
 
-/// What of an area is in some columns of some rows.
+/// What of an area is in some columns of some rows. The leaves that meet the area were made by this paint or after.
 #[derive(Clone, Copy)]
 pub(crate) struct Sight<'a> {
     pub(crate) area: &'a Area,
+    pub(crate) since: u64,
     pub(crate) columns: Span,
     pub(crate) rows: Span,
 }
@@ -122,6 +127,15 @@ fn is_off(chunk: &Chunk, area: &Area, columns: Span, rows: Span) -> bool
     !area.meets(chunk.told.hull)
 }
 
+/// Was each leaf of the chunk made before a paint?
+#[inline(always)]
+fn is_older(chunk: &Chunk, since: u64) -> bool
+    ensures open { IsTrue result → chunk.now.is_open ≡ false }
+    ensures older { IsTrue result → chunk.now.told.newest < since }
+{
+    !chunk.is_open && chunk.told.newest < since
+}
+
 /// The same before the end of a chunk, which is passed as a whole where no entry of it may show in the area.
 fn next_in_chunk<A: Ledger>(
     entries: &[Entry<A>],
@@ -133,6 +147,7 @@ fn next_in_chunk<A: Ledger>(
     requires from { from ≤ length entries.now }
     requires end { start + chunk.now.count ≤ length entries.now }
     requires told { chunk.now.is_open ≡ false → Tells chunk.now (take chunk.now.count (drop start entries.now)) }
+    requires since { AreMadeSince sight.area.now sight.since (flat (kept_entries entries.now)) }
     ensures from { from ≤ result }
     ensures within { result ≤ length entries.now }
     ensures same { ServesWhere (InAreaWithin sight.entry.area.now sight.entry.columns sight.entry.rows)
@@ -141,6 +156,9 @@ fn next_in_chunk<A: Ledger>(
     let end = start + chunk.count;
     if from >= end {
         return from;
+    }
+    if from == start && is_older(chunk, sight.since) {
+        return end;
     }
     if from == start && is_off(chunk, sight.area, sight.columns, sight.rows) {
         return end;
@@ -161,6 +179,7 @@ pub(crate) fn next_within<A: Ledger>(
     requires from { from ≤ length entries.now }
     requires covers { Covers chunks.now entries.now }
     requires at { IsAt chunks.now seek.old.at seek.old.start }
+    requires since { AreMadeSince sight.area.now sight.since (flat (kept_entries entries.now)) }
     ensures within { result ≤ length entries.now }
     ensures from { from ≤ result }
     ensures at { IsAt chunks.now seek.new.at seek.new.start }

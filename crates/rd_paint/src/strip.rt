@@ -19,11 +19,13 @@ pub(crate) struct PixelRect {
     pub(crate) span: Span,
 }
 
-/// An area of a list, on a canvas whose first pixel shows the one at the corner.
+/// An area of a list, on a canvas whose first pixel shows the one at the corner. The leaves that meet the area were made by this paint
+/// or after.
 #[derive(Clone, Copy)]
 pub(crate) struct Window<'a> {
     pub(crate) corner: Corner,
     pub(crate) area: &'a Area,
+    pub(crate) since: u64,
 }
 
 /// What of an area is in the rows of a strip.

@@ -1,5 +1,5 @@
 -- What a kept list shows, chunk by chunk.
-use Rattle.std.proofs.Common.{◌≡◌, refl, ap, ◌∙◌, sym, false, ◌||◌, ℤ, ℕ, ◌+◌, List, ◌++◌, take, drop}
+use Rattle.std.proofs.Common.{◌≡◌, refl, ap, ◌∙◌, sym, false, ◌||◌, ℤ, ℕ, ◌+◌, List, ◌++◌, take, drop, take-add}
 use Rattle.std.proofs.lemmas.List.{take-append-drop}
 use Rattle.rd_geom.specs.Areas.{Region}
 use Rattle.rd_item.specs.Items.{Made}
@@ -14,7 +14,6 @@ use Rattle.rd_list.specs.Kept.{Ordered}
 use Rattle.rd_list.specs.EntryNames.{kept_leaves}
 use Rattle.rd_list.specs.KeptView.{kept_entries}
 use Rattle.rd_list.specs.declared.kept.Entry.{Entry}
-use Rattle.rd_list.proofs.Covering.{take_on}
 use Rattle.rd_list.proofs.News.{kept-append}
 use Rattle.rd_tree.specs.Document.{Document, is_touched}
 use Rattle.rd_partial.specs.Invalid.{any_shows, shows_touched}
@@ -46,7 +45,7 @@ module _ (t : Document) where
     -- the entries of a chunk more
     pub chunk_more : (es : List (Entry A)) (p n : ℕ) (a b c : Region) → Joins (any_shows t (kept_leaves (kept_entries (take p es)))) a b → Joins (any_shows t (kept_leaves (kept_entries (take n (drop p es))))) b c
         → Joins (any_shows t (kept_leaves (kept_entries (take (p + n) es)))) a c
-    chunk_more es p n a b c j k = two_parts (take p es) (take n (drop p es)) (take (p + n) es) a b c (take_on es p n) j k
+    chunk_more es p n a b c j k = two_parts (take p es) (take n (drop p es)) (take (p + n) es) a b c (take-add p n es) j k
 
     -- those past the last chunk
     pub rest_more : (es : List (Entry A)) (p : ℕ) (a b c : Region) → Joins (any_shows t (kept_leaves (kept_entries (take p es)))) a b → Joins (any_shows t (kept_leaves (kept_entries (drop p es)))) b c

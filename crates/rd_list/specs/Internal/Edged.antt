@@ -1,5 +1,5 @@
 -- Leaves within edges.
-use Rattle.std.specs.Prelude.{◌≡◌, ◌≤ℤ◌, ◌-ℤ◌, List, [], ◌∷◌}
+use Rattle.std.specs.Prelude.{◌≡◌, ◌≤◌, ◌≤ℤ◌, ◌-ℤ◌, List, [], ◌∷◌}
 use Rattle.rd_geom.specs.Plane.{Rectangle, right, bottom}
 use Rattle.rd_keys.specs.Keys.{BoxKey}
 use Rattle.rd_keys.specs.Ranges.{IsAmong}
@@ -21,6 +21,7 @@ pub record IsFurther (near far : Edges) : Type 0 where
   pub right : near.right ≤ℤ far.right
   pub bottom : near.bottom ≤ℤ far.bottom
   pub keys : (k : BoxKey) → IsAmong near.keys k → IsAmong far.keys k
+  pub newest : near.newest ≤ far.newest
 
 -- the rectangle between edges
 pub record IsSpanned (e : Edges) (r : Rectangle) : Type 0 where
@@ -30,9 +31,9 @@ pub record IsSpanned (e : Edges) (r : Rectangle) : Type 0 where
   pub h : r.h ≡ e.bottom -ℤ e.top
 
 module _ {A : Type 0} where
-  -- a leaf of which all that may be seen is between edges, and whose box is among their names
+  -- a leaf of which all that may be seen is between edges, whose box is among their names, and which was made by their newest or before
   abbrev pub IsInside : Edges → Entry A → Type 0
-  IsInside e (Leaf i) = IsBetween e i.leaf.visible × IsAmong e.keys i.leaf.owner
+  IsInside e (Leaf i) = IsBetween e i.leaf.visible × IsAmong e.keys i.leaf.owner × (i.made_at ≤ e.newest)
   IsInside e (Group g) = ⊥
 
   -- leaves alone, each of them so

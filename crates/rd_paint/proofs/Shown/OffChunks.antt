@@ -30,7 +30,7 @@ off_area a r f x y h = by (holds_pixel r x y) refl
     by true e = absurd (let m = shares-meets_area a r (record { x = x; y = y; first = h; second = e }) in cc)
 
 module _ (p : ℤ → ℤ → Type 0) (r : Rectangle) (off : (x y : ℤ) → p x y → holds_pixel r x y ≡ false) where
-  leaf_off : (l : item.Leaf) → IsWithin l.visible r → SameWhere p nil (leaf l nil)
+  pub leaf_off : (l : item.Leaf) → IsWithin l.visible r → SameWhere p nil (leaf l nil)
   leaf_off l w x y d h = sym (rw (last_false (holds_pixel l.shape.outer x y) (not (holds_pixel l.shape.inner x y)) (holds_pixel l.visible x y) (by (holds_pixel l.visible x y) refl)) refl)
     where
       by : (b : Bool) → holds_pixel l.visible x y ≡ b → holds_pixel l.visible x y ≡ false

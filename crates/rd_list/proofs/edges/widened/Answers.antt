@@ -21,6 +21,7 @@ returns-clause-before g c =
       right = omega (arith, ints, clamps, r, c.max.ensures.value);
       bottom = omega (arith, ints, clamps, b, c.max-2.ensures.value);
       keys = c.joined.ensures.first;
+      newest = omega (arith, c.max-3.ensures);
     }
 
 pub returns-clause-leaf : goal.returns-clause-leaf
@@ -38,4 +39,4 @@ returns-clause-leaf g c = λ e is.
       from_top = omega (arith, ints, clamps, t, c.min-2.ensures.value, c.y.ensures.value, ap (λ (s : Rectangle). s.y) c.visible-seen.ensures.value);
       to_right = omega (arith, ints, clamps, r, c.max.ensures.value, c.right.ensures.value, ap right c.visible-seen.ensures.value);
       to_bottom = omega (arith, ints, clamps, b, c.max-2.ensures.value, c.bottom.ensures.value, ap bottom c.visible-seen.ensures.value);
-    }) (c.joined.ensures.second c.args.item.now.leaf.owner (subst (IsAmong c.one.result) c.owner.ensures c.one.ensures))
+    }) (c.joined.ensures.second c.args.item.now.leaf.owner (subst (IsAmong c.one.result) c.owner.ensures c.one.ensures)) (omega (arith, c.max-3.ensures, c.made_at.ensures))

@@ -1,6 +1,6 @@
-use Rattle.std.proofs.Common.{subst, sym, take, drop, arith}
+use Rattle.std.proofs.Common.{subst, sym, take, drop, arith, take-add}
 use Rattle.rd_list.specs.Chunks.{IsTold}
-use Rattle.rd_list.proofs.Covering.{ahead_first, told_both, take_on}
+use Rattle.rd_list.proofs.Covering.{ahead_first, told_both}
 use Rattle.rd_list.proofs.told.told_by.Goals as goal
 
 pub loop-chunk-preserved : goal.loop-chunk-preserved
@@ -15,5 +15,5 @@ loop-chunk-preserved g c =
     record {
       within = omega (arith, l, w);
       ahead = a.2;
-      told = subst (IsTold c.in_ok-told.told) (sym (take_on es p b.count)) (told_both c.loop-chunk.told b.told c.in_ok-told.told (take p es) (take b.count (drop p es)) c.loop-chunk.invariant.told (a.1 c.if-chunk.false) j);
+      told = subst (IsTold c.in_ok-told.told) (sym (take-add p b.count es)) (told_both c.loop-chunk.told b.told c.in_ok-told.told (take p es) (take b.count (drop p es)) c.loop-chunk.invariant.told (a.1 c.if-chunk.false) j);
     }

@@ -33,6 +33,6 @@ returns-clause-painted g c = λ t.
     let right = ap (λ (f : Frame). f.right) c.frame-whole.ensures in
     let top = ap (λ (f : Frame). f.top) c.frame-whole.ensures in
     let bottom = ap (λ (f : Frame). f.bottom) c.frame-whole.ensures in
-    frame_painted c.args.window.corner (shown c.args.entries.now) (picked c.split_at_mut-own.result.0.now (shown c.args.entries.now)) c.args.window.area.now c.frame-whole.result c.frame_of-frame.result c.columns-columns.result c.rows-lines.result c.args.canvas.now c.paint_band.new.canvas
-    left (omega (arith, ints, right, w)) top (omega (arith, ints, bottom, h)) c.frame_of-frame.ensures c.columns-columns.ensures c.rows-lines.ensures
-    (subst (λ (ps : List Pick). SameWhere (InAreaWithin c.args.window.area.now c.columns-columns.result c.rows-lines.result) (picked ps (shown c.args.entries.now)) (shown c.args.entries.now)) (sym (c.split_at_mut-own.ensures.front ∙ ap (take c.in-Some.count) c.deref_mut.ensures.value)) c.in-Some.ensures.same) c.paint_band.ensures
+    frame_painted c.args.window.corner (shown c.args.entries.now) (picked c.split_at_mut-own.result.0.now (shown c.args.entries.now)) c.args.window.area.now c.frame-whole.result c.frame_of-frame.result c.columns.result c.rows.result c.args.canvas.now c.paint_band.new.canvas
+    left (omega (arith, ints, right, w)) top (omega (arith, ints, bottom, h)) c.frame_of-frame.ensures c.columns.ensures c.rows.ensures
+    (subst (λ (ps : List Pick). SameWhere (InAreaWithin c.args.window.area.now c.columns.result c.rows.result) (picked ps (shown c.args.entries.now)) (shown c.args.entries.now)) (sym (c.split_at_mut-own.ensures.front ∙ ap (take c.in-Some.count) c.deref_mut.ensures.value)) c.in-Some.ensures.same) c.paint_band.ensures

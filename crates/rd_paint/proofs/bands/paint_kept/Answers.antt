@@ -1,10 +1,10 @@
-use Rattle.std.proofs.Common.{◌≡◌, ◌≤◌, ◌-◌, List, ap, ◌∙◌, subst, arith}
+use Rattle.std.proofs.Common.{◌≡◌, ◌≤◌, ◌-◌, List, ap, ◌∙◌, sym, subst, arith}
 use Rattle.std.proofs.Math.Nat.{mul-le-mul_left}
 use Rattle.rd_item.specs.Items.{Made}
 use Rattle.rd_item.specs.declared.leaf.Leaf.{Leaf}
 use Rattle.rd_keys.specs.declared.entry.EntryKey.{EntryKey}
 use Rattle.rd_list.specs.Displayed.{shown}
-use Rattle.rd_list.specs.Entries.{Entries}
+use Rattle.rd_list.specs.Entries.{Entries, flat}
 use Rattle.rd_list.specs.EntryNames.{kept_leaves}
 use Rattle.rd_list.specs.Kept.{Ordered}
 use Rattle.rd_list.specs.KeptView.{kept_entries}
@@ -14,6 +14,8 @@ use Rattle.rd_list.specs.declared.kept.Entry.{Entry}
 use Rattle.rd_paint.specs.Internal.Bands.{IsPainted}
 use Rattle.rd_paint.specs.Parts.{entry_count, entries_from}
 use Rattle.rd_paint.proofs.Depths.{entry_count-shown, entries_from-shown, levels-from}
+use Rattle.rd_paint.specs.Since.{AreMadeSince}
+use Rattle.rd_paint.proofs.Shown.Older.{since_from}
 use Rattle.rd_paint.proofs.bands.paint_kept.Goals as goal
 
 pub upper-requires : goal.upper-requires
@@ -32,6 +34,16 @@ paint_all-requires-2-clause-rows g c =
     let l : levels (kept_entries c.upper.result.now) - 1 ≤ levels c.args.list.now.entries - 1 = omega (arith, u, d, k) in
     let p = mul-le-mul_left c.args.canvas.now.width l in
     omega (arith, p, c.requires.rows)
+
+pub paint_all-requires-clause-since : goal.paint_all-requires-clause-since
+paint_all-requires-clause-since g c =
+    subst (λ (es : Entries (Ordered EntryKey Wrapper) Made). AreMadeSince c.args.window.area.now c.args.window.since (flat es)) (sym c.chunked.ensures.entries) c.requires.since
+
+pub paint_all-requires-2-clause-since : goal.paint_all-requires-2-clause-since
+paint_all-requires-2-clause-since g c =
+    subst (λ (es : List (Entry g.row.A.Denot)). AreMadeSince c.args.window.area.now c.args.window.since (flat (kept_entries es))) (sym c.upper.ensures)
+    (since_from c.args.window.area.now c.args.window.since c.entries.result.now c.args.from
+    (subst (λ (es : Entries (Ordered EntryKey Wrapper) Made). AreMadeSince c.args.window.area.now c.args.window.since (flat es)) (sym c.entries.ensures) c.requires.since))
 
 pub returns-clause-painted : goal.returns-clause-painted
 returns-clause-painted g c = λ t.

@@ -12,6 +12,7 @@ use Rattle.rd_list.proofs.Joins.{join-nil}
 use Rattle.rd_list.proofs.Viewing.{size_at}
 use Rattle.rd_paint.specs.Internal.Picks.{InAreaWithin, ServesWhere, picked}
 use Rattle.rd_paint.proofs.Picking.{closed_none, closed_by, put_first, put_fits, picked-none, entry_at-shown}
+use Rattle.rd_paint.proofs.Shown.Older.{since_at}
 use Rattle.rd_paint.proofs.Shown.Showing.{serves_by, serves_less, written_past, none_named, group_named, group_unseen, nothing_left, some_group}
 use Rattle.rd_paint.proofs.Depths.{join_has}
 use Rattle.rd_paint.proofs.gathering.+gathering.Goals as goal
@@ -25,9 +26,9 @@ gather-loop-i-init g t c =
       within = omega arith;
       closed = closed_none;
       same =
-          serves_less (InAreaWithin c.args.area.now c.args.columns c.args.rows) (picked (take 0 c.args.room.now) (shown c.args.entries.now)) (shown (drop c.next_within-i.result c.args.entries.now)) (shown c.args.entries.now) (shown c.args.entries.now)
+          serves_less (InAreaWithin c.args.sight.area.now c.args.sight.columns c.args.sight.rows) (picked (take 0 c.args.room.now) (shown c.args.entries.now)) (shown (drop c.next_within-i.result c.args.entries.now)) (shown c.args.entries.now) (shown c.args.entries.now)
           past
-          (serves_by (InAreaWithin c.args.area.now c.args.columns c.args.rows) _ _ (ap (λ (xs : Entries Wrapper item.Leaf). xs ▷ shown c.args.entries.now) (picked-none (shown c.args.entries.now))));
+          (serves_by (InAreaWithin c.args.sight.area.now c.args.sight.columns c.args.sight.rows) _ _ (ap (λ (xs : Entries Wrapper item.Leaf). xs ▷ shown c.args.entries.now) (picked-none (shown c.args.entries.now))));
     }
 
 pub gather-gather_one-requires : goal.gather-gather_one-requires
@@ -35,14 +36,14 @@ gather-gather_one-requires g t c κs within =
     let s = size_at c.args.entries.now c.loop-i.i c.index-entries-i.result c.loop-i-test.true c.index-entries-i.is in
     let n = length-take (length c.loop-i.room - c.loop-i.count) (drop c.loop-i.count c.loop-i.room) in
     let d = length-drop c.loop-i.count c.loop-i.room in
-    (omega (arith, s, c.decreases), (within, omega (arith, n, d, c.loop-i.auto.room, c.requires.few)))
+    (omega (arith, s, c.decreases), (within, (omega (arith, n, d, c.loop-i.auto.room, c.requires.few), since_at c.args.sight.area.now c.args.sight.since c.args.entries.now c.loop-i.i c.index-entries-i.result c.loop-i-test.true c.index-entries-i.is c.requires.since)))
 
 pub gather-loop-i-preserved : goal.gather-loop-i-preserved
 gather-loop-i-preserved g t c =
     let fits : c.in_ok-more.more ≤ length c.gather_one.new.room = omega (arith, c.in_ok-more.ensures.within, c.gather_one.auto.room) in
     let at = λ (f : Entries Wrapper item.Leaf → Entries Wrapper item.Leaf). entry_at-shown f c.args.entries.now c.loop-i.i c.index-entries-i.result c.loop-i-test.true c.index-entries-i.is in
     let past = c.next_within-i-in-loop-i.ensures.same in
-    let written = written_past (InAreaWithin c.args.area.now c.args.columns c.args.rows) (shown c.args.entries.now) (shown c.args.entries.now) (shown (c.index-entries-i.result ∷ [])) (shown (drop (c.loop-i.i + 1) c.args.entries.now)) (shown (drop c.loop-i.i c.args.entries.now)) (shown (drop c.next_within-i-in-loop-i.result c.args.entries.now))
+    let written = written_past (InAreaWithin c.args.sight.area.now c.args.sight.columns c.args.sight.rows) (shown c.args.entries.now) (shown c.args.entries.now) (shown (c.index-entries-i.result ∷ [])) (shown (drop (c.loop-i.i + 1) c.args.entries.now)) (shown (drop c.loop-i.i c.args.entries.now)) (shown (drop c.next_within-i-in-loop-i.result c.args.entries.now))
     c.loop-i.room c.gather_one.new.room c.loop-i.count c.in_ok-more.more (length c.loop-i.room - c.loop-i.count) c.loop-i.invariant.within fits (shown_from c.args.entries.now c.loop-i.i c.index-entries-i.result c.loop-i-test.true c.index-entries-i.is)
     c.loop-i.invariant.closed c.in_ok-more.ensures.closed c.loop-i.invariant.same (c.in_ok-more.ensures.same (shown c.args.entries.now) at) past in
     record {
@@ -70,8 +71,8 @@ gather_group-returns-then-inside-eq0-clause-closed g t c = closed_none
 pub gather_group-returns-then-inside-eq0-clause-same : goal.gather_group-returns-then-inside-eq0-clause-same
 gather_group-returns-then-inside-eq0-clause-same g t c = λ w.
     let e : shown c.chunked.result.1.now ≡ kept_leaves c.args.inner.now.entries = ap kept_leaves (c.chunked.ensures.entries) in
-    none_named (InAreaWithin c.args.area.now c.args.columns c.args.rows) c.args.place (group w (kept_leaves c.args.inner.now.entries) nil) (group w (kept_leaves c.args.inner.now.entries) nil)
-    (group_unseen (InAreaWithin c.args.area.now c.args.columns c.args.rows) w (kept_leaves c.args.inner.now.entries) (nothing_left (InAreaWithin c.args.area.now c.args.columns c.args.rows) c.in_ok-inside.inside c.gather.new.room (shown c.chunked.result.1.now) (shown c.chunked.result.1.now) (kept_leaves c.args.inner.now.entries) c.if-inside-eq0.true e c.in_ok-inside.ensures.same))
+    none_named (InAreaWithin c.args.sight.area.now c.args.sight.columns c.args.sight.rows) c.args.place (group w (kept_leaves c.args.inner.now.entries) nil) (group w (kept_leaves c.args.inner.now.entries) nil)
+    (group_unseen (InAreaWithin c.args.sight.area.now c.args.sight.columns c.args.sight.rows) w (kept_leaves c.args.inner.now.entries) (nothing_left (InAreaWithin c.args.sight.area.now c.args.sight.columns c.args.sight.rows) c.in_ok-inside.inside c.gather.new.room (shown c.chunked.result.1.now) (shown c.chunked.result.1.now) (kept_leaves c.args.inner.now.entries) c.if-inside-eq0.true e c.in_ok-inside.ensures.same))
 
 pub gather_group-returns-clause-closed : goal.gather_group-returns-clause-closed
 gather_group-returns-clause-closed g t c =
@@ -86,10 +87,10 @@ gather_group-returns-clause-same g t c = λ w.
     let fits : c.in_ok-inside.inside ≤ length c.gather.new.room = omega (arith, c.in_ok-inside.ensures.within, c.gather.auto.room) in
     let some : 1 ≤ length c.args.room.now = search rules in
     let q = put_first c.args.place c.in_ok-inside.inside _ c.args.room.now c.gather.new.room _ some fits c.put.ensures.written in
-    group_named (InAreaWithin c.args.area.now c.args.columns c.args.rows) c.args.place w (kept_leaves c.args.inner.now.entries) (kept_leaves c.args.inner.now.entries) c.in_ok-inside.inside (take c.in_ok-inside.inside c.gather.new.room) _ (length-take-le c.in_ok-inside.inside c.gather.new.room fits) q
-    (subst (λ (xs : Entries Wrapper item.Leaf). ServesWhere (InAreaWithin c.args.area.now c.args.columns c.args.rows) (picked (take c.in_ok-inside.inside c.gather.new.room) xs) xs) e (c.in_ok-inside.ensures.same, c.in_ok-inside.ensures.levels))
+    group_named (InAreaWithin c.args.sight.area.now c.args.sight.columns c.args.sight.rows) c.args.place w (kept_leaves c.args.inner.now.entries) (kept_leaves c.args.inner.now.entries) c.in_ok-inside.inside (take c.in_ok-inside.inside c.gather.new.room) _ (length-take-le c.in_ok-inside.inside c.gather.new.room fits) q
+    (subst (λ (xs : Entries Wrapper item.Leaf). ServesWhere (InAreaWithin c.args.sight.area.now c.args.sight.columns c.args.sight.rows) (picked (take c.in_ok-inside.inside c.gather.new.room) xs) xs) e (c.in_ok-inside.ensures.same, c.in_ok-inside.ensures.levels))
 
 pub gather_one-returns-in-Group-clause-same : goal.gather_one-returns-in-Group-clause-same
 gather_one-returns-in-Group-clause-same g t c =
     rw c.in-Group.is
-    (some_group (InAreaWithin c.args.area.now c.args.columns c.args.rows) c.args.place (kept_leaves c.in-Group.group.inner.entries) (λ n. take n c.gather_group.new.room) c.gather_group.result c.gather_group.ensures.same (record { key = c.in-Group.group.key; opacity = c.in-Group.group.opacity; blend = c.in-Group.group.blend }))
+    (some_group (InAreaWithin c.args.sight.area.now c.args.sight.columns c.args.sight.rows) c.args.place (kept_leaves c.in-Group.group.inner.entries) (λ n. take n c.gather_group.new.room) c.gather_group.result c.gather_group.ensures.same (record { key = c.in-Group.group.key; opacity = c.in-Group.group.opacity; blend = c.in-Group.group.blend }))

@@ -12,7 +12,7 @@ invariant-gather-loop-i g l = record {
   chunk : IsAt l.chunks l.seek.at l.seek.start;
   within : l.count ≤ length l.room;
   closed : IsClosed (take l.count l.room);
-  same : ServesWhere (InAreaWithin l.area l.columns l.rows) (picked (take l.count l.room) (shown l.entries) ▷ shown (drop l.i l.entries)) (shown l.entries);
+  same : ServesWhere (InAreaWithin l.sight.area.now l.sight.columns l.sight.rows) (picked (take l.count l.room) (shown l.entries) ▷ shown (drop l.i l.entries)) (shown l.entries);
 }
 
 abbrev pub decreases-gather-loop-i : goal.decreases-gather-loop-i

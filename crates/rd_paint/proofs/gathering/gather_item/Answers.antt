@@ -10,11 +10,11 @@ returns-then-not-meets-clause-closed g c = closed_none
 
 pub returns-then-not-meets-clause-same : goal.returns-then-not-meets-clause-same
 returns-then-not-meets-clause-same g c =
-    none_named (InAreaWithin c.args.area.now c.args.columns c.args.rows) c.args.place (leaf c.args.item.now.leaf nil) (leaf c.args.item.now.leaf nil)
-    (λ x y d h. leaf_outside c.args.item.now.leaf c.visible.result c.args.area.now c.visible.ensures.value (sym c.meets.ensures ∙ c.if-not-meets.true) x y d h.0)
+    none_named (InAreaWithin c.args.sight.area.now c.args.sight.columns c.args.sight.rows) c.args.place (leaf c.args.item.now.leaf nil) (leaf c.args.item.now.leaf nil)
+    (λ x y d h. leaf_outside c.args.item.now.leaf c.visible.result c.args.sight.area.now c.visible.ensures.value (sym c.meets.ensures ∙ c.if-not-meets.true) x y d h.0)
 
 pub returns-clause-closed : goal.returns-clause-closed
 returns-clause-closed g c = rw c.put.ensures.written (closed_one (record { place = c.args.place; inside = 0 }) [] refl)
 
 pub returns-clause-same : goal.returns-clause-same
-returns-clause-same g c = leaf_named (InAreaWithin c.args.area.now c.args.columns c.args.rows) c.args.place c.args.item.now.leaf _ c.put.ensures.written
+returns-clause-same g c = leaf_named (InAreaWithin c.args.sight.area.now c.args.sight.columns c.args.sight.rows) c.args.place c.args.item.now.leaf _ c.put.ensures.written
