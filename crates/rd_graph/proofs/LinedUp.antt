@@ -12,3 +12,4 @@ pub mod PlacedLines
 pub mod RunGathering
 pub mod MovedNodes
 pub mod InPlace
+pub mod StayBits

@@ -10,6 +10,7 @@ pub mod Relisting
 pub mod Ranks
 pub mod Regions
 pub mod Seen
+pub mod Stays
 pub mod Tables
 pub mod Taking
 pub mod Thinning

@@ -13,6 +13,7 @@ use crate::arranging::advance_past;
 use crate::chain::label_nodes;
 use crate::graph::Node;
 use crate::regions::{Region, region_of};
+use crate::stays::Stays;
 use crate::tables::label;
 use indexmap::IndexMap;
 use rd_keys::EntryKey;
@@ -37,7 +38,7 @@ fn push_pair(
 /// places they are one higher.
 fn push_counted(
     pairs: &mut Vec<(usize, usize)>,
-    stays: &[bool],
+    stays: &Stays,
     some: &[usize],
     least: usize,
     from: usize,
@@ -46,13 +47,12 @@ fn push_counted(
     requires rising { AreRising some.now }
     requires after { (k : ℕ) → k < length some.now → from ≤ slice_index_or some.now k 0 }
     requires few { least + length some.now < 2 ^ 64 }
-    requires to { to ≤ length stays.now }
     ensures { OnOk result (pairs.new.items
         ≡ pairs.old.items ++ counted_ranks least some.now (staying stays.now from (to - from))) }
 {
     let mut met = 0;
     for place in from..to {
-        push_pair(pairs, stays[place], least + met, place)?;
+        push_pair(pairs, stays.has(place), least + met, place)?;
         met = advance_past(some, met, place);
     }
     Ok(())
@@ -63,20 +63,19 @@ fn push_counted(
 fn push_labels(
     pairs: &mut Vec<(usize, usize)>,
     nodes: &[Node],
-    stays: &[bool],
+    stays: &Stays,
     labels: &IndexMap<EntryKey, usize>,
     region: Region,
 ) -> Result<(), AllocError>
     requires next { region.first ≤ region.last }
     requires low { (k : EntryKey) → label_in labels.now (region.last - region.first) k ≤ region.last - region.first }
-    requires stays { length stays.now ≡ length nodes.now }
     requires to { region.to ≤ length nodes.now }
     ensures { OnOk result (pairs.new.items ≡ pairs.old.items ++ labelled_ranks region.first
         (label_in labels.now (region.last - region.first)) nodes.now (staying stays.now region.from (region.to - region.from))) }
 {
     for place in region.from..region.to {
         let label = label(labels, region.last - region.first, nodes[place].key);
-        push_pair(pairs, stays[place], region.first + label, place)?;
+        push_pair(pairs, stays.has(place), region.first + label, place)?;
     }
     Ok(())
 }
@@ -86,7 +85,7 @@ fn push_within(
     alloc: Global,
     pairs: &mut Vec<(usize, usize)>,
     nodes: &[Node],
-    stays: &[bool],
+    stays: &Stays,
     names: &[EntryKey],
     region: Region,
 ) -> Result<(), AllocError>
@@ -109,7 +108,7 @@ fn push_parts(
     alloc: Global,
     pairs: &mut Vec<(usize, usize)>,
     nodes: &[Node],
-    stays: &[bool],
+    stays: &Stays,
     some: &[usize],
     names: &[EntryKey],
     region: Region,
@@ -133,7 +132,7 @@ pub(crate) fn push_ranked(
     alloc: Global,
     pairs: &mut Vec<(usize, usize)>,
     nodes: &[Node],
-    stays: &[bool],
+    stays: &Stays,
     some: &[usize],
     names: &[EntryKey],
 ) -> Result<(), AllocError>

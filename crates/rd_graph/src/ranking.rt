@@ -13,7 +13,8 @@ use crate::change::Change;
 use crate::counting::push_ranked;
 use crate::graph::Node;
 use crate::runs::{Run, runs_of};
-use crate::walking::{marks, stays_there};
+use crate::stays::Stays;
+use crate::walking::marks;
 use rd_keys::EntryKey;
 use std::alloc::{AllocError, Global};
 
@@ -30,7 +31,7 @@ fn push_fixed(names: &mut Vec<EntryKey>, stays: bool, name: EntryKey) -> Result<
 /// The names of a chain that stay.
 fn fixed_names(
     alloc: Global,
-    stays: &[bool],
+    stays: &Stays,
     places: &[usize],
     chain: &[EntryKey],
 ) -> Result<Vec<EntryKey>, AllocError>
@@ -39,7 +40,7 @@ fn fixed_names(
 {
     let mut names = Vec::new(alloc);
     for i in 0..places.len() {
-        push_fixed(&mut names, stays_there(stays, places[i]), chain[i])?;
+        push_fixed(&mut names, stays.has(places[i]), chain[i])?;
     }
     Ok(names)
 }
@@ -55,12 +56,12 @@ fn push_if(places: &mut Vec<usize>, stays: bool, place: usize) -> Result<(), All
 }
 
 /// The places of the chain that stay.
-fn fixed_places(alloc: Global, stays: &[bool], places: &[usize]) -> Result<Vec<usize>, AllocError>
+fn fixed_places(alloc: Global, stays: &Stays, places: &[usize]) -> Result<Vec<usize>, AllocError>
     ensures { IfOk result (λ v. v.items ≡ fixed stays.now places.now places.now) }
 {
     let mut some = Vec::new(alloc);
     for place in places {
-        push_if(&mut some, stays_there(stays, *place), *place)?;
+        push_if(&mut some, stays.has(*place), *place)?;
     }
     Ok(some)
 }
@@ -68,7 +69,7 @@ fn fixed_places(alloc: Global, stays: &[bool], places: &[usize]) -> Result<Vec<u
 /// Puts a place of the chain at the end with its rank, unless it stays. Gives the rank of the next one.
 fn push_loose(
     pairs: &mut Vec<(usize, usize)>,
-    stays: &[bool],
+    stays: &Stays,
     rank: usize,
     place: usize,
 ) -> Result<usize, AllocError>
@@ -76,7 +77,7 @@ fn push_loose(
     ensures pairs { OnOk result (pairs.new.items ≡ pairs.old.items ++ loose_one stays.now rank place) }
     ensures rank { IfOk result (λ r. r ≡ rank_after stays.now rank place) }
 {
-    if stays_there(stays, place) {
+    if stays.has(place) {
         return Ok(rank + 1);
     }
     pairs.push((rank, place))?;
@@ -86,7 +87,7 @@ fn push_loose(
 /// The places of the chain that do not stay, with their ranks.
 fn loose_pairs(
     alloc: Global,
-    stays: &[bool],
+    stays: &Stays,
     places: &[usize],
 ) -> Result<Vec<(usize, usize)>, AllocError>
     ensures { IfOk result (λ v. v.items ≡ loose stays.now 0 places.now) }
@@ -125,7 +126,7 @@ fn push_nodes(
     alloc: Global,
     pairs: &mut Vec<(usize, usize)>,
     nodes: &[Node],
-    stays: &[bool],
+    stays: &Stays,
     places: &[usize],
     chain: &[EntryKey],
 ) -> Result<(), AllocError>
@@ -146,7 +147,7 @@ fn push_nodes(
 fn sorted_pairs(
     alloc: Global,
     nodes: &[Node],
-    stays: &[bool],
+    stays: &Stays,
     places: &[usize],
     chain: &[EntryKey],
 ) -> Result<Vec<(usize, usize)>, AllocError>
@@ -167,7 +168,7 @@ fn sorted_pairs(
 fn sorted_places(
     alloc: Global,
     nodes: &[Node],
-    stays: &[bool],
+    stays: &Stays,
     places: &[usize],
     chain: &[EntryKey],
 ) -> Result<Vec<usize>, AllocError>

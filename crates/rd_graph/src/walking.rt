@@ -1,5 +1,5 @@
 //! A line by one walk along the old places: what stays keeps its order, and what is of the chain comes between.
-ghost use Rattle.std.specs.Prelude.{◌≡◌, ℕ, ◌+◌, ◌-◌, ◌<◌, ◌≤◌, ◌↔◌, ◌⊎◌, false, not, IfOk, OnOk, IsTrue, MatchOption, Some, IfSome, if◌then◌else◌, [], ◌∷◌, ◌++◌, length, slice_index_or, Contains};
+ghost use Rattle.std.specs.Prelude.{◌≡◌, ℕ, ◌+◌, ◌-◌, ◌<◌, ◌≤◌, ◌↔◌, false, IfOk, OnOk, IsTrue, MatchOption, Some, IfSome, ◌++◌, length, slice_index_or, Contains};
 ghost use Rattle.rd_graph.specs.Graphs.{IsInOrder};
 ghost use Rattle.rd_graph.specs.Patches.{CanBePatched};
 ghost use Rattle.rd_graph.specs.Internal.Ranks.{IsLineOf};
@@ -10,49 +10,27 @@ ghost use Rattle.rd_graph.specs.Internal.Walks.{stays_at, staying, counted, from
 use crate::change::Change;
 use crate::graph::Node;
 use crate::runs::{Run, push_place, push_run};
+use crate::stays::Stays;
 use rd_keys::EntryKey;
 use std::alloc::{AllocError, Global};
 
 /// Which of so many places stay.
-pub(crate) fn marks(alloc: Global, count: usize, gone: &[usize]) -> Result<Vec<bool>, AllocError>
+pub(crate) fn marks(alloc: Global, count: usize, gone: &[usize]) -> Result<Stays, AllocError>
     requires { (k : ℕ) → k < length gone.now → slice_index_or gone.now k 0 < count }
-    ensures count { IfOk result (λ v. length v.items ≡ count) }
-    ensures stays { IfOk result (λ v. (p : ℕ) → p < count → IsTrue (stays_at v.items p) ↔ (Contains gone.now p → ⊥)) }
+    ensures count { IfOk result (λ s. length s ≡ count) }
+    ensures stays { IfOk result (λ s. (p : ℕ) → p < count → IsTrue (stays_at s p) ↔ (Contains gone.now p → ⊥)) }
 {
-    let mut stays = vec![in alloc; true; count]?;
+    let mut stays = Stays::all(alloc, count)?;
     for place in gone {
-        stays[*place] = false;
+        stays.take(*place);
     }
     Ok(stays)
-}
-
-/// Does the node at a place stay?
-pub(crate) fn stays_there(stays: &[bool], place: usize) -> bool
-    ensures { result ≡ stays_at stays.now place }
-{
-    place < stays.len() && stays[place]
-}
-
-/// The first place from one up to another of which the mark is this one, or else the other.
-fn next_where(stays: &[bool], mark: bool, from: usize, to: usize) -> usize
-    requires from { from ≤ to }
-    requires to { to ≤ length stays.now }
-    ensures after { from ≤ result }
-    ensures within { result ≤ to }
-    ensures before { (k : ℕ) → from ≤ k → k < result → stays_at stays.now k ≡ not mark }
-    ensures there { result < to → stays_at stays.now result ≡ mark }
-{
-    let mut place = from;
-    while place < to && stays[place] != mark {
-        place += 1;
-    }
-    place
 }
 
 /// Puts those places at the end that stay, of a stretch of places.
 pub(crate) fn push_stretch(
     line: &mut Vec<Run>,
-    stays: &[bool],
+    stays: &Stays,
     from: usize,
     to: usize,
 ) -> Result<(), AllocError>
@@ -61,8 +39,8 @@ pub(crate) fn push_stretch(
 {
     let mut place = from;
     while place < to {
-        let first = next_where(stays, true, place, to);
-        let end = next_where(stays, false, first, to);
+        let first = stays.next_staying(place, to);
+        let end = stays.next_gone(first, to);
         push_run(line, first, end - first, false)?;
         place = end;
     }
@@ -73,7 +51,7 @@ pub(crate) fn push_stretch(
 /// that does not stay is set aside, since the walk does not come to its place in its order. Gives the place to go on from.
 fn push_led(
     line: &mut Vec<Run>,
-    stays: &[bool],
+    stays: &Stays,
     from: usize,
     place: usize,
 ) -> Result<usize, AllocError>
@@ -81,7 +59,7 @@ fn push_led(
         ≡ places_of line.old.items ++ led_to stays.now from place) }
     ensures from { IfOk result (λ f. f ≡ from_after stays.now from place) }
 {
-    if place < stays.len() && stays[place] {
+    if stays.has(place) {
         push_stretch(line, stays, from, place)?;
         push_place(line, place, stays.len(), false)?;
         return Ok(place + 1);
@@ -91,11 +69,7 @@ fn push_led(
 }
 
 /// The whole walk, with the places of the chain.
-pub(crate) fn walked(
-    alloc: Global,
-    stays: &[bool],
-    places: &[usize],
-) -> Result<Vec<Run>, AllocError>
+pub(crate) fn walked(alloc: Global, stays: &Stays, places: &[usize]) -> Result<Vec<Run>, AllocError>
     ensures { IfOk result (λ v. places_of v.items ≡ walk stays.now 0 places.now) }
 {
     let mut line = Vec::new(alloc);
@@ -108,10 +82,10 @@ pub(crate) fn walked(
 }
 
 /// Where the walk goes on after a place of the chain. None if it stays and lies behind.
-fn goes_on(stays: &[bool], from: usize, place: usize) -> Option<usize>
+fn goes_on(stays: &Stays, from: usize, place: usize) -> Option<usize>
     ensures { MatchOption result (IsBehind stays.now from place) (IsAhead stays.now from place) }
 {
-    if place < stays.len() && stays[place] {
+    if stays.has(place) {
         if place < from {
             return None;
         }
@@ -121,7 +95,7 @@ fn goes_on(stays: &[bool], from: usize, place: usize) -> Option<usize>
 }
 
 /// Do those places of a chain rise that stay?
-pub(crate) fn rises_where(stays: &[bool], places: &[usize]) -> bool
+pub(crate) fn rises_where(stays: &Stays, places: &[usize]) -> bool
     ensures { IsTrue result ↔ RisesWhere stays.now 0 places.now }
 {
     let mut from = 0;

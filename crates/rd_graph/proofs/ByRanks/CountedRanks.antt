@@ -1,5 +1,5 @@
 -- Ranks that are counted, and the loops that put them.
-use Rattle.std.proofs.Common.{◌≡◌, refl, ap, ◌∙◌, sym, ℕ, zero, suc, ◌+◌, ◌-◌, ◌<◌, ◌≤◌, ltb, Bool, true, false, cond, List, [], ◌∷◌, ◌++◌, length, take, drop, get_or, inl, inr, arith}
+use Rattle.std.proofs.Common.{◌≡◌, refl, ap, ◌∙◌, sym, ℕ, suc, ◌+◌, ◌-◌, ◌<◌, ◌≤◌, ltb, Bool, true, false, cond, List, [], ◌∷◌, ◌++◌, length, take, drop, get_or, inl, inr, arith}
 use Rattle.std.proofs.lemmas.Bool.{cases_lt, lt-ltb, le-ltb, ltb-true, ltb-false}
 use Rattle.std.proofs.lemmas.List.{append-nil}
 use Rattle.std.proofs.lemmas.List.Sums.{prefix_len-le-length, prefix_len_is, prefix_len_passes, prefix_len_stops}
@@ -65,20 +65,14 @@ passed_next ps p met next up was (inr e) =
 -- ---- one place of a stretch
 
 module _ (put : List ℕ → List (ℕ × ℕ)) (stays : List Bool) (to place : ℕ) where
-  pub part_next : (rank : ℕ) (d : Bool) (now then whole : List (ℕ × ℕ)) → place < to → to ≤ length stays → ((ps : List ℕ) → put (place ∷ ps) ≡ (rank, place) ∷ put ps) → now ++ put (staying stays place (to - place)) ≡ whole
-      → then ≡ now ++ cond (get_or stays place d) ((rank, place) ∷ []) [] → then ++ put (staying stays (place + 1) (to - (place + 1))) ≡ whole
-  part_next rank d now then whole l m one was is =
+  pub part_next : (rank : ℕ) (now then whole : List (ℕ × ℕ)) → place < to → ((ps : List ℕ) → put (place ∷ ps) ≡ (rank, place) ∷ put ps) → now ++ put (staying stays place (to - place)) ≡ whole
+      → then ≡ now ++ cond (stays_at stays place) ((rank, place) ∷ []) [] → then ++ put (staying stays (place + 1) (to - (place + 1))) ≡ whole
+  part_next rank now then whole l one was is =
       let rest : List ℕ = staying stays (place + 1) (to - (place + 1)) in
       let e : to - place ≡ suc (to - (place + 1)) = omega (arith, l) in
-      joins_on now then (cond (stays_at stays place) ((rank, place) ∷ []) []) (put rest) whole
-      (is ∙ ap (λ b. now ++ cond b ((rank, place) ∷ []) []) (same_get stays place d (omega (arith, l, m))))
+      joins_on now then (cond (stays_at stays place) ((rank, place) ∷ []) []) (put rest) whole is
       (ap (λ zs. now ++ zs) (sym (split (stays_at stays place) rest)) ∙ sym (ap (λ n. now ++ put (staying stays place n)) e) ∙ was)
     where
-      same_get : (xs : List Bool) (k : ℕ) (b : Bool) → k < length xs → get_or xs k b ≡ get_or xs k false
-      same_get [] k b u = absurd (omega arith)
-      same_get (x ∷ xs) zero b u = refl
-      same_get (x ∷ xs) (suc k) b u = same_get xs k b (omega arith)
-
       split : (b : Bool) (ps : List ℕ) → put (cond b (place ∷ []) [] ++ ps) ≡ cond b ((rank, place) ∷ []) [] ++ put ps
       split true ps = one ps
       split false ps = refl

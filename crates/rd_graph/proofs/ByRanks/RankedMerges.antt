@@ -276,12 +276,9 @@ module _ (gone : List ℕ) (chain : List EntryKey) (found : List (Option ℕ)) (
   pub named_fixed : AreNamesAt (fixed stays places places) (fixed stays places chain) (seen ns)
   named_fixed = fx_named gone chain found (seen ns) can sound stays places size_seen marked_seen are_seen
 
-  pub ranked_by : (line : List ℕ) → ArePlacesByRank stays places chain (seen ns) line → IsArranged gone chain found (seen ns) (Some line)
-  ranked_by line by =
+  pub ranked_by : (ps : List ℕ) → ArePlacesByRank stays places chain (seen ns) ps → IsArranged gone chain found (seen ns) (Some ps)
+  ranked_by ps by =
       let r = by.by_rank in
       subst (λ (ls : List ℕ). IsArranged gone chain found (seen ns) (Some ls)) (sym by.alone)
       (ranked_line gone chain found (seen ns) can sound stays places size_seen marked_seen are_seen r.put.rank r.put.ranks r.before by.pairs
       (r.put.pairs ∙ ap (λ m. loose stays 0 places ++ ranked r.put.rank (nodes (seen ns)) (staying stays 0 m)) size_seen) r.same r.sorted r.stable)
-
-pub marked_at : (now stays : List Bool) (n : ℕ) (gone : List ℕ) → now ≡ stays → ((p : ℕ) → p < n → IsTrue (stays_at stays p) ↔ (Contains gone p → ⊥)) → (p : ℕ) → p < n → IsTrue (stays_at now p) ↔ (Contains gone p → ⊥)
-marked_at now stays n gone e h = subst (λ (ss : List Bool). (p : ℕ) → p < n → IsTrue (stays_at ss p) ↔ (Contains gone p → ⊥)) (sym e) h

@@ -1,7 +1,7 @@
 -- The loops of a walk along the old places.
-use Rattle.std.proofs.Common.{◌≡◌, refl, ap, ◌∙◌, sym, subst, ℕ, zero, suc, ◌+◌, ◌-◌, ◌<◌, ◌≤◌, Bool, false, cond, List, [], ◌∷◌, ◌++◌, length, take, drop, get_or, set, inl, inr, arith, get_or-set_other, get_or-set_same}
+use Rattle.std.proofs.Common.{◌≡◌, refl, ap, ◌∙◌, sym, subst, ℕ, ◌+◌, ◌-◌, ◌<◌, ◌≤◌, Bool, false, List, [], ◌∷◌, ◌++◌, length, take, drop, get_or, inl, inr, arith}
 use Rattle.std.proofs.lemmas.Bool.{cases_lt}
-use Rattle.std.proofs.lemmas.List.{take_more, append-nil}
+use Rattle.std.proofs.lemmas.List.{take_more}
 use Rattle.std.specs.Prelude.{IsTrue, ◌↔◌, ◌≢◌, Contains}
 use Rattle.rd_graph.specs.Internal.Walks.{stays_at, staying, from_after, led_to, walk, RisesWhere}
 use Rattle.rd_graph.proofs.Lists.Listing.{Has, never, has_from, contains_from, has_left, has_right, has_either}
@@ -10,9 +10,9 @@ use Rattle.rd_graph.proofs.Lists.Countings.{take_all}
 
 -- ---- marks
 
-pub marks_next : (stays : List Bool) (count : ℕ) (gone : List ℕ) (i : ℕ) → i < length gone → get_or gone i 0 < count → length stays ≡ count
-    → ((p : ℕ) → p < count → IsTrue (stays_at stays p) ↔ (Has (take i gone) p → ⊥)) → (p : ℕ) → p < count → IsTrue (stays_at (set stays (get_or gone i 0) false) p) ↔ (Has (take (i + 1) gone) p → ⊥)
-marks_next stays count gone i l u n was p m = rw (take_more gone i 0 l) (elim (cases_lt (get_or gone i 0) p) [
+pub marks_next : (old new : List Bool) (count : ℕ) (gone : List ℕ) (i : ℕ) → i < length gone → stays_at new (get_or gone i 0) ≡ false → ((p : ℕ) → p ≢ get_or gone i 0 → stays_at new p ≡ stays_at old p)
+    → ((p : ℕ) → p < count → IsTrue (stays_at old p) ↔ (Has (take i gone) p → ⊥)) → (p : ℕ) → p < count → IsTrue (stays_at new p) ↔ (Has (take (i + 1) gone) p → ⊥)
+marks_next old new count gone i l here others was p m = rw (take_more gone i 0 l) (elim (cases_lt (get_or gone i 0) p) [
   | inl v ↦ let d : p ≢ get_or gone i 0 = omega (arith, v) in other d
   | inr v ↦ elim (cases_lt p (get_or gone i 0)) [
     | inl w ↦ let d : p ≢ get_or gone i 0 = omega (arith, w) in other d
@@ -20,51 +20,23 @@ marks_next stays count gone i l u n was p m = rw (take_more gone i 0 l) (elim (c
   ]
 ])
   where
-    mark : ℕ
-    mark = get_or gone i 0
-
-    other : (p ≢ get_or gone i 0) → IsTrue (stays_at (set stays (get_or gone i 0) false) p) ↔ (Has (take i gone ++ get_or gone i 0 ∷ []) p → ⊥)
-    other d = rw get_or-set_other (
+    other : (p ≢ get_or gone i 0) → IsTrue (stays_at new p) ↔ (Has (take i gone ++ get_or gone i 0 ∷ []) p → ⊥)
+    other d = subst (λ (b : Bool). IsTrue b ↔ (Has (take i gone ++ get_or gone i 0 ∷ []) p → ⊥)) (sym (others p d)) (
       (λ t h. elim (has_either (take i gone) (get_or gone i 0 ∷ []) p h) [ inl k ↦ (was p m).0 t k | inr k ↦ elim k [ inl e ↦ d (sym e) | inr z ↦ z ] ]),
       (λ f. (was p m).1 (λ h. f (has_left (take i gone) (get_or gone i 0 ∷ []) p h))),
     )
 
-    same : p ≡ get_or gone i 0 → IsTrue (stays_at (set stays (get_or gone i 0) false) p) ↔ (Has (take i gone ++ get_or gone i 0 ∷ []) p → ⊥)
-    same e =
-        let lt : get_or gone i 0 < length stays = omega (arith, n, u) in
-        let s : get_or (set stays (get_or gone i 0) false) (get_or gone i 0) false ≡ false = rw get_or-set_same refl in
-        subst (λ (q : ℕ). IsTrue (stays_at (set stays (get_or gone i 0) false) q) ↔ (Has (take i gone ++ get_or gone i 0 ∷ []) q → ⊥)) (sym e) (
-          (λ t. absurd (never _ t s)),
-          (λ f. absurd (f (has_right (take i gone) (get_or gone i 0 ∷ []) (get_or gone i 0) (inl refl)))),
-        )
+    same : p ≡ get_or gone i 0 → IsTrue (stays_at new p) ↔ (Has (take i gone ++ get_or gone i 0 ∷ []) p → ⊥)
+    same e = subst (λ (q : ℕ). IsTrue (stays_at new q) ↔ (Has (take i gone ++ get_or gone i 0 ∷ []) q → ⊥)) (sym e) (
+      (λ t. absurd (never _ t here)),
+      (λ f. absurd (f (has_right (take i gone) (get_or gone i 0 ∷ []) (get_or gone i 0) (inl refl)))),
+    )
 
 pub marks_all : (stays : List Bool) (count : ℕ) (gone : List ℕ) (i : ℕ) → length gone ≤ i → ((p : ℕ) → p < count → IsTrue (stays_at stays p) ↔ (Has (take i gone) p → ⊥))
     → (p : ℕ) → p < count → IsTrue (stays_at stays p) ↔ (Contains gone p → ⊥)
 marks_all stays count gone i l was p m =
     let r : IsTrue (stays_at stays p) ↔ (Has gone p → ⊥) = subst (λ (qs : List ℕ). IsTrue (stays_at stays p) ↔ (Has qs p → ⊥)) (take_all gone i l) (was p m) in
     ((λ t c. r.0 t (has_from gone p c)), (λ f. r.1 (λ h. f (contains_from gone p h))))
-
--- ---- a stretch
-
--- one place of a stretch
-pub stretch_next : (stays : List Bool) (to place : ℕ) (d : Bool) (now then whole : List ℕ) → place < to → to ≤ length stays → now ++ staying stays place (to - place) ≡ whole
-    → then ≡ now ++ cond (get_or stays place d) (place ∷ []) [] → then ++ staying stays (place + 1) (to - (place + 1)) ≡ whole
-stretch_next stays to place d now then whole l m was is =
-    let one : List ℕ = cond (stays_at stays place) (place ∷ []) [] in
-    let e : to - place ≡ suc (to - (place + 1)) = omega (arith, l) in
-    joins_on now then one (staying stays (place + 1) (to - (place + 1))) whole
-    (is ∙ ap (λ b. now ++ cond b (place ∷ []) []) (same_get stays place d (omega (arith, l, m))))
-    (sym (ap (λ n. now ++ staying stays place n) e) ∙ was)
-  where
-    same_get : (xs : List Bool) (k : ℕ) (b : Bool) → k < length xs → get_or xs k b ≡ get_or xs k false
-    same_get [] k b u = absurd (omega arith)
-    same_get (x ∷ xs) zero b u = refl
-    same_get (x ∷ xs) (suc k) b u = same_get xs k b (omega arith)
-
-pub stretch_end : (stays : List Bool) (to place : ℕ) (now whole : List ℕ) → to ≤ place → now ++ staying stays place (to - place) ≡ whole → now ≡ whole
-stretch_end stays to place now whole l was =
-    let e : to - place ≡ 0 = omega (arith, l) in
-    sym (append-nil now) ∙ sym (ap (λ n. now ++ staying stays place n) e) ∙ was
 
 -- ---- the walk
 

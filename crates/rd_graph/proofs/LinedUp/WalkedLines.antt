@@ -23,10 +23,10 @@ module _ (gone : List ℕ) (chain : List EntryKey) (found : List (Option ℕ)) (
       (λ a b p q s l u v e f t w. walk_before stays 0 places p q rises t w (omega arith) l)
       (λ p q h. walk_in_chain stays 0 places p q h)
 
-pub walked_by : (gone : List ℕ) (chain : List EntryKey) (found : List (Option ℕ)) (ns : List Node) (can : CanBePatched gone chain found (seen ns)) (sound : IsInOrder (seen ns)) (stays tested used : List Bool) (places line : List ℕ)
-    → length stays ≡ length ns → ((p : ℕ) → p < length ns → IsTrue (stays_at stays p) ↔ (Contains gone p → ⊥)) → places ≡ counted (length ns) found → tested ≡ stays → used ≡ stays
-    → RisesWhere tested 0 places → line ≡ walk used 0 places → IsArranged gone chain found (seen ns) (Some line)
-walked_by gone chain found ns can sound stays tested used places line size marked are test_is use_is rises line_is =
+pub walked_by : (gone : List ℕ) (chain : List EntryKey) (found : List (Option ℕ)) (ns : List Node) (can : CanBePatched gone chain found (seen ns)) (sound : IsInOrder (seen ns)) (stays : List Bool) (places line : List ℕ)
+    → length stays ≡ length ns → ((p : ℕ) → p < length ns → IsTrue (stays_at stays p) ↔ (Contains gone p → ⊥)) → places ≡ counted (length ns) found
+    → RisesWhere stays 0 places → line ≡ walk stays 0 places → IsArranged gone chain found (seen ns) (Some line)
+walked_by gone chain found ns can sound stays places line size marked are rises line_is =
     let e = seen_length ns in
-    subst (λ (ls : List ℕ). IsArranged gone chain found (seen ns) (Some ls)) (sym (line_is ∙ ap (λ ss. walk ss 0 places) use_is))
-    (walked_line gone chain found (seen ns) can sound stays places (omega (arith, e, size)) (λ p l. marked p (omega (arith, e, l))) (are ∙ ap (λ m. counted m found) (sym e)) (subst (λ ss. RisesWhere ss 0 places) test_is rises))
+    subst (λ (ls : List ℕ). IsArranged gone chain found (seen ns) (Some ls)) (sym line_is)
+    (walked_line gone chain found (seen ns) can sound stays places (omega (arith, e, size)) (λ p l. marked p (omega (arith, e, l))) (are ∙ ap (λ m. counted m found) (sym e)) rises)

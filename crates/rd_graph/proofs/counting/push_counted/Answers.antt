@@ -1,4 +1,4 @@
-use Rattle.std.proofs.Common.{refl, ap, sym, arith, ℕ, List, ◌∷◌, ◌+◌}
+use Rattle.std.proofs.Common.{refl, ap, ◌∙◌, sym, cond, arith, ℕ, List, [], ◌∷◌, ◌++◌, ◌+◌}
 use Rattle.rd_graph.specs.Internal.Ranks.{counted_ranks}
 use Rattle.rd_graph.proofs.ByRanks.CountedRanks.{passed_few, passed_none, passed_next, part_next, part_end}
 use Rattle.rd_graph.proofs.counting.push_counted.Goals as goal
@@ -17,8 +17,9 @@ pub loop-place-preserved : goal.loop-place-preserved
 loop-place-preserved c =
     let put : List ℕ → List (ℕ × ℕ) = counted_ranks c.args.least c.args.some.now in
     record {
-      pairs = part_next put c.args.stays.now c.args.to c.loop-place.place (c.args.least + c.loop-place.met) _ c.loop-place.pairs.items c.push_pair.new.pairs.items _ c.loop-place-test.true c.requires.to
-          (λ ps. ap (λ (m : ℕ). (c.args.least + m, c.loop-place.place) ∷ put ps) (sym c.loop-place.invariant.met)) c.loop-place.invariant.pairs c.in_ok-push_pair.ensures;
+      pairs = part_next put c.args.stays.now c.args.to c.loop-place.place (c.args.least + c.loop-place.met) c.loop-place.pairs.items c.push_pair.new.pairs.items _ c.loop-place-test.true
+          (λ ps. ap (λ (m : ℕ). (c.args.least + m, c.loop-place.place) ∷ put ps) (sym c.loop-place.invariant.met)) c.loop-place.invariant.pairs
+          (c.in_ok-push_pair.ensures ∙ ap (λ b. c.loop-place.pairs.items ++ cond b ((c.args.least + c.loop-place.met, c.loop-place.place) ∷ []) []) c.has.ensures.stays);
       met = passed_next c.args.some.now c.loop-place.place c.loop-place.met c.advance_past-met.result c.requires.rising c.loop-place.invariant.met c.advance_past-met.ensures;
     }
 

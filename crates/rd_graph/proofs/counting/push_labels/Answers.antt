@@ -1,4 +1,4 @@
-use Rattle.std.proofs.Common.{refl, arith, ℕ, ◌+◌, ◌-◌, ◌≤◌, length}
+use Rattle.std.proofs.Common.{refl, ap, ◌∙◌, cond, arith, ℕ, [], ◌∷◌, ◌++◌, ◌+◌, ◌-◌}
 use Rattle.rd_keys.specs.declared.entry.EntryKey.{EntryKey}
 use Rattle.rd_graph.specs.Internal.Tables.{label_in}
 use Rattle.rd_graph.specs.Internal.Ranks.{labelled_ranks}
@@ -14,11 +14,10 @@ loop-place-preserved c =
     let place = c.loop-place.place in
     let l = c.loop-place-test.true in
     let to = c.requires.to in
-    let size = c.requires.stays in
-    let all : c.args.region.to ≤ length c.args.stays.now = omega (arith, to, size) in
     record {
-      pairs = part_next (labelled_ranks c.args.region.first label c.args.nodes.now) c.args.stays.now c.args.region.to place (c.args.region.first + c.label-label.result) _ c.loop-place.pairs.items c.push_pair.new.pairs.items _ l all
-          (labelled_one c.args.region.first label c.args.nodes.now place c.label-label.result c.index-nodes-place.result (omega (arith, l, to)) c.label-label.ensures) c.loop-place.invariant.pairs c.in_ok-push_pair.ensures;
+      pairs = part_next (labelled_ranks c.args.region.first label c.args.nodes.now) c.args.stays.now c.args.region.to place (c.args.region.first + c.label-label.result) c.loop-place.pairs.items c.push_pair.new.pairs.items _ l
+          (labelled_one c.args.region.first label c.args.nodes.now place c.label-label.result c.index-nodes-place.result (omega (arith, l, to)) c.label-label.ensures) c.loop-place.invariant.pairs
+          (c.in_ok-push_pair.ensures ∙ ap (λ b. c.loop-place.pairs.items ++ cond b ((c.args.region.first + c.label-label.result, place) ∷ []) []) c.has.ensures.stays);
     }
 
 pub returns : goal.returns

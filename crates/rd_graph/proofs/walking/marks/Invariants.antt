@@ -6,6 +6,6 @@ use Rattle.rd_graph.proofs.walking.marks.Given as goal
 
 abbrev pub invariant-loop-place : goal.invariant-loop-place
 invariant-loop-place l = record {
-  count : length l.stays.items ≡ l.count;
-  stays : (p : ℕ) → p < l.count → IsTrue (stays_at l.stays.items p) ↔ (Has (take l.place-index l.gone) p → ⊥);
+  count : length l.stays ≡ l.count;
+  stays : (p : ℕ) → p < l.count → IsTrue (stays_at l.stays p) ↔ (Has (take l.place-index l.gone) p → ⊥);
 }

@@ -8,10 +8,10 @@ use Rattle.rd_graph.proofs.walking.push_stretch.Goals as goal
 pub loop-place-preserved : goal.loop-place-preserved
 loop-place-preserved c =
     let stays = c.args.stays.now in
-    let first = c.next_where-first.result in
-    let end = c.next_where-end.result in
-    let f = c.next_where-first.ensures in
-    let e = c.next_where-end.ensures in
+    let first = c.next_staying-first.result in
+    let end = c.next_gone-end.result in
+    let f = c.next_staying-first.ensures in
+    let e = c.next_gone-end.ensures in
     let now = places_of c.loop-place.line.items in
     record {
       line = joins_on now (places_of c.push_run.new.runs.items) (up_from first (end - first)) (staying stays end (c.args.to - end)) _ c.in_ok-push_run.ensures
