@@ -12,4 +12,5 @@ pub mod PlacedLines
 pub mod RunGathering
 pub mod MovedNodes
 pub mod InPlace
+pub mod Windows
 pub mod StayBits

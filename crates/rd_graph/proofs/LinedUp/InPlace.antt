@@ -5,7 +5,7 @@ use Rattle.std.proofs.lemmas.Bool.{cases_Bool, le-ltb, ltb-true, ltb-false}
 use Rattle.std.proofs.lemmas.List.{append-nil, drop-drop, length-append, length-drop, length-take-le, take-append-drop, take_more}
 use Rattle.rd_graph.specs.Gathered.{gathered}
 use Rattle.rd_graph.specs.Runs.{RunsRise, places_aside, set_aside, taken, up_from, woven}
-use Rattle.rd_graph.specs.Internal.InPlace.{AreWhole, StayersRise, coming, count_coming, count_staying, stays, staying}
+use Rattle.rd_graph.specs.Internal.InPlace.{AreWhole, IsClosed, StayersRise, coming, count_coming, count_staying, stays, staying}
 use Rattle.rd_graph.specs.declared.runs.Run.{Run}
 use Rattle.rd_graph.proofs.LinedUp.RunLines.{gathered_up, left_runs, none_long, run_of_old}
 use Rattle.rd_graph.proofs.LinedUp.RunGathering.{aside_length, aside_more, none_aside, taken_aside, taken_plain, woven-append}
@@ -21,10 +21,10 @@ module _ {T : Type 0} where
   behind [] ds k = ap (λ n. drop n ds) (let e : 0 + k ≡ k = omega arith in e)
   behind (w ∷ ws) ds k = ap (λ n. drop n (w ∷ (ws ++ ds))) (let e : suc (length ws) + k ≡ suc (length ws + k) = omega arith in e) ∙ behind ws ds k
 
-  front_at : (ws ds : List T) (place : ℕ) → length ws ≡ place → take place (ws ++ ds) ≡ ws
+  pub front_at : (ws ds : List T) (place : ℕ) → length ws ≡ place → take place (ws ++ ds) ≡ ws
   front_at ws ds place e = ap (λ k. take k (ws ++ ds)) (sym e) ∙ front ws ds
 
-  behind_at : (ws ds : List T) (place : ℕ) → length ws ≡ place → drop place (ws ++ ds) ≡ ds
+  pub behind_at : (ws ds : List T) (place : ℕ) → length ws ≡ place → drop place (ws ++ ds) ≡ ds
   behind_at ws ds place e = ap (λ k. drop k (ws ++ ds)) (let f : place ≡ length ws + 0 = omega (arith, e) in f) ∙ behind ws ds 0
 
   none_taken : (k : ℕ) → take {A = T} k [] ≡ []
@@ -73,6 +73,39 @@ module _ {T : Type 0} where
       ∙ ap (λ ks. ws ++ (ys ++ (ks ++ drop end was))) first
       ∙ ap (λ ks. ws ++ (ys ++ (xs ++ ks))) three
 
+  -- two parts change places
+  pub parts_swapped : (us xs vs ys zs was left right now : List T) (first other count : ℕ) → was ≡ us ++ (xs ++ (vs ++ (ys ++ zs))) → length us ≡ first → length xs ≡ count → first + count + length vs ≡ other → length ys ≡ count
+      → left ≡ take other was → right ≡ drop other was
+      → now ≡ (take first left ++ (take count right ++ drop (first + count - first) (drop first left))) ++ (take (first + count - first) (drop first left) ++ drop count right)
+      → now ≡ us ++ (ys ++ (vs ++ (xs ++ zs)))
+  parts_swapped us xs vs ys zs was left right now first other count w a b d e l r n =
+      let size = length-append us (xs ++ vs) in
+      let inner = length-append xs vs in
+      let whole : was ≡ (us ++ (xs ++ vs)) ++ (ys ++ zs) = w ∙ ap (λ ks. us ++ ks) (sym (append_assoc xs vs (ys ++ zs))) ∙ sym (append_assoc us (xs ++ vs) (ys ++ zs)) in
+      let long : length (us ++ (xs ++ vs)) ≡ other = omega (arith, size, inner, a, b, d) in
+      let left_is : left ≡ us ++ (xs ++ vs) = l ∙ ap (take other) whole ∙ front_at (us ++ (xs ++ vs)) (ys ++ zs) other long in
+      let right_is : right ≡ ys ++ zs = r ∙ ap (drop other) whole ∙ behind_at (us ++ (xs ++ vs)) (ys ++ zs) other long in
+      let rest : drop first left ≡ xs ++ vs = ap (drop first) left_is ∙ behind_at us (xs ++ vs) first a in
+      let one : first + count - first ≡ length xs = omega (arith, b) in
+      let mine : take (first + count - first) (drop first left) ≡ xs = ap (λ k. take k (drop first left)) one ∙ ap (take (length xs)) rest ∙ front xs vs in
+      let after : drop (first + count - first) (drop first left) ≡ vs = ap (λ k. drop k (drop first left)) one ∙ ap (drop (length xs)) rest ∙ behind_at xs vs (length xs) refl in
+      let other_mine : take count right ≡ ys = ap (take count) right_is ∙ front_at ys zs count e in
+      let other_rest : drop count right ≡ zs = ap (drop count) right_is ∙ behind_at ys zs count e in
+      n
+      ∙ append_assoc (take first left) (take count right ++ drop (first + count - first) (drop first left)) (take (first + count - first) (drop first left) ++ drop count right)
+      ∙ ap (λ ks. ks ++ ((take count right ++ drop (first + count - first) (drop first left)) ++ (take (first + count - first) (drop first left) ++ drop count right))) (ap (take first) left_is ∙ front_at us (xs ++ vs) first a)
+      ∙ ap (λ ks. us ++ ((ks ++ drop (first + count - first) (drop first left)) ++ (take (first + count - first) (drop first left) ++ drop count right))) other_mine
+      ∙ ap (λ ks. us ++ ((ys ++ ks) ++ (take (first + count - first) (drop first left) ++ drop count right))) after
+      ∙ ap (λ ks. us ++ ((ys ++ vs) ++ (ks ++ drop count right))) mine
+      ∙ ap (λ ks. us ++ ((ys ++ vs) ++ (xs ++ ks))) other_rest
+      ∙ ap (λ ks. us ++ ks) (append_assoc ys vs (xs ++ zs))
+
+  -- where they are empty, nothing changes
+  pub none_swapped : (us xs vs ys zs was : List T) (count : ℕ) → count ≡ 0 → was ≡ us ++ (xs ++ (vs ++ (ys ++ zs))) → length xs ≡ count → length ys ≡ count → was ≡ us ++ (ys ++ (vs ++ (xs ++ zs)))
+  none_swapped us [] vs [] zs was count n w a b = w
+  none_swapped us [] vs (y ∷ ys) zs was count n w a b = absurd (omega (arith, n, b))
+  none_swapped us (x ∷ xs) vs ys zs was count n w a b = absurd (omega (arith, n, a))
+
 -- ---- all elements are written back
 
 module _ {T : Type 0} where
@@ -120,7 +153,7 @@ stayers_rise n m old made (r ∷ rs) (inl h) = inr (no_stayer n r h.0, stayers_r
 stayers_rise n m old made (r ∷ rs) (inr (inl h)) = inl (stayer n r h.0 h.1, h.2, h.3, stayers_rise n m (r.from + r.count) made rs h.4)
 stayers_rise n m old made (r ∷ rs) (inr (inr h)) = inr (late_comer n r h.0 (let l = h.1 in omega (arith, l)), stayers_rise n m old (r.from - n + r.count) rs h.3)
 
-one_more : (rs : List Run) (i : ℕ) (r : Run) → i < length rs → r ≡ get_or rs i r → take (i + 1) rs ≡ take i rs ++ r ∷ []
+pub one_more : (rs : List Run) (i : ℕ) (r : Run) → i < length rs → r ≡ get_or rs i r → take (i + 1) rs ≡ take i rs ++ r ∷ []
 one_more rs i r l is = take_more rs i r l ∙ ap (λ y. take i rs ++ y ∷ []) (sym is)
 
 -- ---- how many stay, and how many come
@@ -193,22 +226,42 @@ module _ {T : Type 0} (n : ℕ) where
 
 -- ---- those that stay close up
 
--- the first runs that stay are in place; then comes what goes, and then what is left from `next` on
-pub record IsClosedUp {T : Type 0} (n : ℕ) (rs : List Run) (i place : ℕ) (was now : List T) : Type 0 where
+-- Behind a part of so many elements the first runs that stay are in place; then comes what goes, then what is left of the old elements from
+-- `next` on, and then the rest.
+pub record IsClosedUp {T : Type 0} (n : ℕ) (rs : List Run) (i stay first : ℕ) (part was rest now : List T) : Type 0 where
   pub next : ℕ
   pub gap : List T
   pub rises : StayersRise n next (drop i rs)
   pub within : next ≤ n
-  pub size : place + length gap ≡ next
-  pub count : place ≡ count_staying n (take i rs)
-  pub long : (made : List T) → length (staying n (take i rs) (was ++ made)) ≡ place
-  pub items : (made : List T) → now ≡ staying n (take i rs) (was ++ made) ++ (gap ++ drop next was)
+  pub size : stay + length gap ≡ next
+  pub count : stay ≡ first + count_staying n (take i rs)
+  pub long : (made : List T) → first + length (staying n (take i rs) (was ++ made)) ≡ stay
+  pub items : (made : List T) → now ≡ part ++ (staying n (take i rs) (was ++ made) ++ (gap ++ (drop next was ++ rest)))
 
-module _ {T : Type 0} (n : ℕ) (rs : List Run) (was : List T) (whole : length was ≡ n) where
-  pub closed_none : StayersRise n 0 rs → IsClosedUp n rs 0 0 was was
-  closed_none h = record { next = 0; gap = []; rises = h; within = omega arith; size = refl; count = refl; long = λ made. refl; items = λ made. refl }
+module _ {T : Type 0} (n : ℕ) (rs : List Run) (first : ℕ) (part was rest : List T) (ahead : length part ≡ first) (whole : length was ≡ n) where
+  pub closed_none : (now : List T) → StayersRise n first rs → first ≤ n → now ≡ part ++ (drop first was ++ rest) → IsClosedUp n rs 0 first first part was rest now
+  closed_none now h l e = record { next = first; gap = []; rises = h; within = l; size = omega arith; count = omega arith; long = λ made. omega arith; items = λ made. e }
 
-  module _ (i place : ℕ) (r : Run) (now : List T) (l : i < length rs) (is : r ≡ get_or rs i r) (c : IsClosedUp n rs i place was now) where
+  -- up to an end that those that stay do not pass
+  pub closed_window : (i stay end : ℕ) (now : List T) (c : IsClosedUp n rs i stay first part was rest now) → c.next ≤ end → end ≤ n
+      → (made : List T) → IsClosed part (staying n (take i rs) (was ++ made)) (end - stay) (drop end was ++ rest) now
+  closed_window i stay end now c l h made =
+      let more = take (end - c.next) (drop c.next was) in
+      let size = c.size in
+      let left = length-drop c.next was in
+      let all = length-append c.gap more in
+      let long : length more ≡ end - c.next = length-take-le (end - c.next) (drop c.next was) (omega (arith, left, whole, h)) in
+      let split : drop c.next was ≡ more ++ drop end was =
+      sym (take-append-drop (end - c.next) (drop c.next was))
+      ∙ ap (λ zs. more ++ zs) (drop-drop (end - c.next) c.next was ∙ ap (λ m. drop m was) (let e : c.next + (end - c.next) ≡ end = omega (arith, l) in e)) in (
+        c.gap ++ more,
+        omega (arith, all, long, size, l),
+        c.items made
+            ∙ ap (λ zs. part ++ (staying n (take i rs) (was ++ made) ++ (c.gap ++ (zs ++ rest)))) split
+            ∙ ap (λ zs. part ++ (staying n (take i rs) (was ++ made) ++ zs)) (ap (λ zs. c.gap ++ zs) (append_assoc more (drop end was) rest) ∙ sym (append_assoc c.gap more (drop end was ++ rest))),
+      )
+
+  module _ (i stay : ℕ) (r : Run) (now : List T) (l : i < length rs) (is : r ≡ get_or rs i r) (c : IsClosedUp n rs i stay first part was rest now) where
     rises_at : StayersRise n c.next (r ∷ drop (i + 1) rs)
     rises_at = subst (StayersRise n c.next) (left_runs rs i r l is) c.rises
 
@@ -221,7 +274,7 @@ module _ {T : Type 0} (n : ℕ) (rs : List Run) (was : List T) (whole : length w
     stays_on t (inr h) = absurd (let e : true ≡ false = sym t ∙ h.0 in cc)
 
     -- a run that does not stay
-    pub closed_past : stays n r ≡ false → IsClosedUp n rs (i + 1) place was now
+    pub closed_past : stays n r ≡ false → IsClosedUp n rs (i + 1) stay first part was rest now
     closed_past f = let more = (counts_more n rs i r l is).0 in let count = c.count in record {
       next = c.next;
       gap = c.gap;
@@ -229,17 +282,20 @@ module _ {T : Type 0} (n : ℕ) (rs : List Run) (was : List T) (whole : length w
       within = c.within;
       size = c.size;
       count = let e = ap (λ b. cond b r.count 0) f in omega (arith, more, count, e);
-      long = λ made. ap length (staying_same n rs i r l is (was ++ made) f) ∙ c.long made;
-      items = λ made. c.items made ∙ ap (λ zs. zs ++ (c.gap ++ drop c.next was)) (sym (staying_same n rs i r l is (was ++ made) f));
+      long = λ made. ap (λ zs. first + length zs) (staying_same n rs i r l is (was ++ made) f) ∙ c.long made;
+      items = λ made. c.items made ∙ ap (λ zs. part ++ (zs ++ (c.gap ++ (drop c.next was ++ rest)))) (sym (staying_same n rs i r l is (was ++ made) f));
     }
 
     -- a run that stays is next, or behind what goes
-    pub closed_bounds : stays n r ≡ true → (place ≤ r.from) × (r.from + r.count ≤ n)
+    pub closed_bounds : stays n r ≡ true → (stay ≤ r.from) × (r.from + r.count ≤ n)
     closed_bounds t = let h = stays_on t rises_at in let a = h.0 in let b = h.1 in let s = c.size in (omega (arith, a, s), b)
 
+    pub closed_next : stays n r ≡ true → c.next ≤ r.from
+    closed_next t = (stays_on t rises_at).0
+
     pub closed_on : stays n r ≡ true → (then : List T)
-        → ((ws xs ys zs : List T) → now ≡ ws ++ (xs ++ (ys ++ zs)) → length ws ≡ place → place + length xs ≡ r.from → r.from + length ys ≡ r.from + r.count → then ≡ ws ++ (ys ++ (xs ++ zs)))
-        → IsClosedUp n rs (i + 1) (place + r.count) was then
+        → ((ws xs ys zs : List T) → now ≡ ws ++ (xs ++ (ys ++ zs)) → length ws ≡ stay → stay + length xs ≡ r.from → r.from + length ys ≡ r.from + r.count → then ≡ ws ++ (ys ++ (xs ++ zs)))
+        → IsClosedUp n rs (i + 1) (stay + r.count) first part was rest then
     closed_on t then turns =
         let h = stays_on t rises_at in
         let low = h.0 in
@@ -248,7 +304,7 @@ module _ {T : Type 0} (n : ℕ) (rs : List Run) (was : List T) (whole : length w
         let k = r.from - c.next in
         let gap = c.gap ++ take k (drop c.next was) in
         let run = take r.count (drop r.from was) in
-        let rest = drop (r.from + r.count) was in
+        let behind = drop (r.from + r.count) was in
         let left = length-drop c.next was in
         let left_run = length-drop r.from was in
         let gap_long : length (take k (drop c.next was)) ≡ k = length-take-le k (drop c.next was) (omega (arith, left, whole, low, high)) in
@@ -257,11 +313,15 @@ module _ {T : Type 0} (n : ℕ) (rs : List Run) (was : List T) (whole : length w
         let more = (counts_more n rs i r l is).0 in
         let count = c.count in
         let one = ap (λ b. cond b r.count 0) t in
-        let split : drop c.next was ≡ take k (drop c.next was) ++ (run ++ rest) =
+        let split : drop c.next was ≡ take k (drop c.next was) ++ (run ++ behind) =
         sym (take-append-drop k (drop c.next was))
         ∙ ap (λ zs. take k (drop c.next was) ++ zs)
         (drop-drop k c.next was ∙ ap (λ m. drop m was) (let e : c.next + k ≡ r.from = omega (arith, low) in e)
         ∙ sym (take-append-drop r.count (drop r.from was)) ∙ ap (λ zs. run ++ zs) (drop-drop r.count r.from was)) in
+        let apart : c.gap ++ (drop c.next was ++ rest) ≡ gap ++ (run ++ (behind ++ rest)) =
+        ap (λ zs. c.gap ++ (zs ++ rest)) split
+        ∙ ap (λ zs. c.gap ++ zs) (append_assoc (take k (drop c.next was)) (run ++ behind) rest ∙ ap (λ zs. take k (drop c.next was) ++ zs) (append_assoc run behind rest))
+        ∙ sym (append_assoc c.gap (take k (drop c.next was)) (run ++ (behind ++ rest))) in
         let stayed : (made : List T) → run ≡ gathered (up_from r.from r.count) (was ++ made) = λ made. run_of_old n r.count r.from was made (drop r.from was) whole high refl in
         let next : (made : List T) → staying n (take (i + 1) rs) (was ++ made) ≡ staying n (take i rs) (was ++ made) ++ run = λ made. staying_more n rs i r l is (was ++ made) t ∙ ap (λ zs. staying n (take i rs) (was ++ made) ++ zs) (sym (stayed made)) in
         record {
@@ -274,20 +334,29 @@ module _ {T : Type 0} (n : ℕ) (rs : List Run) (was : List T) (whole : length w
           long = λ made. let s = length-append (staying n (take i rs) (was ++ made)) run in let a = ap length (next made) in let b = c.long made in omega (arith, s, a, b, run_long);
           items = λ made.
               let ws = staying n (take i rs) (was ++ made) in
-              turns ws gap run rest
-              (c.items made ∙ ap (λ zs. ws ++ (c.gap ++ zs)) split ∙ ap (λ zs. ws ++ zs) (sym (append_assoc c.gap (take k (drop c.next was)) (run ++ rest))))
-              (c.long made) (omega (arith, gap_all, gap_long, size, low)) (omega (arith, run_long))
-              ∙ sym (append_assoc ws run (gap ++ rest))
-              ∙ ap (λ zs. zs ++ (gap ++ rest)) (sym (next made));
+              let b = c.long made in
+              let all = length-append part ws in
+              turns (part ++ ws) gap run (behind ++ rest)
+              (c.items made ∙ ap (λ zs. part ++ (ws ++ zs)) apart ∙ sym (append_assoc part ws (gap ++ (run ++ (behind ++ rest)))))
+              (omega (arith, all, ahead, b)) (omega (arith, gap_all, gap_long, size, low)) (omega (arith, run_long))
+              ∙ append_assoc part ws (run ++ (gap ++ (behind ++ rest)))
+              ∙ ap (λ zs. part ++ zs) (sym (append_assoc ws run (gap ++ (behind ++ rest))) ∙ ap (λ zs. zs ++ (gap ++ (behind ++ rest))) (sym (next made)));
         }
 
-  pub closed_all : (i place : ℕ) (now then : List T) → take i rs ≡ rs → IsClosedUp n rs i place was now → then ≡ take place now
-      → (made : List T) → then ≡ staying n rs (was ++ made)
-  closed_all i place now then e c t made =
-      t ∙ ap (take place) (c.items made) ∙ front_at (staying n (take i rs) (was ++ made)) (c.gap ++ drop c.next was) place (c.long made) ∙ ap (λ ss. staying n ss (was ++ made)) e
+-- a list, cut at two places
+pub cut_twice : {T : Type 0} (k n : ℕ) (xs : List T) → k ≤ n → xs ≡ take k xs ++ (drop k (take n xs) ++ drop n xs)
+cut_twice k n xs l =
+    sym (take-append-drop k xs)
+    ∙ ap (λ zs. take k xs ++ zs)
+    (sym (take-append-drop (n - k) (drop k xs)) ∙ ap (λ zs. zs ++ drop (n - k) (drop k xs)) (sym (dropped_taken k n xs l))
+    ∙ ap (λ zs. drop k (take n xs) ++ zs) (drop-drop (n - k) k xs ∙ ap (λ m. drop m xs) (let e : k + (n - k) ≡ n = omega (arith, l) in e)))
 
-  pub closed_few : (i place : ℕ) (now : List T) → IsClosedUp n rs i place was now → place ≤ n
-  closed_few i place now c = let s = c.size in let w = c.within in omega (arith, s, w)
+-- what has closed up of the elements of a vector
+pub cut_closed : {T : Type 0} (n : ℕ) (rs : List Run) (i stay first : ℕ) (items now : List T) → first ≤ n → n ≤ length items
+    → ((part was rest : List T) → items ≡ part ++ (drop first was ++ rest) → length part ≡ first → length was ≡ n → IsClosedUp n rs i stay first part was rest now)
+    → IsClosedUp n rs i stay first (take first items) (take n items) (drop n items) now
+cut_closed n rs i stay first items now l h c =
+    c (take first items) (take n items) (drop n items) (cut_twice first n items l) (length-take-le first items (omega (arith, l, h))) (length-take-le n items h)
 
 -- ---- those that stay go over those that come
 
@@ -310,7 +379,7 @@ module _ {T : Type 0} where
     part_stays : (r : Run) (xs ys : List T) → stays n r ≡ true → taken r xs ys ≡ gathered (up_from r.from r.count) xs
     part_stays r xs ys t = taken_plain r xs ys (of_stayer n r t).0
 
-    staying_long : (rs : List Run) (xs ys : List T) → AreWhole rs xs ys → length (staying n rs xs) ≡ count_staying n rs
+    pub staying_long : (rs : List Run) (xs ys : List T) → AreWhole rs xs ys → length (staying n rs xs) ≡ count_staying n rs
     staying_long [] xs ys h = refl
     staying_long (r ∷ rs) xs ys h = by (staying_long rs xs (drop (length (set_aside r)) ys) h.1) (cases_Bool (stays n r))
       where
@@ -328,7 +397,7 @@ module _ {T : Type 0} where
             let b = ap (λ b. cond b r.count 0) f in
             omega (arith, a, b, rest, all)
 
-    coming_long : (rs : List Run) (xs ys : List T) → AreWhole rs xs ys → length (coming n rs xs ys) ≡ count_coming n rs
+    pub coming_long : (rs : List Run) (xs ys : List T) → AreWhole rs xs ys → length (coming n rs xs ys) ≡ count_coming n rs
     coming_long [] xs ys h = refl
     coming_long (r ∷ rs) xs ys h = by (coming_long rs xs (drop (length (set_aside r)) ys) h.1) (cases_Bool (stays n r))
       where
@@ -369,33 +438,23 @@ module _ {T : Type 0} where
               ap (λ b. cond b part [] ++ staying n rs xs) f ∙ rest.1 ∙ ap (λ zs. zs ++ woven rs xs more) (sym empty),
             )
 
-    module _ (rs : List Run) (xs ys : List T) (whole : AreWhole rs xs ys) where
+    module _ (rs : List Run) (part xs ys rest : List T) (whole : AreWhole rs xs ys) where
       -- what is in place behind the first runs
       abbrev pub placed : ℕ → List T
-      placed i = woven (drop i rs) xs (drop (length (places_aside (take i rs))) ys)
+      placed i = woven (drop i rs) xs (drop (length (places_aside (take i rs))) ys) ++ rest
 
-      pub spread_first : (was : List T) → was ≡ staying n rs xs ++ coming n rs xs ys → was ≡ staying n (take (length rs) rs) xs ++ (coming n (take (length rs) rs) xs ys ++ placed (length rs))
-      spread_first was w =
-          w
-          ∙ ap (λ ss. staying n ss xs ++ coming n ss xs ys) (sym (all_taken rs))
-          ∙ ap (λ zs. staying n (take (length rs) rs) xs ++ zs) (sym (append-nil (coming n (take (length rs) rs) xs ys)) ∙ ap (λ ss. coming n (take (length rs) rs) xs ys ++ woven ss xs (drop (length (places_aside (take (length rs) rs))) ys)) (sym (none_dropped rs)))
-        where
-          all_taken : (ss : List Run) → take (length ss) ss ≡ ss
-          all_taken [] = refl
-          all_taken (s ∷ ss) = ap (λ zs. s ∷ zs) (all_taken ss)
+      -- what stands where those of the first runs are left that stay, and those that come
+      abbrev pub spreads : ℕ → List T
+      spreads i = part ++ (staying n (take i rs) xs ++ (coming n (take i rs) xs ys ++ placed i))
 
-          none_dropped : (ss : List Run) → drop (length ss) ss ≡ []
-          none_dropped [] = refl
-          none_dropped (s ∷ ss) = none_dropped ss
-
-      pub spread_last : (i : ℕ) (now : List T) → count_coming n (take i rs) ≡ 0 → now ≡ staying n (take i rs) xs ++ (coming n (take i rs) xs ys ++ placed i) → now ≡ woven rs xs ys
+      pub spread_last : (i : ℕ) (now : List T) → count_coming n (take i rs) ≡ 0 → now ≡ spreads i → now ≡ part ++ (woven rs xs ys ++ rest)
       spread_last i now e h =
           let none = none_come (take i rs) xs ys (whole_take rs xs ys i whole) e in
+          let behind = woven (drop i rs) xs (drop (length (places_aside (take i rs))) ys) in
           h
-          ∙ ap (λ zs. zs ++ (coming n (take i rs) xs ys ++ placed i)) none.1
-          ∙ ap (λ zs. woven (take i rs) xs ys ++ (zs ++ placed i)) none.0
-          ∙ sym (woven-append (take i rs) (drop i rs) xs ys)
-          ∙ ap (λ ss. woven ss xs ys) (take-append-drop i rs)
+          ∙ ap (λ zs. part ++ (zs ++ (coming n (take i rs) xs ys ++ placed i))) none.1
+          ∙ ap (λ zs. part ++ (woven (take i rs) xs ys ++ (zs ++ placed i))) none.0
+          ∙ ap (λ zs. part ++ zs) (sym (append_assoc (woven (take i rs) xs ys) behind rest) ∙ ap (λ zs. zs ++ rest) (sym (woven-append (take i rs) (drop i rs) xs ys) ∙ ap (λ ss. woven ss xs ys) (take-append-drop i rs)))
 
       module _ (i : ℕ) (r : Run) (l : i < length rs) (is : r ≡ get_or rs i r) where
         abbrev mine : List T
@@ -406,16 +465,17 @@ module _ {T : Type 0} where
             let more = ap length (aside_more rs i r l is) in
             let both = length-append (places_aside (take i rs)) (places_aside (r ∷ [])) in
             let one = length-append (set_aside r) [] in
-            ap (λ ss. woven ss xs (drop (length (places_aside (take i rs))) ys)) (left_runs rs i r l is)
-            ∙ ap (λ zs. mine ++ woven (drop (i + 1) rs) xs zs)
+            ap (λ ss. woven ss xs (drop (length (places_aside (take i rs))) ys) ++ rest) (left_runs rs i r l is)
+            ∙ ap (λ zs. (mine ++ woven (drop (i + 1) rs) xs zs) ++ rest)
             (drop-drop (length (set_aside r)) (length (places_aside (take i rs))) ys
             ∙ ap (λ k. drop k ys) (let e : length (places_aside (take i rs)) + length (set_aside r) ≡ length (places_aside (take (i + 1) rs)) = omega (arith, more, both, one) in e))
+            ∙ append_assoc mine (woven (drop (i + 1) rs) xs (drop (length (places_aside (take (i + 1) rs))) ys)) rest
 
         -- a run that stays goes over those that come
-        pub spread_over : (now then : List T) (stay come : ℕ) → stays n r ≡ true → now ≡ staying n (take (i + 1) rs) xs ++ (coming n (take (i + 1) rs) xs ys ++ placed (i + 1))
-            → stay ≡ count_staying n (take i rs) → come ≡ count_coming n (take (i + 1) rs)
+        pub spread_over : (now then : List T) (stay come : ℕ) → stays n r ≡ true → now ≡ spreads (i + 1)
+            → length part + count_staying n (take i rs) ≡ stay → come ≡ count_coming n (take (i + 1) rs)
             → ((ws vs us zs : List T) → now ≡ ws ++ (vs ++ (us ++ zs)) → length ws ≡ stay → stay + length vs ≡ stay + r.count → stay + r.count + length us ≡ stay + r.count + come → then ≡ ws ++ (us ++ (vs ++ zs)))
-            → then ≡ staying n (take i rs) xs ++ (coming n (take i rs) xs ys ++ placed i)
+            → then ≡ spreads i
         spread_over now then stay come t h s o turns =
             let ws = staying n (take i rs) xs in
             let us = coming n (take (i + 1) rs) xs ys in
@@ -423,18 +483,22 @@ module _ {T : Type 0} where
             let long = whole_at rs xs ys i r whole l is in
             let a = staying_long (take i rs) xs ys (whole_take rs xs ys i whole) in
             let b = coming_long (take (i + 1) rs) xs ys (whole_take rs xs ys (i + 1) whole) in
-            turns ws mine us (placed (i + 1))
-            (h ∙ ap (λ zs. zs ++ (us ++ placed (i + 1))) (staying_more n rs i r l is xs t ∙ ap (λ zs. ws ++ zs) same) ∙ append_assoc ws mine (us ++ placed (i + 1)))
-            (omega (arith, a, s)) (omega (arith, long)) (omega (arith, b, o))
-            ∙ ap (λ zs. ws ++ (zs ++ (mine ++ placed (i + 1)))) (coming_same n rs i r l is xs ys t)
-            ∙ ap (λ zs. ws ++ (coming n (take i rs) xs ys ++ zs)) (sym placed_more)
+            let all = length-append part ws in
+            turns (part ++ ws) mine us (placed (i + 1))
+            (h
+            ∙ ap (λ zs. part ++ zs) (ap (λ zs. zs ++ (us ++ placed (i + 1))) (staying_more n rs i r l is xs t ∙ ap (λ zs. ws ++ zs) same) ∙ append_assoc ws mine (us ++ placed (i + 1)))
+            ∙ sym (append_assoc part ws (mine ++ (us ++ placed (i + 1)))))
+            (omega (arith, all, a, s)) (omega (arith, long)) (omega (arith, b, o))
+            ∙ append_assoc part ws (us ++ (mine ++ placed (i + 1)))
+            ∙ ap (λ zs. part ++ (ws ++ (zs ++ (mine ++ placed (i + 1))))) (coming_same n rs i r l is xs ys t)
+            ∙ ap (λ zs. part ++ (ws ++ (coming n (take i rs) xs ys ++ zs))) (sym placed_more)
 
         -- one that comes is in place
-        pub spread_past : (now : List T) → stays n r ≡ false → now ≡ staying n (take (i + 1) rs) xs ++ (coming n (take (i + 1) rs) xs ys ++ placed (i + 1)) → now ≡ staying n (take i rs) xs ++ (coming n (take i rs) xs ys ++ placed i)
+        pub spread_past : (now : List T) → stays n r ≡ false → now ≡ spreads (i + 1) → now ≡ spreads i
         spread_past now f h =
             h
-            ∙ ap (λ zs. zs ++ (coming n (take (i + 1) rs) xs ys ++ placed (i + 1))) (staying_same n rs i r l is xs f)
-            ∙ ap (λ zs. staying n (take i rs) xs ++ zs)
+            ∙ ap (λ zs. part ++ (zs ++ (coming n (take (i + 1) rs) xs ys ++ placed (i + 1)))) (staying_same n rs i r l is xs f)
+            ∙ ap (λ zs. part ++ (staying n (take i rs) xs ++ zs))
             (ap (λ zs. zs ++ placed (i + 1)) (coming_more n rs i r l is xs ys f) ∙ append_assoc (coming n (take i rs) xs ys) mine (placed (i + 1)) ∙ ap (λ zs. coming n (take i rs) xs ys ++ zs) (sym placed_more))
 
   plain_long : (r : Run) (old made aside : List T) (n m : ℕ) → r.aside ≡ false → length old ≡ n → length made ≡ m → r.from + r.count ≤ n + m → length (taken r (old ++ made) aside) ≡ r.count

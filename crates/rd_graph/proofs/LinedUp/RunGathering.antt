@@ -132,7 +132,7 @@ module _ {T : Type 0} where
 
 -- ---- runs that are set aside
 
-aside-append : (rs ss : List Run) → places_aside (rs ++ ss) ≡ places_aside rs ++ places_aside ss
+pub aside-append : (rs ss : List Run) → places_aside (rs ++ ss) ≡ places_aside rs ++ places_aside ss
 aside-append [] ss = refl
 aside-append (r ∷ rs) ss = ap (λ ks. set_aside r ++ ks) (aside-append rs ss) ∙ sym (append_assoc (set_aside r) (places_aside rs) (places_aside ss))
 
