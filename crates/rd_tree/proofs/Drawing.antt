@@ -1,11 +1,11 @@
 -- Trees whose boxes stand where they are drawn.
-use Rattle.std.proofs.Common.{◌≡◌, refl, ap, ◌∙◌, sym, ℤ, Bool, true, ◌||◌, List, [], ◌∷◌, inl, inr, arith}
+use Rattle.std.proofs.Common.{◌≡◌, refl, ap, ◌∙◌, sym, ℤ, Bool, true, List, [], ◌∷◌, inl, inr, arith}
 use Rattle.std.proofs.lemmas.Int.{ints}
 use Rattle.std.specs.Prelude.{◌+ℤ◌, ◌-ℤ◌}
 use Rattle.rd_geom.specs.Plane.{Rectangle}
 use Rattle.rd_keys.specs.Keys.{same_key}
 use Rattle.rd_tree.specs.declared.scroll.Scroll.{Scroll}
-use Rattle.rd_tree.specs.Forest.{empty, tree, size, ◌▷◌, has, map_where, IsApart}
+use Rattle.rd_tree.specs.Forest.{empty, tree, size, has, map_where, IsApart}
 use Rattle.rd_tree.specs.Document.{Document, BoxKey, Item, BoxForest, IsRooted}
 use Rattle.rd_tree.specs.Changes.{with_rect, shifted}
 use Rattle.rd_tree.specs.Drawn.{Above, above_of, at, is_none, scrolled_by, drawn_below, drawn}

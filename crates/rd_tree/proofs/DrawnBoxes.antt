@@ -1,5 +1,5 @@
 -- Boxes have as many levels, and are touched as they are, where they are drawn.
-use Rattle.std.proofs.Common.{◌≡◌, refl, ◌+◌, max, List, [], ◌∷◌, inl, inr}
+use Rattle.std.proofs.Common.{◌≡◌, refl, ◌+◌, max, List, ◌∷◌, inl, inr}
 use Rattle.rd_keys.specs.Keys.{same_key}
 use Rattle.rd_tree.specs.Forest.{empty, tree, has, height}
 use Rattle.rd_tree.specs.Document.{BoxKey, BoxForest, is_touched}

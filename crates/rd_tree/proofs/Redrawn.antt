@@ -11,7 +11,7 @@ use Rattle.rd_tree.specs.declared.scroll.Scroll.{Scroll}
 use Rattle.rd_tree.specs.Forest.{empty, tree, size, has}
 use Rattle.rd_tree.specs.Document.{BoxKey, Item, BoxForest}
 use Rattle.rd_tree.specs.Changes.{with_rect}
-use Rattle.rd_tree.specs.Internal.Links.{Node, with_item, read, edit, child_and_sibling}
+use Rattle.rd_tree.specs.Internal.Links.{Node, with_item, edit, child_and_sibling}
 use Rattle.rd_tree.specs.Internal.Linked.{linked, Relinks, IsRead, seen_from}
 use Rattle.rd_tree.specs.Internal.Handing.{IsWithin, offset_in}
 use Rattle.rd_tree.specs.Internal.Hands.{hand_at, HasHands, PutsHand, passed, passed_at, ScrollFitsAt, handed_to, CanHand, HandsDown}

@@ -16,3 +16,4 @@ pub mod Renewed
 pub mod Removed
 pub mod Moved
 pub mod Settling
+pub mod Cells

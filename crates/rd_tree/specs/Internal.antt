@@ -9,6 +9,7 @@ pub mod Works
 pub mod Reaching
 pub mod Regrouping
 pub mod Rows
+pub mod Cells
 pub mod Blending
 pub mod Keeping
 pub mod Renews

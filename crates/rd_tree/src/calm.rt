@@ -1,6 +1,6 @@
 //! Pages of rows that a walk among siblings passes at once. A page of 64 rows is calm where their boxes are untouched and have no
 //! children, and each but the last is followed by the box of the next slot. Where that is known, it stands beside the page.
-ghost use Rattle.std.specs.Prelude.{◌≡◌, ◌*◌, ◌+◌, ◌<◌, IfSome, IsTrue, [], ◌∷◌, ◌++◌, length, slice_set, vec_capacity};
+ghost use Rattle.std.specs.Prelude.{◌≡◌, ◌*◌, ◌+◌, ◌%◌, ◌<◌, ◌≤◌, IfSome, IsTrue, [], ◌∷◌, ◌++◌, length, slice_set, vec_capacity};
 ghost use Rattle.rd_tree.specs.Internal.Glances.{pages};
 ghost use Rattle.rd_tree.specs.Internal.Calm.{AreCalm, IsCalmPage, IsCalmRow, IsFollowed, IsPassed, IsRun};
 
@@ -90,7 +90,8 @@ pub(crate) fn renew(rows: &[Glance], shared: &[PageWord], calm: &mut [bool])
 pub(crate) fn run_from(rows: &[Glance], calm: &[bool], slot: usize) -> usize
     requires slot { slot < length rows.now }
     requires calm { AreCalm rows.now calm.now }
-    ensures { IsRun rows.now slot result }
+    ensures run { IsRun rows.now slot result }
+    ensures page { slot % 64 + result ≤ 64 }
 {
     if calm[slot / PAGE] {
         PAGE - slot % PAGE

@@ -1,5 +1,5 @@
 //! The tree of boxes where they are drawn.
-ghost use Rattle.std.specs.Prelude.{◌≡◌, ◌↔◌, ◌+◌, ◌<◌, ◌≤◌, if◌then◌else◌, length, IsTrue, IfOk, OnOk, OnErr, [], Some, None, true, false, option_map, option_copied, string_bytes, vec_len, vec_capacity};
+ghost use Rattle.std.specs.Prelude.{◌≡◌, ◌↔◌, ◌+◌, ◌<◌, ◌≤◌, if◌then◌else◌, length, IsTrue, IfOk, OnOk, OnErr, [], Some, None, true, false, option_map, option_copied, string_bytes};
 ghost use Rattle.rd_geom.specs.Canvas.{IsCanvas};
 ghost use Rattle.rd_keys.specs.Keys.{BoxKey as Box, same_key};
 ghost use Rattle.rd_keys.specs.Ranges.{IsAmong};
@@ -18,6 +18,7 @@ ghost use Rattle.rd_tree.specs.Seeking.{hull_reaches, is_marked, looks_until, si
 ghost use Rattle.rd_tree.specs.Internal.Linked.{AddsText};
 ghost use Rattle.rd_tree.specs.Changes.{insertion, removal, moving, styling, placing, shifting, scrolling, new_item, fits_shift, CanRestyle};
 ghost use Rattle.rd_tree.specs.Internal.Works.{ShiftNear};
+ghost use Rattle.rd_tree.specs.Internal.Cells.{HasRowRoom};
 ghost use Rattle.rd_tree.specs.Internal.Regrouping.{marked_reached};
 ghost use Rattle.rd_tree.specs.Touching.{touch, settled, edited};
 ghost use Rattle.rd_tree.specs.Document.{AllFit};
@@ -51,7 +52,8 @@ use crate::table::blends::{blends_at, given, given_at, put_count, recount};
 use crate::table::extent::own_hull;
 use crate::table::hulls::extent_of;
 use crate::table::renew::{Stale, renew, renew_up, stale_by, whole_of};
-use crate::table::row::{Summary, put, row_at, summary_alone};
+use crate::table::row::{put, row_at, summary_alone};
+use crate::table::rows::Table;
 use crate::table::settle::settle_from;
 use crate::table::whole::{gain, lose, touched_box};
 use crate::view::{BoxView, is_marked, view_at};
@@ -71,7 +73,7 @@ pub(crate) struct DrawnTree<B: Ledger> {
     root: BoxKey,
     nodes: Nodes,
     ids: IndexMap<String, BoxKey>,
-    table: Vec<Summary>,
+    table: Table,
     blends: Vec<u32>,
     looks: PhantomData<B>,
 }
@@ -92,7 +94,7 @@ impl<B: Ledger> Model for DrawnTree<B> {
 
     ghost view = { λ t. record { canvas = t.canvas; root = t.root; boxes = linked.seen t.nodes t.root; slots = linked.marks t.nodes } };
 
-    ghost invariant = { λ t. keeping.IsKept t.nodes t.root t.ids t.table.items t.blends.items };
+    ghost invariant = { λ t. keeping.IsKept t.nodes t.root t.ids t.table.rows t.blends.items };
 }
 
 /// Stores a node, and its key under its id. After a refusal nothing has changed.
@@ -142,12 +144,12 @@ fn add(
 }
 
 /// A table without rows, with room for one.
-fn room_for_one(alloc: Global) -> Result<Vec<Summary>, NoMemory>
-    ensures empty { IfOk result (λ table. table.items ≡ []) }
-    ensures room { IfOk result (λ table. vec_len table < vec_capacity table) }
+fn room_for_one(alloc: Global) -> Result<Table, NoMemory>
+    ensures empty { IfOk result (λ table. table.rows ≡ []) }
+    ensures room { IfOk result (λ table. HasRowRoom table) }
 {
-    let mut table = Vec::new(alloc);
-    table.reserve(1)?;
+    let mut table = Table::new(alloc);
+    table.reserve()?;
     Ok(table)
 }
 
@@ -528,7 +530,7 @@ impl<B: Ledger> DrawnTree<B> {
             (new_item id.now rect style)) self.old) }
         ensures refused { OnErr result (self.new ≡ self.old) }
     {
-        self.table.reserve(1)?;
+        self.table.reserve()?;
         self.blends.reserve(1)?;
         let ends = ends_of(&self.nodes, parent);
         let prev = left_of(&self.nodes, ends.1, before);

@@ -1,6 +1,6 @@
 //! What walks read of all boxes. Beside each row stands one word that tells at once whether a key's box is live and untouched,
 //! and beside each page of rows what tells so of many of them, and whether a walk among siblings may pass the page at once.
-ghost use Rattle.std.specs.Prelude.{◌≡◌, ◌<◌, ◌⊎◌, [], false, true, length, slice_set, IfSome, IsTrue, OnOk};
+ghost use Rattle.std.specs.Prelude.{◌≡◌, ◌+◌, ◌%◌, ◌<◌, ◌≤◌, ◌⊎◌, [], false, true, length, slice_set, IfSome, IsTrue, OnOk};
 ghost use Rattle.rd_keys.specs.Keys.{BoxKey as Box};
 ghost use Rattle.rd_keys.specs.Ranges.{IsAmong};
 ghost use Rattle.rd_tree.specs.Internal.Calm.{IsPassed, IsRun};
@@ -88,7 +88,8 @@ impl Glances {
     #[inline(always)]
     pub(crate) fn run_from(&self, slot: u32) -> usize
         requires { slot < length self.now.rows }
-        ensures { IsRun self.now.rows slot result }
+        ensures run { IsRun self.now.rows slot result }
+        ensures page { slot % 64 + result ≤ 64 }
     {
         calm::run_from(&self.rows, &self.calm, slot as usize)
     }

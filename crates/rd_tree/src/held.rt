@@ -1,6 +1,6 @@
 //! The nodes of a tree. Beside each stands what a walk reads of its box, in a table by slot, so that a walk opens only the
 //! nodes of boxes with which it has something to do.
-ghost use Rattle.std.specs.Prelude.{◌≡◌, ◌+◌, ◌<◌, ◌≤◌, IfOk, IfNone, IfSome, IsTrue, OnErr, OnSome, option_copied, option_map, Some, is_some, length, true, false};
+ghost use Rattle.std.specs.Prelude.{◌≡◌, ◌+◌, ◌%◌, ◌<◌, ◌≤◌, IfOk, IfNone, IfSome, IsTrue, OnErr, OnSome, option_copied, option_map, Some, is_some, length, true, false};
 ghost use Rattle.std.specs.Option.{option_map_or};
 ghost use Rattle.rd_keys.specs.Arena.{empty_arena, live, occupied, retired, value, without_value, Enters};
 ghost use Rattle.rd_keys.specs.Keys.{BoxKey as Box, same_key};
@@ -117,7 +117,8 @@ impl Nodes {
     #[inline(always)]
     pub(crate) fn run_from(&self, key: BoxKey) -> usize
         requires live { is_some (value self.now key.slot key.generation) ≡ true }
-        ensures { Runs self.now key result }
+        ensures run { Runs self.now key result }
+        ensures page { key.slot % 64 + result ≤ 64 }
     {
         self.glances.run_from(key.slot())
     }

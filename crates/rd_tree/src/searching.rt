@@ -12,7 +12,9 @@ ghost use Rattle.rd_tree.specs.Internal.Rows.{IsTabled};
 ghost use Rattle.rd_tree.specs.Internal.Summaries.{row_at};
 
 use crate::held::Nodes;
-use crate::table::row::{Summary, row_of};
+use crate::table::cells::reach_of;
+use crate::table::row::row_of;
+use crate::table::rows::Table;
 use crate::view::reaches;
 use rd_geom::{Rect, Steps};
 use rd_keys::BoxKey;
@@ -26,23 +28,6 @@ pub(crate) fn tick_times<B: Ledger>(steps: &mut Steps<B>, times: usize)
     for _ in 0..times {
         steps.tick();
     }
-}
-
-/// The first slot from one on, and before an end, whose row has a hull that reaches into a rectangle; the end, where there is none.
-fn first_reaching(table: &[Summary], from: usize, end: usize, rect: &Rect) -> usize
-    requires order { from ≤ end }
-    requires rows { end ≤ length table.now }
-    ensures from { from ≤ result }
-    ensures end { result ≤ end }
-    ensures apart { (s : ℕ) → from ≤ s → s < result → seeking.reaches rect.now (row_at table.now s).hull ≡ false }
-    ensures found { result < end → seeking.reaches rect.now (row_at table.now result).hull ≡ true }
-{
-    for slot in from..end {
-        if reaches(rect, &table[slot].hull) {
-            return slot;
-        }
-    }
-    end
 }
 
 /// In a page that is known to be calm, from a box on: the box of a slot, or the sibling after the last box before it.
@@ -59,18 +44,19 @@ fn sibling_in(nodes: &Nodes, key: BoxKey, slot: usize) -> Option<BoxKey>
     }
 }
 
-/// The first of some siblings, from one on, whose hull reaches into a rectangle. Each look is counted once.
+/// The first of some siblings, from one on, whose hull reaches into a rectangle; in calm pages, by the cells of rows. Each look is
+/// counted once.
 #[inline(never)]
-fn pass_to_hull<B: Ledger>(
+fn pass_by_cells<B: Ledger>(
     nodes: &Nodes,
-    table: &[Summary],
+    table: &Table,
     root: BoxKey,
     first: Option<BoxKey>,
     rect: &Rect,
     steps: &mut Steps<B>,
 ) -> Option<BoxKey>
     requires tree { IsTree nodes.now root }
-    requires tabled { IsTabled nodes.now table.now (seen nodes.now root) }
+    requires tabled { IsTabled nodes.now table.now.rows (seen nodes.now root) }
     requires live { option_map_or (λ k. is_some (value nodes.now k.slot k.generation)) first true ≡ true }
     ensures found { from_some same_key result (seen nodes.now root)
         ≡ siblings_from (hull_reaches rect.now) (from_some same_key first (seen nodes.now root)) }
@@ -78,13 +64,14 @@ fn pass_to_hull<B: Ledger>(
     ensures ticks { steps.new ≡ steps.old
         + looks_until (hull_reaches rect.now) (from_some same_key first (seen nodes.now root)) }
 {
+    let reach = reach_of(rect);
     let mut at = first;
     while let Some(key) = at {
         let run = nodes.run_from(key);
         if run > 0 {
             let start = key.slot() as usize;
             let end = start + run;
-            let stop = first_reaching(table, start, end, rect);
+            let stop = table.far_reaching(start, end, rect, &reach);
             tick_times(steps, stop - start);
             at = sibling_in(nodes, key, stop);
             if stop < end {
@@ -103,19 +90,58 @@ fn pass_to_hull<B: Ledger>(
     None
 }
 
-/// The same, where it is likely the first one. The search beyond it reads a copy of the rectangle, so that whoever asks again
-/// and again keeps its own in registers.
-#[inline(always)]
-pub(crate) fn first_in_reach<B: Ledger>(
+/// How many hulls in a calm page are compared before cells are asked.
+const FEW: usize = 16;
+
+/// The same, where it is likely one of the next ones.
+#[inline(never)]
+fn pass_to_hull<B: Ledger>(
     nodes: &Nodes,
-    table: &[Summary],
+    table: &Table,
     root: BoxKey,
     first: Option<BoxKey>,
     rect: &Rect,
     steps: &mut Steps<B>,
 ) -> Option<BoxKey>
     requires tree { IsTree nodes.now root }
-    requires tabled { IsTabled nodes.now table.now (seen nodes.now root) }
+    requires tabled { IsTabled nodes.now table.now.rows (seen nodes.now root) }
+    requires live { option_map_or (λ k. is_some (value nodes.now k.slot k.generation)) first true ≡ true }
+    ensures found { from_some same_key result (seen nodes.now root)
+        ≡ siblings_from (hull_reaches rect.now) (from_some same_key first (seen nodes.now root)) }
+    ensures live { option_map_or (λ k. is_some (value nodes.now k.slot k.generation)) result true ≡ true }
+    ensures ticks { steps.new ≡ steps.old
+        + looks_until (hull_reaches rect.now) (from_some same_key first (seen nodes.now root)) }
+{
+    match first {
+        Some(key) => {
+            let start = key.slot() as usize;
+            let end = start + nodes.run_from(key).min(FEW);
+            let stop = table.first_reaching(start, end, rect);
+            tick_times(steps, stop - start);
+            let at = sibling_in(nodes, key, stop);
+            if stop < end {
+                steps.tick();
+                return at;
+            }
+            pass_by_cells(nodes, table, root, at, rect, steps)
+        }
+        None => None,
+    }
+}
+
+/// The same, where it is likely the first one. The search beyond it reads a copy of the rectangle, so that whoever asks again
+/// and again keeps its own in registers.
+#[inline(always)]
+pub(crate) fn first_in_reach<B: Ledger>(
+    nodes: &Nodes,
+    table: &Table,
+    root: BoxKey,
+    first: Option<BoxKey>,
+    rect: &Rect,
+    steps: &mut Steps<B>,
+) -> Option<BoxKey>
+    requires tree { IsTree nodes.now root }
+    requires tabled { IsTabled nodes.now table.now.rows (seen nodes.now root) }
     requires live { option_map_or (λ k. is_some (value nodes.now k.slot k.generation)) first true ≡ true }
     ensures found { from_some same_key result (seen nodes.now root)
         ≡ siblings_from (hull_reaches rect.now) (from_some same_key first (seen nodes.now root)) }

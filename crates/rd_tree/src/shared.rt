@@ -27,7 +27,7 @@ pub(crate) struct PageWord {
 
 /// Bits without that of a number.
 #[inline(always)]
-fn without_bit(bits: u64, number: usize) -> u64
+pub(crate) fn without_bit(bits: u64, number: usize) -> u64
     ensures { (i : ℕ) → i < 64 → i ≢ number % 64 → bit_at result i ≡ bit_at bits i }
 {
     bits & !(1 << (number % 64))

@@ -1,5 +1,5 @@
 -- What holds of all items, once boxes change.
-use Rattle.std.proofs.Common.{◌≡◌, refl, ◌∙◌, subst, Bool, true, false, ◌||◌, inl, inr}
+use Rattle.std.proofs.Common.{◌≡◌, refl, subst, Bool, true, false, ◌||◌, inl, inr}
 use Rattle.std.specs.Prelude.{Option, Some, None}
 use Rattle.rd_tree.specs.Forest.{Forest, empty, tree, ◌▷◌, has, starting_at, item_of, children, with_children, insert_before, insert_among, without_siblings, without_branch, branch, AllItems, IsApart}
 use Rattle.rd_tree.specs.Internal.Laid.{each_by}

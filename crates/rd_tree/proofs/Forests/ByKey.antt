@@ -1,5 +1,5 @@
 -- Items that change, each in a way that may depend on its key.
-use Rattle.std.proofs.Common.{◌≡◌, refl, ap, ◌∙◌, sym, ◌+◌, Bool, true, false, ◌||◌, cond, ◌∷◌, ◌++◌, inl, inr, arith}
+use Rattle.std.proofs.Common.{◌≡◌, refl, ap, ◌∙◌, sym, Bool, true, false, ◌||◌, cond, ◌∷◌, ◌++◌, inl, inr, arith}
 use Rattle.std.specs.Prelude.{Option, Some, None, option_map}
 use Rattle.rd_tree.specs.Forest.{Forest, empty, tree, keys, size, ◌▷◌, height, without_siblings, map_where, has, starting_at, item_of, children, in_subtree, with_children, is_among, insert_before, insert_among, without_branch, branch, IsApart}
 use Rattle.rd_tree.specs.Places.{parent_of}

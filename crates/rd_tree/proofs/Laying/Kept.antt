@@ -1,6 +1,6 @@
 -- What a tree keeps of what is handed to its boxes, once it is edited.
-use Rattle.std.proofs.Common.{◌≡◌, refl, ap, ◌∙◌, sym, subst, ℕ, ℤ, ◌+◌, ◌<◌, ◌≤◌, true, false, ◌||◌, ◌&&◌, List, length, inl, inr, arith}
-use Rattle.std.specs.Prelude.{◌==◌, Option, Some, None, IfSome, option_map}
+use Rattle.std.proofs.Common.{◌≡◌, refl, ap, ◌∙◌, sym, subst, ℕ, ℤ, ◌+◌, ◌≤◌, true, false, ◌||◌, List, length, inl, inr, arith}
+use Rattle.std.specs.Prelude.{Option, Some, None, IfSome, option_map}
 use Rattle.rd_geom.specs.Plane.{Rectangle}
 use Rattle.rd_style.specs.Limits.{FitsRect}
 use Rattle.rd_keys.specs.Keys.{same_key}

@@ -1,5 +1,5 @@
 -- A move that draws the boxes elsewhere: what is kept, and what the tree is then.
-use Rattle.std.proofs.Common.{◌≡◌, refl, ap, ◌∙◌, sym, subst, ℕ, ◌+◌, ◌≤◌, Bool, true, false, ◌||◌, cond, List, inl, inr, arith}
+use Rattle.std.proofs.Common.{◌≡◌, refl, ap, ◌∙◌, sym, subst, ◌+◌, ◌≤◌, Bool, true, false, ◌||◌, cond, List, inl, inr, arith}
 use Rattle.std.specs.Prelude.{Option, Some, option_map}
 use Rattle.rd_keys.specs.Keys.{same_key}
 use Rattle.rd_keys.proofs.Keys.{same_key-sound, same_key-refl}

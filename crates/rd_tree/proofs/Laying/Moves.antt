@@ -1,9 +1,9 @@
 -- A box that moves with all below it: where it stands then, and what is handed to it.
-use Rattle.std.proofs.Common.{◌≡◌, refl, ap, ◌∙◌, sym, subst, ℕ, ◌+◌, ◌≤◌, true, false, ◌||◌, inl, inr}
+use Rattle.std.proofs.Common.{◌≡◌, refl, ap, ◌∙◌, sym, subst, true, false, ◌||◌, inl, inr}
 use Rattle.std.specs.Prelude.{Option, Some, None}
 use Rattle.rd_keys.specs.Keys.{same_key}
 use Rattle.rd_keys.proofs.Keys.{same_key-sound, same_key-refl}
-use Rattle.rd_tree.specs.Forest.{empty, tree, ◌▷◌, has, item_of, children, with_children, insert_before, insert_among, without_branch, branch, IsApart}
+use Rattle.rd_tree.specs.Forest.{empty, tree, ◌▷◌, has, item_of, children, with_children, insert_before, insert_among, without_branch, IsApart}
 use Rattle.rd_tree.specs.Document.{BoxKey, Item, BoxForest}
 use Rattle.rd_tree.proofs.Linking.Standing.{cases, never, either, from_left, from_right, join-empty, no_children, has-join}
 use Rattle.rd_tree.proofs.Forests.Under.{no_under}

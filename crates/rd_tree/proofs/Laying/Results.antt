@@ -1,5 +1,5 @@
 -- What an edit comes to that draws boxes elsewhere: the change of the tree as it is laid out.
-use Rattle.std.proofs.Common.{◌≡◌, refl, ap, ◌∙◌, sym, ℤ, Bool, true, false, ◌||◌, cond, List, arith}
+use Rattle.std.proofs.Common.{◌≡◌, refl, ap, ◌∙◌, sym, ℤ, Bool, true, false, cond, List, arith}
 use Rattle.std.proofs.lemmas.Int.{ints}
 use Rattle.std.specs.Prelude.{◌+ℤ◌, ◌-ℤ◌, Option}
 use Rattle.rd_style.specs.declared.styles.StyleChange.{StyleChange}
@@ -7,7 +7,7 @@ use Rattle.rd_keys.specs.Keys.{same_key}
 use Rattle.rd_keys.proofs.Keys.{same_key-sound, same_key-refl}
 use Rattle.rd_tree.specs.declared.handed.ScrollSums.{ScrollSums}
 use Rattle.rd_tree.specs.declared.scroll.Scroll.{Scroll}
-use Rattle.rd_tree.specs.Forest.{tree, has, item_of, children, with_children, insert_among, without_branch, branch, map_where, at_box, IsApart}
+use Rattle.rd_tree.specs.Forest.{has, item_of, children, with_children, insert_among, without_branch, branch, map_where, at_box, IsApart}
 use Rattle.rd_tree.specs.Document.{Document, BoxKey, Item, BoxForest}
 use Rattle.rd_tree.specs.Changes.{with_rect, with_scroll, restyle, moving, styling, scrolling, put_elsewhere}
 use Rattle.rd_tree.specs.Touching.{touch, touched_by, edited}

@@ -1,5 +1,5 @@
 -- Nodes whose items change, each in a way that may depend on its key.
-use Rattle.std.proofs.Common.{◌≡◌, refl, ap, ◌∙◌, sym, subst, ℕ, ◌+◌, true, false, ◌||◌, List, length, arith}
+use Rattle.std.proofs.Common.{◌≡◌, refl, ap, ◌∙◌, sym, subst, ℕ, ◌+◌, true, false, List, length, arith}
 use Rattle.std.specs.Prelude.{Option, Some, None, String, option_map, is_some}
 use Rattle.std.specs.HashMap.{HashMap, get_by_text}
 use Rattle.rd_keys.specs.Keys.{same_key}

@@ -1,5 +1,5 @@
 -- What a walk among siblings passes with a page.
-use Rattle.std.proofs.Common.{◌≡◌, refl, ap, ◌∙◌, sym, subst, ℕ, zero, suc, ◌+◌, ◌-◌, ◌<◌, ◌≤◌, ◌==◌, true, false, arith, List}
+use Rattle.std.proofs.Common.{◌≡◌, refl, ap, ◌∙◌, sym, ℕ, zero, suc, ◌+◌, ◌-◌, ◌<◌, ◌==◌, true, false, arith, List}
 use Rattle.std.specs.Prelude.{Option, Some, None, is_some, IfSome}
 use Rattle.rd_keys.specs.Arena.{Arena, slot_at, value}
 use Rattle.rd_keys.specs.Keys.{BoxKey}

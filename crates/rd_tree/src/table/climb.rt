@@ -6,22 +6,17 @@ ghost use Rattle.rd_tree.specs.Internal.Rows.{IsStanding, IsIn, CanMark, MarksUp
 use crate::held::Nodes;
 use crate::links::parent_of;
 use crate::table::hulls::moved_hull;
-use crate::table::row::{Summary, mark, put_hull};
+use crate::table::row::{mark, put_hull};
+use crate::table::rows::Table;
 use rd_geom::Rect;
 use rd_keys::BoxKey;
 
 /// So many touched boxes less below a box and below all boxes above it, and so many more.
-pub(crate) fn mark_up(
-    table: &mut Vec<Summary>,
-    nodes: &Nodes,
-    from: Option<BoxKey>,
-    less: u32,
-    more: u32,
-)
-    requires { CanMark nodes.now table.old.items from less more }
+pub(crate) fn mark_up(table: &mut Table, nodes: &Nodes, from: Option<BoxKey>, less: u32, more: u32)
+    requires { CanMark nodes.now table.old.rows from less more }
     ensures rows { (root : BoxKey) (f : BoxForest) → IsStanding nodes.now root f → IsIn from f
-        → MarksUp nodes.now f table.old.items table.new.items from less more }
-    ensures same_length { length table.new.items ≡ length table.old.items }
+        → MarksUp nodes.now f table.old.rows table.new.rows from less more }
+    ensures same_length { length table.new.rows ≡ length table.old.rows }
 {
     let mut at = from;
     while let Some(key) = at {
@@ -32,19 +27,19 @@ pub(crate) fn mark_up(
 
 /// Something below a box, or nothing, had the hull `lost` and has now `gained`: the hulls of the box and of all above it.
 pub(crate) fn move_hulls(
-    table: &mut Vec<Summary>,
+    table: &mut Table,
     nodes: &Nodes,
     from: Option<BoxKey>,
     lost: Rect,
     gained: Rect,
 )
-    requires { CanMove nodes.now table.old.items from }
+    requires { CanMove nodes.now table.old.rows from }
     ensures hulls { (root : BoxKey) (f : BoxForest) → IsStanding nodes.now root f → IsIn from f
-        → IsMoving table.old.items f from lost gained → HasHulls table.new.items f }
+        → IsMoving table.old.rows f from lost gained → HasHulls table.new.rows f }
     ensures others { (root : BoxKey) (f : BoxForest) → IsStanding nodes.now root f → IsIn from f
-        → KeepsOthers nodes.now f table.old.items table.new.items from }
-    ensures counts { KeepsCounts table.old.items table.new.items }
-    ensures same_length { length table.new.items ≡ length table.old.items }
+        → KeepsOthers nodes.now f table.old.rows table.new.rows from }
+    ensures counts { KeepsCounts table.old.rows table.new.rows }
+    ensures same_length { length table.new.rows ≡ length table.old.rows }
 {
     let mut at = from;
     while let Some(key) = at {

@@ -11,6 +11,7 @@ ghost use Rattle.rd_tree.specs.Figures.{max_boxes};
 
 use crate::held::Nodes;
 use crate::table::row::{Summary, write};
+use crate::table::rows::Table;
 use rd_geom::{Rect, hull, outset};
 use rd_keys::BoxKey;
 
@@ -112,14 +113,14 @@ fn with_one(all: &SiblingSums, own: u32, row: &Summary) -> SiblingSums
 /// The same of the boxes below a box, with no call where there are none.
 #[cycle(gathering)]
 #[inline(always)]
-fn gather_below(table: &mut Vec<Summary>, nodes: &Nodes, first: Option<BoxKey>) -> SiblingSums
+fn gather_below(table: &mut Table, nodes: &Nodes, first: Option<BoxKey>) -> SiblingSums
     requires read { IsRead nodes.now first }
     requires small { nodes.now.limit ≤ max_boxes }
-    requires has_rows { HasRows table.old.items (seen_from nodes.now first) }
+    requires has_rows { HasRows table.old.rows (seen_from nodes.now first) }
     requires fits { AllNear (seen_from nodes.now first) }
     ensures told { result ≡ gathered_in (seen_from nodes.now first) }
-    ensures rows { Gathers nodes.now table.old.items table.new.items (seen_from nodes.now first) }
-    ensures same_length { length table.new.items ≡ length table.old.items }
+    ensures rows { Gathers nodes.now table.old.rows table.new.rows (seen_from nodes.now first) }
+    ensures same_length { length table.new.rows ≡ length table.old.rows }
 {
     match first {
         Some(_) => gather(table, nodes, first),
@@ -129,14 +130,14 @@ fn gather_below(table: &mut Vec<Summary>, nodes: &Nodes, first: Option<BoxKey>) 
 
 /// Writes the rows of a box, of those below it, and of its later siblings with theirs. What the siblings are together.
 #[cycle(gathering)]
-pub(crate) fn gather(table: &mut Vec<Summary>, nodes: &Nodes, first: Option<BoxKey>) -> SiblingSums
+pub(crate) fn gather(table: &mut Table, nodes: &Nodes, first: Option<BoxKey>) -> SiblingSums
     requires read { IsRead nodes.now first }
     requires small { nodes.now.limit ≤ max_boxes }
-    requires has_rows { HasRows table.old.items (seen_from nodes.now first) }
+    requires has_rows { HasRows table.old.rows (seen_from nodes.now first) }
     requires fits { AllNear (seen_from nodes.now first) }
     ensures told { result ≡ gathered_in (seen_from nodes.now first) }
-    ensures rows { Gathers nodes.now table.old.items table.new.items (seen_from nodes.now first) }
-    ensures same_length { length table.new.items ≡ length table.old.items }
+    ensures rows { Gathers nodes.now table.old.rows table.new.rows (seen_from nodes.now first) }
+    ensures same_length { length table.new.rows ≡ length table.old.rows }
 {
     let mut all = SiblingSums::none();
     let mut at = first;

@@ -8,7 +8,8 @@ ghost use Rattle.rd_tree.specs.Internal.Rows.{HasRows, IsFitAt, extent_under, hu
 
 use crate::held::Nodes;
 use crate::links::walk::child_and_sibling;
-use crate::table::row::{Summary, row_at};
+use crate::table::row::row_at;
+use crate::table::rows::Table;
 use rd_geom::{Rect, hull, outset};
 use rd_keys::BoxKey;
 
@@ -24,10 +25,10 @@ pub(crate) fn extent_of(nodes: &Nodes, key: BoxKey) -> Rect
 }
 
 /// The hull of a box and its later siblings, by their rows.
-fn hull_from(table: &[Summary], nodes: &Nodes, first: Option<BoxKey>) -> Rect
+fn hull_from(table: &Table, nodes: &Nodes, first: Option<BoxKey>) -> Rect
     requires read { IsRead nodes.now first }
-    requires rows { HasRows table.now (seen_from nodes.now first) }
-    ensures { result ≡ hulls_by table.now (seen_from nodes.now first) }
+    requires rows { HasRows table.now.rows (seen_from nodes.now first) }
+    ensures { result ≡ hulls_by table.now.rows (seen_from nodes.now first) }
 {
     let mut all = Rect::EMPTY;
     let mut at = first;
@@ -39,12 +40,12 @@ fn hull_from(table: &[Summary], nodes: &Nodes, first: Option<BoxKey>) -> Rect
 }
 
 /// The hull of a box by its own extent and by the rows of its children.
-pub(crate) fn hull_anew(table: &[Summary], nodes: &Nodes, key: BoxKey) -> Rect
+pub(crate) fn hull_anew(table: &Table, nodes: &Nodes, key: BoxKey) -> Rect
     requires fits { IsFitAt (linked nodes.now key) }
     requires read { IsRead nodes.now (child_and_sibling (linked nodes.now key)).0 }
-    requires rows { HasRows table.now (seen_from nodes.now (child_and_sibling (linked nodes.now
+    requires rows { HasRows table.now.rows (seen_from nodes.now (child_and_sibling (linked nodes.now
         key)).0) }
-    ensures { result ≡ hull_anew_of nodes.now table.now key }
+    ensures { result ≡ hull_anew_of nodes.now table.now.rows key }
 {
     let below = child_and_sibling(nodes, key).0;
     let own = extent_of(nodes, key);
@@ -53,19 +54,19 @@ pub(crate) fn hull_anew(table: &[Summary], nodes: &Nodes, key: BoxKey) -> Rect
 
 /// The hull of a box once what was `lost` of it has become `gained`, as the rows of its children tell already.
 pub(crate) fn moved_hull(
-    table: &[Summary],
+    table: &Table,
     nodes: &Nodes,
     key: BoxKey,
     lost: Rect,
     gained: Rect,
 ) -> Rect
-    requires here { key.slot < length table.now }
+    requires here { key.slot < length table.now.rows }
     requires fits { IsFitAt (linked nodes.now key) }
     requires read { IsRead nodes.now (child_and_sibling (linked nodes.now key)).0 }
-    requires rows { HasRows table.now (seen_from nodes.now (child_and_sibling (linked nodes.now
+    requires rows { HasRows table.now.rows (seen_from nodes.now (child_and_sibling (linked nodes.now
         key)).0) }
-    ensures { (rest : Rectangle) → (summary_at table.now key).hull ≡ hull_of rest lost
-        → hull_of rest gained ≡ hull_anew_of nodes.now table.now key → result
+    ensures { (rest : Rectangle) → (summary_at table.now.rows key).hull ≡ hull_of rest lost
+        → hull_of rest gained ≡ hull_anew_of nodes.now table.now.rows key → result
         ≡ hull_of rest gained }
 {
     match rd_geom::moved_hull(row_at(table, key).hull, lost, gained) {

@@ -13,7 +13,8 @@ use crate::links::parent_of;
 use crate::reach::Reach;
 use crate::table::fill::{gather, measure, row_of, touched_at};
 use crate::table::hulls::hull_anew;
-use crate::table::row::{Summary, put_hull, row_at, write};
+use crate::table::row::{put_hull, row_at, write};
+use crate::table::rows::Table;
 use crate::table::whole::{Whole, swap_up};
 use rd_geom::Rect;
 use rd_keys::BoxKey;
@@ -48,11 +49,11 @@ pub(crate) fn stale_by(reach: Reach, before: Rect, after: Rect) -> Stale
 }
 
 /// What a branch is, by the row of its box.
-pub(crate) fn whole_of(table: &[Summary], nodes: &Nodes, key: BoxKey) -> Whole
-    requires here { key.slot < length table.now }
-    requires few { touched_under (linked nodes.now key) + (summary_at table.now key).touched <
+pub(crate) fn whole_of(table: &Table, nodes: &Nodes, key: BoxKey) -> Whole
+    requires here { key.slot < length table.now.rows }
+    requires few { touched_under (linked nodes.now key) + (summary_at table.now.rows key).touched <
         4294967296 }
-    ensures { result ≡ whole_at nodes.now table.now key }
+    ensures { result ≡ whole_at nodes.now table.now.rows key }
 {
     let row = row_at(table, key);
     Whole {
@@ -62,15 +63,15 @@ pub(crate) fn whole_of(table: &[Summary], nodes: &Nodes, key: BoxKey) -> Whole
 }
 
 /// Works the stale rows of a branch out anew.
-pub(crate) fn renew(table: &mut Vec<Summary>, nodes: &Nodes, key: BoxKey, stale: Stale)
-    requires { CanClimb nodes.now table.old.items key (λ f. IsStale stale table.old.items f key) }
+pub(crate) fn renew(table: &mut Table, nodes: &Nodes, key: BoxKey, stale: Stale)
+    requires { CanClimb nodes.now table.old.rows key (λ f. IsStale stale table.old.rows f key) }
     ensures right { (root : BoxKey) (f : BoxForest) → IsStanding nodes.now root f
-        → has same_key key f ≡ true → IsStale stale table.old.items f key
-        → IsRightIn table.new.items f key }
+        → has same_key key f ≡ true → IsStale stale table.old.rows f key
+        → IsRightIn table.new.rows f key }
     ensures others { (root : BoxKey) (f : BoxForest) → IsStanding nodes.now root f
-        → has same_key key f ≡ true → KeepsOutside nodes.now f table.old.items table.new.items
+        → has same_key key f ≡ true → KeepsOutside nodes.now f table.old.rows table.new.rows
         key }
-    ensures same_length { length table.new.items ≡ length table.old.items }
+    ensures same_length { length table.new.rows ≡ length table.old.rows }
 {
     match stale {
         Stale::Nothing => {}
@@ -88,19 +89,13 @@ pub(crate) fn renew(table: &mut Vec<Summary>, nodes: &Nodes, key: BoxKey, stale:
 }
 
 /// Sets all rows right once the items of a branch have changed, which was `old`.
-pub(crate) fn renew_up(
-    table: &mut Vec<Summary>,
-    nodes: &Nodes,
-    key: BoxKey,
-    stale: Stale,
-    old: Whole,
-)
-    requires { CanClimb nodes.now table.old.items key (λ f. IsRenewing table.old.items f key
+pub(crate) fn renew_up(table: &mut Table, nodes: &Nodes, key: BoxKey, stale: Stale, old: Whole)
+    requires { CanClimb nodes.now table.old.rows key (λ f. IsRenewing table.old.rows f key
         stale old) }
     ensures right { (root : BoxKey) (f : BoxForest) → IsStanding nodes.now root f
-        → has same_key key f ≡ true → IsRenewing table.old.items f key stale old
-        → IsRight table.new.items f }
-    ensures same_length { length table.new.items ≡ length table.old.items }
+        → has same_key key f ≡ true → IsRenewing table.old.rows f key stale old
+        → IsRight table.new.rows f }
+    ensures same_length { length table.new.rows ≡ length table.old.rows }
 {
     renew(table, nodes, key, stale);
     let new = whole_of(table, nodes, key);

@@ -1,9 +1,11 @@
 //! The rows of the table of a tree.
-ghost use Rattle.std.specs.Prelude.{◌≡◌, ◌+◌, ◌-◌, ◌<◌, ◌≤◌, ◌⊎◌, length, vec_len, vec_capacity};
+ghost use Rattle.std.specs.Prelude.{◌≡◌, ◌+◌, ◌-◌, ◌<◌, ◌≤◌, ◌⊎◌, length};
 ghost use Rattle.rd_tree.specs.Forest.{empty};
 ghost use Rattle.rd_tree.specs.Internal.Summaries.{summary_first, summary_at};
+ghost use Rattle.rd_tree.specs.Internal.Cells.{HasRowRoom};
 ghost use Rattle.rd_tree.specs.Internal.Rows.{Puts, IsMarkable, alone, with_child_count, with_hull, marked, unmarked};
 
+use crate::table::rows::Table;
 use rd_geom::Rect;
 use rd_keys::BoxKey;
 
@@ -39,54 +41,54 @@ pub(crate) fn summary_alone(hull: Rect) -> Summary
 
 /// The row of a box.
 #[inline(always)]
-pub(crate) fn row_at(table: &[Summary], key: BoxKey) -> Summary
-    requires { key.slot < length table.now }
-    ensures { result ≡ summary_at table.now key }
+pub(crate) fn row_at(table: &Table, key: BoxKey) -> Summary
+    requires { key.slot < length table.now.rows }
+    ensures { result ≡ summary_at table.now.rows key }
 {
-    table[key.slot() as usize]
+    *table.at(key.slot() as usize)
 }
 
 /// The row of a box, where it stands.
 #[inline(always)]
-pub(crate) fn row_of(table: &[Summary], key: BoxKey) -> &Summary
-    requires { key.slot < length table.now }
-    ensures { result.now ≡ summary_at table.now key }
+pub(crate) fn row_of(table: &Table, key: BoxKey) -> &Summary
+    requires { key.slot < length table.now.rows }
+    ensures { result.now ≡ summary_at table.now.rows key }
 {
-    &table[key.slot() as usize]
+    table.at(key.slot() as usize)
 }
 
 /// Writes the row of a slot that has one.
-pub(crate) fn write(table: &mut Vec<Summary>, key: BoxKey, row: Summary)
-    requires { key.slot < length table.old.items }
-    ensures rows { Puts table.old.items table.new.items key row }
-    ensures same_length { length table.new.items ≡ length table.old.items }
+pub(crate) fn write(table: &mut Table, key: BoxKey, row: Summary)
+    requires { key.slot < length table.old.rows }
+    ensures rows { Puts table.old.rows table.new.rows key row }
+    ensures same_length { length table.new.rows ≡ length table.old.rows }
 {
-    table[key.slot() as usize] = row;
+    table.write(key.slot() as usize, row);
 }
 
 /// Writes the row of a slot that has one, or of the next one.
-pub(crate) fn put(table: &mut Vec<Summary>, key: BoxKey, row: Summary)
-    requires { (key.slot < length table.old.items) ⊎ ((key.slot ≡ length table.old.items)
-        × (vec_len table.old < vec_capacity table.old)) }
-    ensures rows { Puts table.old.items table.new.items key row }
-    ensures there { key.slot < length table.new.items }
-    ensures longer { length table.old.items ≤ length table.new.items }
-    ensures by_one { length table.new.items ≤ length table.old.items + 1 }
+pub(crate) fn put(table: &mut Table, key: BoxKey, row: Summary)
+    requires { (key.slot < length table.old.rows) ⊎ ((key.slot ≡ length table.old.rows)
+        × (HasRowRoom table.old)) }
+    ensures rows { Puts table.old.rows table.new.rows key row }
+    ensures there { key.slot < length table.new.rows }
+    ensures longer { length table.old.rows ≤ length table.new.rows }
+    ensures by_one { length table.new.rows ≤ length table.old.rows + 1 }
 {
     if (key.slot() as usize) < table.len() {
         write(table, key, row);
     } else {
-        table.push_reserved(row);
+        table.push(row);
     }
 }
 
 /// One child more.
-pub(crate) fn add_child(table: &mut Vec<Summary>, key: BoxKey)
-    requires here { key.slot < length table.old.items }
-    requires few { (summary_at table.old.items key).children < 4294967295 }
-    ensures rows { Puts table.old.items table.new.items key (with_child_count ((summary_at
-        table.old.items key).children + 1) (summary_at table.old.items key)) }
-    ensures same_length { length table.new.items ≡ length table.old.items }
+pub(crate) fn add_child(table: &mut Table, key: BoxKey)
+    requires here { key.slot < length table.old.rows }
+    requires few { (summary_at table.old.rows key).children < 4294967295 }
+    ensures rows { Puts table.old.rows table.new.rows key (with_child_count ((summary_at
+        table.old.rows key).children + 1) (summary_at table.old.rows key)) }
+    ensures same_length { length table.new.rows ≡ length table.old.rows }
 {
     let mut row = row_at(table, key);
     row.children += 1;
@@ -94,12 +96,12 @@ pub(crate) fn add_child(table: &mut Vec<Summary>, key: BoxKey)
 }
 
 /// One child less.
-pub(crate) fn drop_child(table: &mut Vec<Summary>, key: BoxKey)
-    requires here { key.slot < length table.old.items }
-    requires some { 0 < (summary_at table.old.items key).children }
-    ensures rows { Puts table.old.items table.new.items key (with_child_count ((summary_at
-        table.old.items key).children - 1) (summary_at table.old.items key)) }
-    ensures same_length { length table.new.items ≡ length table.old.items }
+pub(crate) fn drop_child(table: &mut Table, key: BoxKey)
+    requires here { key.slot < length table.old.rows }
+    requires some { 0 < (summary_at table.old.rows key).children }
+    ensures rows { Puts table.old.rows table.new.rows key (with_child_count ((summary_at
+        table.old.rows key).children - 1) (summary_at table.old.rows key)) }
+    ensures same_length { length table.new.rows ≡ length table.old.rows }
 {
     let mut row = row_at(table, key);
     row.children -= 1;
@@ -107,12 +109,12 @@ pub(crate) fn drop_child(table: &mut Vec<Summary>, key: BoxKey)
 }
 
 /// So many touched boxes less below a box, and so many more.
-pub(crate) fn mark(table: &mut Vec<Summary>, key: BoxKey, less: u32, more: u32)
-    requires here { key.slot < length table.old.items }
-    requires markable { IsMarkable less more (summary_at table.old.items key) }
-    ensures rows { Puts table.old.items table.new.items key (marked less more (summary_at
-        table.old.items key)) }
-    ensures same_length { length table.new.items ≡ length table.old.items }
+pub(crate) fn mark(table: &mut Table, key: BoxKey, less: u32, more: u32)
+    requires here { key.slot < length table.old.rows }
+    requires markable { IsMarkable less more (summary_at table.old.rows key) }
+    ensures rows { Puts table.old.rows table.new.rows key (marked less more (summary_at
+        table.old.rows key)) }
+    ensures same_length { length table.new.rows ≡ length table.old.rows }
 {
     let mut row = row_at(table, key);
     row.touched = row.touched - less + more;
@@ -120,11 +122,11 @@ pub(crate) fn mark(table: &mut Vec<Summary>, key: BoxKey, less: u32, more: u32)
 }
 
 /// Gives a box another hull.
-pub(crate) fn put_hull(table: &mut Vec<Summary>, key: BoxKey, hull: Rect)
-    requires { key.slot < length table.old.items }
-    ensures rows { Puts table.old.items table.new.items key (with_hull hull (summary_at
-        table.old.items key)) }
-    ensures same_length { length table.new.items ≡ length table.old.items }
+pub(crate) fn put_hull(table: &mut Table, key: BoxKey, hull: Rect)
+    requires { key.slot < length table.old.rows }
+    ensures rows { Puts table.old.rows table.new.rows key (with_hull hull (summary_at
+        table.old.rows key)) }
+    ensures same_length { length table.new.rows ≡ length table.old.rows }
 {
     let mut row = row_at(table, key);
     row.hull = hull;
@@ -133,14 +135,14 @@ pub(crate) fn put_hull(table: &mut Vec<Summary>, key: BoxKey, hull: Rect)
 
 /// No touched box is below a box any more, below which there were so many.
 #[inline(always)]
-pub(crate) fn unmark(table: &mut Vec<Summary>, key: BoxKey, were: u32)
-    requires here { key.slot < length table.old.items }
-    requires were { (summary_at table.old.items key).touched ≡ were }
-    ensures rows { Puts table.old.items table.new.items key (unmarked (summary_at table.old.items
+pub(crate) fn unmark(table: &mut Table, key: BoxKey, were: u32)
+    requires here { key.slot < length table.old.rows }
+    requires were { (summary_at table.old.rows key).touched ≡ were }
+    ensures rows { Puts table.old.rows table.new.rows key (unmarked (summary_at table.old.rows
         key)) }
-    ensures same_length { length table.new.items ≡ length table.old.items }
+    ensures same_length { length table.new.rows ≡ length table.old.rows }
 {
     if were > 0 {
-        table[key.slot() as usize].touched = 0;
+        table.unmark(key.slot() as usize);
     }
 }

@@ -11,7 +11,8 @@ ghost use Rattle.rd_tree.specs.Internal.Rows.{HasRows, touched_under};
 ghost use Rattle.rd_tree.specs.Internal.Settles.{HasCounts, Unmarks};
 
 use crate::held::Nodes;
-use crate::table::row::{Summary, row_at, unmark};
+use crate::table::row::{row_at, unmark};
+use crate::table::rows::Table;
 use rd_keys::BoxKey;
 
 /// The box, where some of these marks are left.
@@ -53,15 +54,15 @@ fn settle_on(nodes: &mut Nodes, key: BoxKey) -> Settled
 /// Takes so many marks off some siblings and off those below them, where there are any.
 #[cycle(settling)]
 #[inline(always)]
-fn settle_below(nodes: &mut Nodes, table: &mut Vec<Summary>, first: Option<BoxKey>, marks: u32)
+fn settle_below(nodes: &mut Nodes, table: &mut Table, first: Option<BoxKey>, marks: u32)
     requires read { IsRead nodes.old first }
-    requires has_rows { HasRows table.old.items (seen_from nodes.old first) }
-    requires counted { HasCounts table.old.items (seen_from nodes.old first) }
+    requires has_rows { HasRows table.old.rows (seen_from nodes.old first) }
+    requires counted { HasCounts table.old.rows (seen_from nodes.old first) }
     requires marks { marks ≡ touched_in (seen_from nodes.old first) }
     ensures settled { Relinks nodes.old nodes.new (on_each (λ j. has same_key j
         (seen_from nodes.old first)) settled (linked nodes.old)) }
-    ensures rows { Unmarks nodes.old table.old.items table.new.items (seen_from nodes.old first) }
-    ensures same_length { length table.new.items ≡ length table.old.items }
+    ensures rows { Unmarks nodes.old table.old.rows table.new.rows (seen_from nodes.old first) }
+    ensures same_length { length table.new.rows ≡ length table.old.rows }
 {
     match first {
         Some(_) => settle_from(nodes, table, first, marks),
@@ -72,20 +73,15 @@ fn settle_below(nodes: &mut Nodes, table: &mut Vec<Summary>, first: Option<BoxKe
 /// Takes so many marks off a box, off those below it, and off its later siblings with theirs; these are all that they have.
 /// Goes below a box only where one of those there is touched, and to no sibling once all marks are off.
 #[cycle(settling)]
-pub(crate) fn settle_from(
-    nodes: &mut Nodes,
-    table: &mut Vec<Summary>,
-    first: Option<BoxKey>,
-    marks: u32,
-)
+pub(crate) fn settle_from(nodes: &mut Nodes, table: &mut Table, first: Option<BoxKey>, marks: u32)
     requires read { IsRead nodes.old first }
-    requires has_rows { HasRows table.old.items (seen_from nodes.old first) }
-    requires counted { HasCounts table.old.items (seen_from nodes.old first) }
+    requires has_rows { HasRows table.old.rows (seen_from nodes.old first) }
+    requires counted { HasCounts table.old.rows (seen_from nodes.old first) }
     requires marks { marks ≡ touched_in (seen_from nodes.old first) }
     ensures settled { Relinks nodes.old nodes.new (on_each (λ j. has same_key j
         (seen_from nodes.old first)) settled (linked nodes.old)) }
-    ensures rows { Unmarks nodes.old table.old.items table.new.items (seen_from nodes.old first) }
-    ensures same_length { length table.new.items ≡ length table.old.items }
+    ensures rows { Unmarks nodes.old table.old.rows table.new.rows (seen_from nodes.old first) }
+    ensures same_length { length table.new.rows ≡ length table.old.rows }
 {
     let mut left = marks;
     let mut at = where_left(left, first);

@@ -1,4 +1,3 @@
-use Rattle.std.proofs.Common.{◌≡◌}
 use Rattle.rd_tree.proofs.Redrawn.{put_far}
 use Rattle.rd_tree.proofs.redrawing.draw_at.Goals as goal
 

@@ -2,7 +2,7 @@ use Rattle.std.proofs.Common.{ap, ◌∙◌, refl, length, arith}
 use Rattle.std.specs.Prelude.{None, option_map, nat_lt}
 use Rattle.rd_keys.specs.Keys.{same_key}
 use Rattle.rd_tree.specs.declared.table.row.Summary.{Summary}
-use Rattle.rd_tree.specs.Internal.Summaries.{summary_of, summary_at}
+use Rattle.rd_tree.specs.Internal.Summaries.{summary_of}
 use Rattle.rd_tree.specs.Internal.Linked.{shown_of, seen}
 use Rattle.rd_tree.specs.Forest.{starting_at}
 use Rattle.rd_tree.specs.Internal.Blending.{blends_first, count_at}
@@ -15,7 +15,6 @@ use Rattle.rd_tree.proofs.drawn_tree.DrawnTree.look.Goals as goal
 pub row_at-row-requires : goal.row_at-row-requires
 row_at-row-requires g c = omega (
   arith,
-  ap length c.deref.ensures.value,
   c.self.invariant.table.all_rows,
   glance_within c.self.inside.nodes c.args.key c.in-Some.glance c.in-Some.ensures,
 )
@@ -24,8 +23,8 @@ pub returns-in-Some-clause-seen : goal.returns-in-Some-clause-seen
 returns-in-Some-clause-seen g c =
     rw (← c.self.view_is) (c.view_at.ensures ∙ looks c.self.inside.nodes c.self.inside.root c.args.key c.row_at-row.result
     c.blends_at-blend.result c.self.invariant.sound.tree (λ m. c.row_at-row.ensures
-    ∙ (ap (λ rows. summary_at rows c.args.key) c.deref.ensures.value ∙ c.self.invariant.table.right c.args.key m))
-    (λ m. c.blends_at-blend.ensures ∙ (ap (λ rows. nat_lt 0 (count_at rows c.args.key)) c.deref-in-Some.ensures.value
+    ∙ (c.self.invariant.table.right c.args.key m))
+    (λ m. c.blends_at-blend.ensures ∙ (ap (λ rows. nat_lt 0 (count_at rows c.args.key)) c.deref.ensures.value
     ∙ blends_here (count_at c.self.inside.blends.items) c.args.key (seen c.self.inside.nodes c.self.inside.root) c.self.invariant.blending.right m)))
 
 pub returns-in-Some-clause-apart : goal.returns-in-Some-clause-apart
@@ -52,7 +51,7 @@ returns-in-None-clause-limits g c = rw (← c.self.view_is) (fits_seen c.self.in
 pub blends_at-blend-requires : goal.blends_at-blend-requires
 blends_at-blend-requires g c = omega (
   arith,
-  ap length c.deref-in-Some.ensures.value,
+  ap length c.deref.ensures.value,
   c.self.invariant.blending.all_rows,
   glance_within c.self.inside.nodes c.args.key c.in-Some.glance c.in-Some.ensures,
 )

@@ -9,7 +9,6 @@ use Rattle.rd_tree.specs.Internal.Works.{AllowsAt}
 use Rattle.rd_tree.specs.Forest.{has, without_branch}
 use Rattle.rd_tree.specs.Internal.Linked.{IsConsistent, linked, marks, seen}
 use Rattle.rd_tree.specs.Internal.Blending.{IsBlending, given_under, count_at}
-use Rattle.rd_tree.specs.Internal.Summaries.{summary_at}
 use Rattle.rd_tree.specs.Internal.Renews.{IsRightIn, KeepsOutside}
 use Rattle.rd_tree.specs.Internal.Reaching.{moved}
 use Rattle.rd_tree.proofs.Nodes.Each.{under_box, all_items}
@@ -38,8 +37,8 @@ unreachable-requires g c =
 
 pub whole_of-old-requires-clause-few : goal.whole_of-old-requires-clause-few
 whole_of-old-requires-clause-few g c = few_touched c.self.inside.nodes c.self.inside.root (seen c.self.inside.nodes c.self.inside.root) (seen_stands
-    c.self.inside.nodes c.self.inside.root c.self.invariant.sound.tree) c.args.key (rw (← c.self.view_is) at c.requires.live) c.deref.result.now
-    (ap (λ r. summary_at r c.args.key) c.deref.ensures.value ∙ c.self.invariant.table.right c.args.key (rw (← c.self.view_is) at c.requires.live))
+    c.self.inside.nodes c.self.inside.root c.self.invariant.sound.tree) c.args.key (rw (← c.self.view_is) at c.requires.live) c.self.inside.table.rows
+    (c.self.invariant.table.right c.args.key (rw (← c.self.view_is) at c.requires.live))
     c.self.invariant.sound.limit
 
 pub work_below-requires-clause-read : goal.work_below-requires-clause-read
@@ -57,7 +56,7 @@ pub renew-requires : goal.renew-requires
 renew-requires g c =
     let up = is_parent c.self.inside.nodes c.self.inside.root c.args.key c.in-Some.up c.self.invariant.sound.tree (rw (← c.self.view_is) at
     c.requires.live) (rw (← c.self.view_is) at c.requires.below) (sym c.in-Some.is ∙ c.parent_of.ensures) in
-    touched_climbs c.self.inside.nodes c.work_below.new.nodes c.self.inside.root c.args.key c.in-Some.up c.self.inside.ids c.self.inside.table.items
+    touched_climbs c.self.inside.nodes c.work_below.new.nodes c.self.inside.root c.args.key c.in-Some.up c.self.inside.ids c.self.inside.table.rows
     c.self.invariant.sound (rw (← c.self.view_is) at c.requires.live) (rw (← c.self.view_is) at c.requires.below) c.work_below.ensures
     c.self.invariant.table up
 
@@ -66,42 +65,42 @@ whole_of-new-requires-clause-few g c =
     let up = is_parent c.self.inside.nodes c.self.inside.root c.args.key c.in-Some.up c.self.invariant.sound.tree (rw (← c.self.view_is) at
     c.requires.live) (rw (← c.self.view_is) at c.requires.below) (sym c.in-Some.is ∙ c.parent_of.ensures) in
     let stands = touched_stands c.self.inside.nodes c.work_below.new.nodes c.self.inside.root c.args.key c.in-Some.up c.self.inside.ids
-    c.self.inside.table.items c.self.invariant.sound (rw (← c.self.view_is) at c.requires.live) (rw (← c.self.view_is) at
+    c.self.inside.table.rows c.self.invariant.sound (rw (← c.self.view_is) at c.requires.live) (rw (← c.self.view_is) at
     c.requires.below) c.work_below.ensures c.self.invariant.table up in
     let there = still_there c.self.inside.nodes c.work_below.new.nodes c.self.inside.root c.args.key c.in-Some.up c.self.inside.ids
-    c.self.inside.table.items c.self.invariant.sound (rw (← c.self.view_is) at c.requires.live) (rw (← c.self.view_is) at
+    c.self.inside.table.rows c.self.invariant.sound (rw (← c.self.view_is) at c.requires.live) (rw (← c.self.view_is) at
     c.requires.below) c.work_below.ensures c.self.invariant.table up in
-    let within : IsRightIn c.renew.new.table.items (seen c.work_below.new.nodes c.self.inside.root) c.args.key = c.renew.ensures.right c.self.inside.root
+    let within : IsRightIn c.renew.new.table.rows (seen c.work_below.new.nodes c.self.inside.root) c.args.key = c.renew.ensures.right c.self.inside.root
     (seen c.work_below.new.nodes c.self.inside.root) stands there tt in
-    few_touched c.work_below.new.nodes c.self.inside.root (seen c.work_below.new.nodes c.self.inside.root) stands c.args.key there c.deref-2.result.now
-    (ap (λ r. summary_at r c.args.key) c.deref-2.ensures.value ∙ within c.args.key (above_self c.work_below.new.nodes c.self.inside.root
+    few_touched c.work_below.new.nodes c.self.inside.root (seen c.work_below.new.nodes c.self.inside.root) stands c.args.key there c.renew.new.table.rows
+    (within c.args.key (above_self c.work_below.new.nodes c.self.inside.root
     (seen c.work_below.new.nodes c.self.inside.root) stands c.args.key there)) (touched_limit c.self.inside.nodes c.work_below.new.nodes
-    c.self.inside.root c.args.key c.in-Some.up c.self.inside.ids c.self.inside.table.items c.self.invariant.sound (rw (← c.self.view_is)
+    c.self.inside.root c.args.key c.in-Some.up c.self.inside.ids c.self.inside.table.rows c.self.invariant.sound (rw (← c.self.view_is)
     at c.requires.live) (rw (← c.self.view_is) at c.requires.below) c.work_below.ensures c.self.invariant.table up)
 
 -- The branch has left its place.
 left_here : (g : Over) (c : After-unlink g) → IsLeft c.unlink.new.nodes c.self.inside.root c.in-Some.up (without_branch same_key c.args.key (seen c.work_below.new.nodes
-    c.self.inside.root)) c.renew.new.table.items c.whole_of-old.result
+    c.self.inside.root)) c.renew.new.table.rows c.whole_of-old.result
 left_here g c =
     let up = is_parent c.self.inside.nodes c.self.inside.root c.args.key c.in-Some.up c.self.invariant.sound.tree (rw (← c.self.view_is) at
     c.requires.live) (rw (← c.self.view_is) at c.requires.below) (sym c.in-Some.is ∙ c.parent_of.ensures) in
     let stands = touched_stands c.self.inside.nodes c.work_below.new.nodes c.self.inside.root c.args.key c.in-Some.up c.self.inside.ids
-    c.self.inside.table.items c.self.invariant.sound (rw (← c.self.view_is) at c.requires.live) (rw (← c.self.view_is) at
+    c.self.inside.table.rows c.self.invariant.sound (rw (← c.self.view_is) at c.requires.live) (rw (← c.self.view_is) at
     c.requires.below) c.work_below.ensures c.self.invariant.table up in
     let there = still_there c.self.inside.nodes c.work_below.new.nodes c.self.inside.root c.args.key c.in-Some.up c.self.inside.ids
-    c.self.inside.table.items c.self.invariant.sound (rw (← c.self.view_is) at c.requires.live) (rw (← c.self.view_is) at
+    c.self.inside.table.rows c.self.invariant.sound (rw (← c.self.view_is) at c.requires.live) (rw (← c.self.view_is) at
     c.requires.below) c.work_below.ensures c.self.invariant.table up in
-    let within : IsRightIn c.renew.new.table.items (seen c.work_below.new.nodes c.self.inside.root) c.args.key = c.renew.ensures.right c.self.inside.root
+    let within : IsRightIn c.renew.new.table.rows (seen c.work_below.new.nodes c.self.inside.root) c.args.key = c.renew.ensures.right c.self.inside.root
     (seen c.work_below.new.nodes c.self.inside.root) stands there tt in
-    let outer : KeepsOutside c.work_below.new.nodes (seen c.work_below.new.nodes c.self.inside.root) c.self.inside.table.items c.renew.new.table.items
+    let outer : KeepsOutside c.work_below.new.nodes (seen c.work_below.new.nodes c.self.inside.root) c.self.inside.table.rows c.renew.new.table.rows
     c.args.key = c.renew.ensures.others c.self.inside.root (seen c.work_below.new.nodes c.self.inside.root) stands there in
-    touched_left c.self.inside.nodes c.work_below.new.nodes c.self.inside.root c.args.key c.in-Some.up c.self.inside.ids c.self.inside.table.items
+    touched_left c.self.inside.nodes c.work_below.new.nodes c.self.inside.root c.args.key c.in-Some.up c.self.inside.ids c.self.inside.table.rows
     c.self.invariant.sound (rw (← c.self.view_is) at c.requires.live) (rw (← c.self.view_is) at c.requires.below) c.work_below.ensures
     c.self.invariant.table up
-    c.unlink.new.nodes c.renew.new.table.items c.unlink.ensures within outer c.renew.ensures.same_length
+    c.unlink.new.nodes c.renew.new.table.rows c.unlink.ensures within outer c.renew.ensures.same_length
     c.whole_of-old.result (c.whole_of-old.ensures ∙ whole_is c.self.inside.nodes c.self.inside.root (seen c.self.inside.nodes c.self.inside.root)
     (seen_stands c.self.inside.nodes c.self.inside.root c.self.invariant.sound.tree) c.args.key (rw (← c.self.view_is) at c.requires.live)
-    c.deref.result.now (ap (λ r. summary_at r c.args.key) c.deref.ensures.value ∙ c.self.invariant.table.right c.args.key (rw (← c.self.view_is) at
+    c.self.inside.table.rows (c.self.invariant.table.right c.args.key (rw (← c.self.view_is) at
     c.requires.live)))
 
 pub lose-requires : goal.lose-requires
@@ -123,11 +122,11 @@ owing_there g c =
     c.self.inside.nodes c.work_below.new.nodes c.self.inside.blends.items Subtree c.args.key (seen c.self.inside.nodes c.self.inside.root)
     (seen c.work_below.new.nodes c.self.inside.root) s1.1 c.work_below.ensures.same_slots c.self.invariant.blending in
     let there = still_there c.self.inside.nodes c.work_below.new.nodes c.self.inside.root c.args.key c.in-Some.up c.self.inside.ids
-    c.self.inside.table.items c.self.invariant.sound live below c.work_below.ensures c.self.invariant.table up in
+    c.self.inside.table.rows c.self.invariant.sound live below c.work_below.ensures c.self.invariant.table up in
     let parent = still_parent c.self.inside.nodes c.work_below.new.nodes c.self.inside.root c.args.key c.in-Some.up c.self.inside.ids
-    c.self.inside.table.items c.self.invariant.sound live below c.work_below.ensures c.self.invariant.table up in
+    c.self.inside.table.rows c.self.invariant.sound live below c.work_below.ensures c.self.invariant.table up in
     let e : c.given_at-layers.result ≡ given_under (linked c.work_below.new.nodes c.args.key) (count_at c.self.inside.blends.items c.args.key) =
-    c.given_at-layers.ensures ∙ ap (λ r. given_under (linked c.work_below.new.nodes c.args.key) (count_at r c.args.key)) c.deref-3.ensures.value in (
+    c.given_at-layers.ensures ∙ ap (λ r. given_under (linked c.work_below.new.nodes c.args.key) (count_at r c.args.key)) c.deref.ensures.value in (
       s1.0,
       near,
       e,
@@ -141,28 +140,28 @@ recount-requires g c = (owing_there g (goal.at.recount-requires g c).After-lose)
 pub given_at-layers-requires : goal.given_at-layers-requires
 given_at-layers-requires g c =
     let live : has same_key c.args.key (seen c.self.inside.nodes c.self.inside.root) ≡ true = rw (← c.self.view_is) at c.requires.live in
-    rw c.deref-3.ensures.value (each_has_count c.self.inside.nodes c.self.inside.root (seen c.self.inside.nodes c.self.inside.root)
+    rw c.deref.ensures.value (each_has_count c.self.inside.nodes c.self.inside.root (seen c.self.inside.nodes c.self.inside.root)
     c.self.inside.blends.items (seen_stands c.self.inside.nodes c.self.inside.root c.self.invariant.sound.tree) c.self.invariant.blending.all_rows
     c.args.key live)
 
 -- The branch has come to its new place.
 landed_here : (g : Over) (c : After-graft g) → IsLeft c.unlink.new.nodes c.self.inside.root c.in-Some.up (without_branch same_key c.args.key (seen c.work_below.new.nodes
-    c.self.inside.root)) c.renew.new.table.items c.whole_of-old.result
+    c.self.inside.root)) c.renew.new.table.rows c.whole_of-old.result
     → (IsConsistent c.graft.new.nodes c.self.inside.root c.self.inside.ids × (seen c.graft.new.nodes c.self.inside.root
     ≡ moved c.args.key c.args.parent c.args.before (seen c.self.inside.nodes c.self.inside.root)) × (marks c.graft.new.nodes
-    ≡ marks c.self.inside.nodes)) × IsLanded c.graft.new.nodes c.self.inside.root c.args.parent c.lose.new.table.items c.whole_of-new.result
+    ≡ marks c.self.inside.nodes)) × IsLanded c.graft.new.nodes c.self.inside.root c.args.parent c.lose.new.table.rows c.whole_of-new.result
 landed_here g c left =
     let up = is_parent c.self.inside.nodes c.self.inside.root c.args.key c.in-Some.up c.self.invariant.sound.tree (rw (← c.self.view_is) at
     c.requires.live) (rw (← c.self.view_is) at c.requires.below) (sym c.in-Some.is ∙ c.parent_of.ensures) in
     let stands = touched_stands c.self.inside.nodes c.work_below.new.nodes c.self.inside.root c.args.key c.in-Some.up c.self.inside.ids
-    c.self.inside.table.items c.self.invariant.sound (rw (← c.self.view_is) at c.requires.live) (rw (← c.self.view_is) at
+    c.self.inside.table.rows c.self.invariant.sound (rw (← c.self.view_is) at c.requires.live) (rw (← c.self.view_is) at
     c.requires.below) c.work_below.ensures c.self.invariant.table up in
     let there = still_there c.self.inside.nodes c.work_below.new.nodes c.self.inside.root c.args.key c.in-Some.up c.self.inside.ids
-    c.self.inside.table.items c.self.invariant.sound (rw (← c.self.view_is) at c.requires.live) (rw (← c.self.view_is) at
+    c.self.inside.table.rows c.self.invariant.sound (rw (← c.self.view_is) at c.requires.live) (rw (← c.self.view_is) at
     c.requires.below) c.work_below.ensures c.self.invariant.table up in
-    let within : IsRightIn c.renew.new.table.items (seen c.work_below.new.nodes c.self.inside.root) c.args.key = c.renew.ensures.right c.self.inside.root
+    let within : IsRightIn c.renew.new.table.rows (seen c.work_below.new.nodes c.self.inside.root) c.args.key = c.renew.ensures.right c.self.inside.root
     (seen c.work_below.new.nodes c.self.inside.root) stands there tt in
-    let outer : KeepsOutside c.work_below.new.nodes (seen c.work_below.new.nodes c.self.inside.root) c.self.inside.table.items c.renew.new.table.items
+    let outer : KeepsOutside c.work_below.new.nodes (seen c.work_below.new.nodes c.self.inside.root) c.self.inside.table.rows c.renew.new.table.rows
     c.args.key = c.renew.ensures.others c.self.inside.root (seen c.work_below.new.nodes c.self.inside.root) stands there in
     let t : IsConsistent c.graft.new.nodes c.self.inside.root c.self.inside.ids × (seen c.graft.new.nodes c.self.inside.root
     ≡ moved c.args.key c.args.parent c.args.before (seen c.self.inside.nodes c.self.inside.root)) × (marks c.graft.new.nodes
@@ -176,16 +175,15 @@ landed_here g c left =
     left.there left.loses in
     let others = c.lose.ensures.others c.self.inside.root (without_branch same_key c.args.key (seen c.work_below.new.nodes c.self.inside.root)) left.stands
     left.there in
-    let land : IsLanded c.graft.new.nodes c.self.inside.root c.args.parent c.lose.new.table.items c.whole_of-new.result =
-    landed c.self.inside.nodes c.work_below.new.nodes c.self.inside.root c.args.key c.in-Some.up c.self.inside.ids c.self.inside.table.items
+    let land : IsLanded c.graft.new.nodes c.self.inside.root c.args.parent c.lose.new.table.rows c.whole_of-new.result =
+    landed c.self.inside.nodes c.work_below.new.nodes c.self.inside.root c.args.key c.in-Some.up c.self.inside.ids c.self.inside.table.rows
     c.self.invariant.sound (rw (← c.self.view_is) at c.requires.live) (rw (← c.self.view_is) at c.requires.below) c.work_below.ensures
     c.self.invariant.table up
-    c.unlink.new.nodes c.renew.new.table.items c.unlink.ensures within outer c.renew.ensures.same_length
+    c.unlink.new.nodes c.renew.new.table.rows c.unlink.ensures within outer c.renew.ensures.same_length
     c.args.parent c.args.before (rw (← c.self.view_is) at c.requires.parent) (rw (← c.self.view_is) at c.requires.outside) (rw (← c.self.view_is) at
-    c.requires.place) c.requires.other c.graft.new.nodes c.lose.new.table.items left.there right others c.lose.ensures.same_length t.0 t.1 t.2
+    c.requires.place) c.requires.other c.graft.new.nodes c.lose.new.table.rows left.there right others c.lose.ensures.same_length t.0 t.1 t.2
     c.whole_of-new.result (c.whole_of-new.ensures ∙ whole_is c.work_below.new.nodes c.self.inside.root (seen c.work_below.new.nodes c.self.inside.root)
-    stands c.args.key there c.deref-2.result.now (ap (λ r. summary_at r c.args.key) c.deref-2.ensures.value
-    ∙ within c.args.key (above_self c.work_below.new.nodes c.self.inside.root (seen c.work_below.new.nodes c.self.inside.root) stands c.args.key
+    stands c.args.key there c.renew.new.table.rows (within c.args.key (above_self c.work_below.new.nodes c.self.inside.root (seen c.work_below.new.nodes c.self.inside.root) stands c.args.key
     there))) in
     (t, land)
 
@@ -207,15 +205,15 @@ owing_here g c w t =
     let up = is_parent c.self.inside.nodes c.self.inside.root c.args.key c.in-Some.up c.self.invariant.sound.tree live below (sym c.in-Some.is
     ∙ c.parent_of.ensures) in
     let there = still_there c.self.inside.nodes c.work_below.new.nodes c.self.inside.root c.args.key c.in-Some.up c.self.inside.ids
-    c.self.inside.table.items c.self.invariant.sound live below c.work_below.ensures c.self.invariant.table up in
+    c.self.inside.table.rows c.self.invariant.sound live below c.work_below.ensures c.self.invariant.table up in
     let parent = still_in c.self.inside.nodes c.work_below.new.nodes c.self.inside.root c.args.key c.in-Some.up c.self.inside.ids
-    c.self.inside.table.items c.self.invariant.sound live below c.work_below.ensures c.self.invariant.table up c.args.parent (rw (← c.self.view_is) at
+    c.self.inside.table.rows c.self.invariant.sound live below c.work_below.ensures c.self.invariant.table up c.args.parent (rw (← c.self.view_is) at
     c.requires.parent) in
     let outside = still_outside c.self.inside.nodes c.work_below.new.nodes c.self.inside.root c.args.key c.in-Some.up c.self.inside.ids
-    c.self.inside.table.items c.self.invariant.sound live below c.work_below.ensures c.self.invariant.table up c.args.parent (rw (← c.self.view_is) at
+    c.self.inside.table.rows c.self.invariant.sound live below c.work_below.ensures c.self.invariant.table up c.args.parent (rw (← c.self.view_is) at
     c.requires.outside) in
     let sees = sees_moved c.self.inside.nodes c.work_below.new.nodes c.self.inside.root c.args.key c.in-Some.up c.self.inside.ids
-    c.self.inside.table.items c.self.invariant.sound live below c.work_below.ensures c.self.invariant.table up c.graft.new.nodes c.args.parent
+    c.self.inside.table.rows c.self.invariant.sound live below c.work_below.ensures c.self.invariant.table up c.graft.new.nodes c.args.parent
     c.args.before t.1 in
     let left = w.3.done c.recount.new.counts.items c.recount.ensures.right in
     let kept = c.recount.ensures.others c.self.inside.root (without_branch same_key c.args.key (seen c.work_below.new.nodes c.self.inside.root)) w.3.stands
@@ -247,7 +245,7 @@ invariant_of-self g c =
         all_rows = omega (arith, w.1, c.recount-2.ensures.same_length);
         right = w.0.done c.recount-2.new.counts.items c.recount-2.ensures.right;
       };
-      table = came.1.table c.gain.new.table.items c.gain.ensures.same_length (c.gain.ensures.right c.self.inside.root (seen c.graft.new.nodes
+      table = came.1.table c.gain.new.table.rows c.gain.ensures.same_length (c.gain.ensures.right c.self.inside.root (seen c.graft.new.nodes
           c.self.inside.root) (seen_stands c.graft.new.nodes c.self.inside.root came.0.0.tree) came.1.there came.1.gains);
       shallow = shallow_moved c.args.key c.args.parent c.args.before (seen c.self.inside.nodes c.self.inside.root) (seen c.graft.new.nodes
           c.self.inside.root) came.0.1 (apart_seen c.self.inside.nodes c.self.inside.root c.self.invariant.sound.tree)
@@ -268,8 +266,8 @@ returns g c =
     by_that _ _ _ (reached-moving c.args.key c.args.parent c.args.before c.args.self.now) (rw (← c.self.view_is, t.1, t.2) refl)
 
 pub whole_of-old-requires-clause-here : goal.whole_of-old-requires-clause-here
-whole_of-old-requires-clause-here g c = rw c.deref.ensures.value (row_here c.self.inside.nodes c.self.inside.root c.args.key c.self.inside.ids
-    c.self.invariant.sound (rw (← c.self.view_is) at c.requires.live) c.self.inside.table.items c.self.invariant.table)
+whole_of-old-requires-clause-here g c = (row_here c.self.inside.nodes c.self.inside.root c.args.key c.self.inside.ids
+    c.self.invariant.sound (rw (← c.self.view_is) at c.requires.live) c.self.inside.table.rows c.self.invariant.table)
 
 -- Any box may be touched.
 touch_allowed : (o : Option (Node BoxKey Item)) → AllowsAt Touch o
@@ -280,5 +278,5 @@ pub work_below-requires-clause-here : goal.work_below-requires-clause-here
 work_below-requires-clause-here g c = touch_allowed (linked c.self.inside.nodes c.args.key)
 
 pub whole_of-new-requires-clause-here : goal.whole_of-new-requires-clause-here
-whole_of-new-requires-clause-here g c = rw (c.deref-2.ensures.value, c.renew.ensures.same_length) (row_here c.self.inside.nodes c.self.inside.root c.args.key
-    c.self.inside.ids c.self.invariant.sound (rw (← c.self.view_is) at c.requires.live) c.self.inside.table.items c.self.invariant.table)
+whole_of-new-requires-clause-here g c = rw c.renew.ensures.same_length (row_here c.self.inside.nodes c.self.inside.root c.args.key
+    c.self.inside.ids c.self.invariant.sound (rw (← c.self.view_is) at c.requires.live) c.self.inside.table.rows c.self.invariant.table)

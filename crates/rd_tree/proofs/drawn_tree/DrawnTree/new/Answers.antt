@@ -25,7 +25,7 @@ invariant_of-result g c =
     (live-enters c.new-nodes.result c.add.new.nodes c.in_ok-root.root.slot c.in_ok-root.root.generation (alone d) c.in_ok-root.ensures.stored)
     (occupied-enters c.new-nodes.result c.add.new.nodes c.in_ok-root.root.slot c.in_ok-root.root.generation (alone d) c.in_ok-root.ensures.stored)
     (no_text c.new-ids.result c.new-ids.ensures.empty) c.in_ok-root.ensures.listed in
-    let made : length c.new-nodes.result.slots ≤ length c.put.new.table.items = subst (λ a. length a.slots ≤ length c.put.new.table.items)
+    let made : length c.new-nodes.result.slots ≤ length c.put.new.table.rows = subst (λ a. length a.slots ≤ length c.put.new.table.rows)
     (sym c.new-nodes.ensures) (omega arith) in
     let one : c.push.new.self.items ≡ 0 ∷ [] = c.in_ok-push.ensures.items ∙ ap (λ l. l ++ 0 ∷ []) c.new-blends.ensures.items in
     let counted : length c.new-nodes.result.slots ≤ length c.push.new.self.items = subst (λ a. length a.slots ≤ length c.push.new.self.items)
@@ -36,10 +36,10 @@ invariant_of-result g c =
     ] in
     record {
       sound = p.0;
-      table = planted_near c.add.new.nodes c.in_ok-root.root d c.put.new.table.items p.1
-          (rows_enter c.new-nodes.result c.add.new.nodes c.in_ok-root.root.slot c.in_ok-root.root.generation (length c.put.new.table.items) (alone d) c.in_ok-root.ensures.stored made
+      table = planted_near c.add.new.nodes c.in_ok-root.root d c.put.new.table.rows p.1
+          (rows_enter c.new-nodes.result c.add.new.nodes c.in_ok-root.root.slot c.in_ok-root.root.generation (length c.put.new.table.rows) (alone d) c.in_ok-root.ensures.stored made
           c.put.ensures.there)
-          (put_here _ c.put.new.table.items c.in_ok-root.root _ c.put.ensures.rows ∙ (c.summary_alone-row.ensures ∙ ap rows.alone c.own_hull.ensures));
+          (put_here _ c.put.new.table.rows c.in_ok-root.root _ c.put.ensures.rows ∙ (c.summary_alone-row.ensures ∙ ap rows.alone c.own_hull.ensures));
       blending = planted_blending c.add.new.nodes c.in_ok-root.root d c.push.new.self.items p.1
           (rows_enter c.new-nodes.result c.add.new.nodes c.in_ok-root.root.slot c.in_ok-root.root.generation (length c.push.new.self.items) (alone d)
           c.in_ok-root.ensures.stored counted here)

@@ -4,7 +4,7 @@ use Rattle.rd_keys.specs.Keys.{same_key}
 use Rattle.rd_tree.specs.Forest.{has, head, from_some}
 use Rattle.rd_tree.specs.Shown.{shown}
 use Rattle.rd_tree.specs.Seeking.{siblings_from, hull_reaches}
-use Rattle.rd_tree.specs.Internal.Summaries.{summary_of, summary_at}
+use Rattle.rd_tree.specs.Internal.Summaries.{summary_of}
 use Rattle.rd_tree.specs.Internal.Linked.{seen}
 use Rattle.rd_tree.specs.Internal.Blending.{count_at}
 use Rattle.rd_tree.proofs.Blending.Counts.{blends_here}
@@ -21,12 +21,11 @@ first_in_reach-found-requires-clause-live g c = live_first c.self.inside.nodes c
 pub returns-in-Some-clause-seen : goal.returns-in-Some-clause-seen
 returns-in-Some-clause-seen g c =
     let row : has same_key c.in-Some.key (seen c.self.inside.nodes c.self.inside.root) ≡ true → c.row_at-row.result
-    ≡ summary_of c.in-Some.key (seen c.self.inside.nodes c.self.inside.root) = λ h. c.row_at-row.ensures ∙ (ap (λ rows. summary_at rows c.in-Some.key) c.deref-in-Some.ensures.value
-    ∙ c.self.invariant.table.right c.in-Some.key h) in
+    ≡ summary_of c.in-Some.key (seen c.self.inside.nodes c.self.inside.root) = λ h. c.row_at-row.ensures ∙ (c.self.invariant.table.right c.in-Some.key h) in
     let found = subst (λ o. from_some same_key o (seen c.self.inside.nodes c.self.inside.root) ≡ siblings_from (hull_reaches c.args.rect.now)
     (from_some same_key c.args.first (seen c.self.inside.nodes c.self.inside.root))) c.in-Some.is c.first_in_reach-found.ensures.found in
     rw (← c.self.view_is) (c.view_at.ensures ∙ (looks c.self.inside.nodes c.self.inside.root c.in-Some.key c.row_at-row.result c.blends_at-blend.result
-    c.self.invariant.sound.tree row (λ m. c.blends_at-blend.ensures ∙ (ap (λ rows. nat_lt 0 (count_at rows c.in-Some.key)) c.deref-in-Some-2.ensures.value
+    c.self.invariant.sound.tree row (λ m. c.blends_at-blend.ensures ∙ (ap (λ rows. nat_lt 0 (count_at rows c.in-Some.key)) c.deref.ensures.value
     ∙ blends_here (count_at c.self.inside.blends.items) c.in-Some.key (seen c.self.inside.nodes c.self.inside.root) c.self.invariant.blending.right m)) ∙ ap (shown c.self.inside.root) found))
 
 pub returns-in-Some-clause-apart : goal.returns-in-Some-clause-apart
@@ -44,7 +43,7 @@ returns-in-None-clause-limits g c = rw (← c.self.view_is) (fits_seen c.self.in
 pub blends_at-blend-requires : goal.blends_at-blend-requires
 blends_at-blend-requires g c = omega (
   arith,
-  ap length c.deref-in-Some-2.ensures.value,
+  ap length c.deref.ensures.value,
   c.self.invariant.blending.all_rows,
   glance_within c.self.inside.nodes c.in-Some.key c.glance_at_live-read.result c.glance_at_live-read.ensures,
 )

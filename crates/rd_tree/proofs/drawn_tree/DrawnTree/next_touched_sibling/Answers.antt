@@ -4,7 +4,7 @@ use Rattle.rd_keys.specs.Keys.{same_key}
 use Rattle.rd_tree.specs.Forest.{empty, has, from_some}
 use Rattle.rd_tree.specs.Shown.{shown}
 use Rattle.rd_tree.specs.Seeking.{is_marked}
-use Rattle.rd_tree.specs.Internal.Summaries.{summary_of, summary_at}
+use Rattle.rd_tree.specs.Internal.Summaries.{summary_of}
 use Rattle.rd_tree.specs.Internal.Linked.{seen}
 use Rattle.rd_tree.specs.Internal.Blending.{count_at}
 use Rattle.rd_tree.proofs.Blending.Counts.{blends_here}
@@ -17,21 +17,19 @@ use Rattle.rd_tree.proofs.drawn_tree.DrawnTree.next_touched_sibling.Goals as goa
 pub returns-then-is_marked-clause-seen : goal.returns-then-is_marked-clause-seen
 returns-then-is_marked-clause-seen g c =
     let row : has same_key c.in-Some.key (seen c.self.inside.nodes c.self.inside.root) ≡ true → c.row_at-row.result
-    ≡ summary_of c.in-Some.key (seen c.self.inside.nodes c.self.inside.root) = λ h. c.row_at-row.ensures ∙ (ap (λ rows. summary_at rows c.in-Some.key) c.deref.ensures.value
-    ∙ c.self.invariant.table.right c.in-Some.key h) in
+    ≡ summary_of c.in-Some.key (seen c.self.inside.nodes c.self.inside.root) = λ h. c.row_at-row.ensures ∙ (c.self.invariant.table.right c.in-Some.key h) in
     let m : Met (seen c.self.inside.nodes c.self.inside.root) c.in-Some.key c.glance_at_live-glance.result c.row_at-row.result = met c.self.inside.nodes
     c.self.inside.root c.in-Some.key c.glance_at_live-glance.result c.row_at-row.result c.self.invariant.sound.tree c.glance_at_live-glance.ensures row in
     let found = seek_found is_marked (seen c.self.inside.nodes c.self.inside.root) c.args.first c.loop-at.at c.args.steps.now c.loop-at.steps c.tick.new.self
     c.loop-at.invariant.seeks c.in-Some.key c.glance_at_live-glance.result c.row_at-row.result m c.in-Some.is (rw (← m.touched, ← m.touched_below) (sym c.is_marked.ensures ∙ c.if-is_marked.true)) c.tick.ensures in
     rw (← c.self.view_is) (c.view_at.ensures ∙ (looks c.self.inside.nodes c.self.inside.root c.in-Some.key c.row_at-row.result c.blends_at-blend.result
-    c.self.invariant.sound.tree row (λ m. c.blends_at-blend.ensures ∙ (ap (λ rows. nat_lt 0 (count_at rows c.in-Some.key)) c.deref-then-is_marked.ensures.value
+    c.self.invariant.sound.tree row (λ m. c.blends_at-blend.ensures ∙ (ap (λ rows. nat_lt 0 (count_at rows c.in-Some.key)) c.deref.ensures.value
     ∙ blends_here (count_at c.self.inside.blends.items) c.in-Some.key (seen c.self.inside.nodes c.self.inside.root) c.self.invariant.blending.right m)) ∙ ap (shown c.self.inside.root) found.0))
 
 pub returns-then-is_marked-clause-ticks : goal.returns-then-is_marked-clause-ticks
 returns-then-is_marked-clause-ticks g c =
     let row : has same_key c.in-Some.key (seen c.self.inside.nodes c.self.inside.root) ≡ true → c.row_at-row.result
-    ≡ summary_of c.in-Some.key (seen c.self.inside.nodes c.self.inside.root) = λ h. c.row_at-row.ensures ∙ (ap (λ rows. summary_at rows c.in-Some.key) c.deref.ensures.value
-    ∙ c.self.invariant.table.right c.in-Some.key h) in
+    ≡ summary_of c.in-Some.key (seen c.self.inside.nodes c.self.inside.root) = λ h. c.row_at-row.ensures ∙ (c.self.invariant.table.right c.in-Some.key h) in
     let m : Met (seen c.self.inside.nodes c.self.inside.root) c.in-Some.key c.glance_at_live-glance.result c.row_at-row.result = met c.self.inside.nodes
     c.self.inside.root c.in-Some.key c.glance_at_live-glance.result c.row_at-row.result c.self.invariant.sound.tree c.glance_at_live-glance.ensures row in
     let found = seek_found is_marked (seen c.self.inside.nodes c.self.inside.root) c.args.first c.loop-at.at c.args.steps.now c.loop-at.steps c.tick.new.self
@@ -41,8 +39,7 @@ returns-then-is_marked-clause-ticks g c =
 pub loop-at-smaller : goal.loop-at-smaller
 loop-at-smaller g c =
     let row : has same_key c.in-Some.key (seen c.self.inside.nodes c.self.inside.root) ≡ true → c.row_at-row.result
-    ≡ summary_of c.in-Some.key (seen c.self.inside.nodes c.self.inside.root) = λ h. c.row_at-row.ensures ∙ (ap (λ rows. summary_at rows c.in-Some.key) c.deref.ensures.value
-    ∙ c.self.invariant.table.right c.in-Some.key h) in
+    ≡ summary_of c.in-Some.key (seen c.self.inside.nodes c.self.inside.root) = λ h. c.row_at-row.ensures ∙ (c.self.invariant.table.right c.in-Some.key h) in
     let m : Met (seen c.self.inside.nodes c.self.inside.root) c.in-Some.key c.glance_at_live-glance.result c.row_at-row.result = met c.self.inside.nodes
     c.self.inside.root c.in-Some.key c.glance_at_live-glance.result c.row_at-row.result c.self.invariant.sound.tree c.glance_at_live-glance.ensures row in
     seek_fewer is_marked (seen c.self.inside.nodes c.self.inside.root) c.args.first c.loop-at.at c.args.steps.now c.loop-at.steps c.tick.new.self c.loop-at.invariant.seeks
@@ -51,8 +48,7 @@ loop-at-smaller g c =
 pub loop-at-preserved : goal.loop-at-preserved
 loop-at-preserved g c =
     let row : has same_key c.in-Some.key (seen c.self.inside.nodes c.self.inside.root) ≡ true → c.row_at-row.result
-    ≡ summary_of c.in-Some.key (seen c.self.inside.nodes c.self.inside.root) = λ h. c.row_at-row.ensures ∙ (ap (λ rows. summary_at rows c.in-Some.key) c.deref.ensures.value
-    ∙ c.self.invariant.table.right c.in-Some.key h) in
+    ≡ summary_of c.in-Some.key (seen c.self.inside.nodes c.self.inside.root) = λ h. c.row_at-row.ensures ∙ (c.self.invariant.table.right c.in-Some.key h) in
     let m : Met (seen c.self.inside.nodes c.self.inside.root) c.in-Some.key c.glance_at_live-glance.result c.row_at-row.result = met c.self.inside.nodes
     c.self.inside.root c.in-Some.key c.glance_at_live-glance.result c.row_at-row.result c.self.invariant.sound.tree c.glance_at_live-glance.ensures row in
     record {
@@ -94,7 +90,6 @@ returns-clause-limits g c = rw (← c.self.view_is) (fits_seen c.self.inside.nod
 pub row_at-row-requires : goal.row_at-row-requires
 row_at-row-requires g c = omega (
   arith,
-  ap length c.deref.ensures.value,
   c.self.invariant.table.all_rows,
   glance_within c.self.inside.nodes c.in-Some.key c.glance_at_live-glance.result c.glance_at_live-glance.ensures,
 )
@@ -108,7 +103,7 @@ glance_at_live-glance-requires g c = record { live = subst (IsLiveIfAny c.self.i
 pub blends_at-blend-requires : goal.blends_at-blend-requires
 blends_at-blend-requires g c = omega (
   arith,
-  ap length c.deref-then-is_marked.ensures.value,
+  ap length c.deref.ensures.value,
   c.self.invariant.blending.all_rows,
   glance_within c.self.inside.nodes c.in-Some.key c.glance_at_live-glance.result c.glance_at_live-glance.ensures,
 )

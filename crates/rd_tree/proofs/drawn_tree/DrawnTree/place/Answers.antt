@@ -49,11 +49,11 @@ invariant_of-self g c =
     c.touch.ensures in
     let slots : marks c.touch.new.nodes ≡ marks c.self.inside.nodes = c.touch.ensures.same_slots ∙ c.put_rect-reach.ensures.put.same_slots in
     let e : Edited c.args.key (seen c.self.inside.nodes c.self.inside.root) (seen c.touch.new.nodes c.self.inside.root) = box_edited c.self.inside.nodes
-    c.put_rect-reach.new.self c.touch.new.nodes c.self.inside.root c.args.key c.self.inside.ids c.self.inside.table.items (with_rect c.args.rect)
+    c.put_rect-reach.new.self c.touch.new.nodes c.self.inside.root c.args.key c.self.inside.ids c.self.inside.table.rows (with_rect c.args.rect)
     c.put_rect-reach.result c.stale_by-stale.result c.self.invariant.sound s2.0 s1.1 s2.1 c.self.invariant.table m in
-    let o : c.whole_of-old.result ≡ whole_at c.self.inside.nodes c.self.inside.table.items c.args.key = rw c.deref.ensures.value at c.whole_of-old.ensures in
-    let st : IsStale c.stale_by-stale.result c.self.inside.table.items (seen c.touch.new.nodes c.self.inside.root) c.args.key =
-    box_stale c.self.inside.nodes c.put_rect-reach.new.self c.touch.new.nodes c.self.inside.root c.args.key c.self.inside.ids c.self.inside.table.items
+    let o : c.whole_of-old.result ≡ whole_at c.self.inside.nodes c.self.inside.table.rows c.args.key = c.whole_of-old.ensures in
+    let st : IsStale c.stale_by-stale.result c.self.inside.table.rows (seen c.touch.new.nodes c.self.inside.root) c.args.key =
+    box_stale c.self.inside.nodes c.put_rect-reach.new.self c.touch.new.nodes c.self.inside.root c.args.key c.self.inside.ids c.self.inside.table.rows
     (with_rect c.args.rect) c.put_rect-reach.result c.stale_by-stale.result c.self.invariant.sound s2.0 s1.1 s2.1 c.self.invariant.table m
     c.stale_by-stale.ensures.branch (λ n. sym c.extent_of-before.ensures ∙ (c.stale_by-stale.ensures.nothing n ∙ c.extent_of-after.ensures)) in
     let placed = same_blending c.self.inside.nodes c.put_rect-reach.new.self c.self.inside.blends.items (seen c.self.inside.nodes c.self.inside.root)
@@ -66,8 +66,8 @@ invariant_of-self g c =
       shallow = shallow_each (λ j. same_key j c.args.key) (with_rect c.args.rect) c.put_rect-reach.result c.args.key
           (seen c.self.inside.nodes c.self.inside.root) (seen c.put_rect-reach.new.self c.self.inside.root) (seen c.touch.new.nodes c.self.inside.root) s1.1
           s2.1 c.self.invariant.shallow;
-      table = renewed c.self.inside.nodes c.touch.new.nodes c.self.inside.root c.args.key c.self.inside.ids c.self.inside.table.items c.stale_by-stale.result
-          c.whole_of-old.result c.self.invariant.sound s2.0 slots c.self.invariant.table m e o st c.renew_up.new.table.items c.renew_up.ensures.right
+      table = renewed c.self.inside.nodes c.touch.new.nodes c.self.inside.root c.args.key c.self.inside.ids c.self.inside.table.rows c.stale_by-stale.result
+          c.whole_of-old.result c.self.invariant.sound s2.0 slots c.self.invariant.table m e o st c.renew_up.new.table.rows c.renew_up.ensures.right
           c.renew_up.ensures.same_length;
     }
 
@@ -94,12 +94,12 @@ returns g c =
     by_that _ _ _ (edited-placing c.args.key c.args.rect c.args.self.now) (rw (← c.self.view_is, b, k) refl)
 
 pub whole_of-old-requires-clause-here : goal.whole_of-old-requires-clause-here
-whole_of-old-requires-clause-here g c = rw c.deref.ensures.value (row_here c.self.inside.nodes c.self.inside.root c.args.key c.self.inside.ids
-    c.self.invariant.sound (rw (← c.self.view_is) at c.requires.live) c.self.inside.table.items c.self.invariant.table)
+whole_of-old-requires-clause-here g c = (row_here c.self.inside.nodes c.self.inside.root c.args.key c.self.inside.ids
+    c.self.invariant.sound (rw (← c.self.view_is) at c.requires.live) c.self.inside.table.rows c.self.invariant.table)
 
 pub whole_of-old-requires-clause-few : goal.whole_of-old-requires-clause-few
-whole_of-old-requires-clause-few g c = rw c.deref.ensures.value (few_here c.self.inside.nodes c.self.inside.root c.args.key c.self.inside.ids
-    c.self.invariant.sound (rw (← c.self.view_is) at c.requires.live) c.self.inside.table.items c.self.invariant.table)
+whole_of-old-requires-clause-few g c = (few_here c.self.inside.nodes c.self.inside.root c.args.key c.self.inside.ids
+    c.self.invariant.sound (rw (← c.self.view_is) at c.requires.live) c.self.inside.table.rows c.self.invariant.table)
 
 pub extent_of-before-requires : goal.extent_of-before-requires
 extent_of-before-requires g c = fit_here c.self.inside.nodes c.self.inside.root c.args.key c.self.inside.ids c.self.invariant.sound (rw (← c.self.view_is)
@@ -128,12 +128,12 @@ renew_up-requires g c =
     c.touch.ensures in
     let slots : marks c.touch.new.nodes ≡ marks c.self.inside.nodes = c.touch.ensures.same_slots ∙ c.put_rect-reach.ensures.put.same_slots in
     let e : Edited c.args.key (seen c.self.inside.nodes c.self.inside.root) (seen c.touch.new.nodes c.self.inside.root) = box_edited c.self.inside.nodes
-    c.put_rect-reach.new.self c.touch.new.nodes c.self.inside.root c.args.key c.self.inside.ids c.self.inside.table.items (with_rect c.args.rect)
+    c.put_rect-reach.new.self c.touch.new.nodes c.self.inside.root c.args.key c.self.inside.ids c.self.inside.table.rows (with_rect c.args.rect)
     c.put_rect-reach.result c.stale_by-stale.result c.self.invariant.sound s2.0 s1.1 s2.1 c.self.invariant.table m in
-    let o : c.whole_of-old.result ≡ whole_at c.self.inside.nodes c.self.inside.table.items c.args.key = rw c.deref.ensures.value at c.whole_of-old.ensures in
-    let st : IsStale c.stale_by-stale.result c.self.inside.table.items (seen c.touch.new.nodes c.self.inside.root) c.args.key =
-    box_stale c.self.inside.nodes c.put_rect-reach.new.self c.touch.new.nodes c.self.inside.root c.args.key c.self.inside.ids c.self.inside.table.items
+    let o : c.whole_of-old.result ≡ whole_at c.self.inside.nodes c.self.inside.table.rows c.args.key = c.whole_of-old.ensures in
+    let st : IsStale c.stale_by-stale.result c.self.inside.table.rows (seen c.touch.new.nodes c.self.inside.root) c.args.key =
+    box_stale c.self.inside.nodes c.put_rect-reach.new.self c.touch.new.nodes c.self.inside.root c.args.key c.self.inside.ids c.self.inside.table.rows
     (with_rect c.args.rect) c.put_rect-reach.result c.stale_by-stale.result c.self.invariant.sound s2.0 s1.1 s2.1 c.self.invariant.table m
     c.stale_by-stale.ensures.branch (λ n. sym c.extent_of-before.ensures ∙ (c.stale_by-stale.ensures.nothing n ∙ c.extent_of-after.ensures)) in
-    renews c.self.inside.nodes c.touch.new.nodes c.self.inside.root c.args.key c.self.inside.ids c.self.inside.table.items c.stale_by-stale.result
+    renews c.self.inside.nodes c.touch.new.nodes c.self.inside.root c.args.key c.self.inside.ids c.self.inside.table.rows c.stale_by-stale.result
     c.whole_of-old.result c.self.invariant.sound s2.0 slots c.self.invariant.table m e o st

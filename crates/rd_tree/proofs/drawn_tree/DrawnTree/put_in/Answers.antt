@@ -30,8 +30,8 @@ pub invariant_of-self-in_err-key : goal.invariant_of-self-in_err-key
 invariant_of-self-in_err-key g c = record {
   sound = rw c.in_err-key.ensures.kept (same_entries c.self.inside.nodes c.self.inside.root c.self.inside.ids c.add.new.ids c.in_err-key.ensures.same_ids
       c.self.invariant.sound);
-  table = subst (λ a. IsTabled a c.reserve.new.self.items (seen a c.self.inside.root)) (sym c.in_err-key.ensures.kept)
-      (subst (λ r. IsTabled c.self.inside.nodes r (seen c.self.inside.nodes c.self.inside.root)) (sym c.reserve.ensures.items) c.self.invariant.table);
+  table = subst (λ a. IsTabled a c.reserve.new.self.rows (seen a c.self.inside.root)) (sym c.in_err-key.ensures.kept)
+      (subst (λ r. IsTabled c.self.inside.nodes r (seen c.self.inside.nodes c.self.inside.root)) (sym c.reserve.ensures.rows) c.self.invariant.table);
   blending = subst (λ a. IsBlending a c.reserve-2.new.self.items (seen a c.self.inside.root)) (sym c.in_err-key.ensures.kept)
       (subst (λ r. IsBlending c.self.inside.nodes r (seen c.self.inside.nodes c.self.inside.root)) (sym c.reserve-2.ensures.items) c.self.invariant.blending);
   shallow = rw c.in_err-key.ensures.kept c.self.invariant.shallow;
@@ -75,32 +75,32 @@ recount-requires g c = (owing_here g (goal.at.recount-requires g c).After-put_co
 pub gain-requires : goal.gain-requires
 gain-requires g c =
     let t = grown_here g (goal.at.gain-requires g c).After-graft in
-    let table : IsTabled c.self.inside.nodes c.reserve.new.self.items (seen c.self.inside.nodes c.self.inside.root) = subst (λ r. IsTabled
-    c.self.inside.nodes r (seen c.self.inside.nodes c.self.inside.root)) (sym c.reserve.ensures.items) c.self.invariant.table in
+    let table : IsTabled c.self.inside.nodes c.reserve.new.self.rows (seen c.self.inside.nodes c.self.inside.root) = subst (λ r. IsTabled
+    c.self.inside.nodes r (seen c.self.inside.nodes c.self.inside.root)) (sym c.reserve.ensures.rows) c.self.invariant.table in
     let slots : length c.graft.new.nodes.slots ≡ length c.add.new.nodes.slots = same_slots c.add.new.nodes c.graft.new.nodes c.graft.ensures.same_slots in
-    let enough : length c.add.new.nodes.slots ≤ length c.put.new.table.items = rows_enter c.self.inside.nodes c.add.new.nodes c.in_ok-key.key.slot
-    c.in_ok-key.key.generation (length c.put.new.table.items) _ c.in_ok-key.ensures.stored (omega (arith, table.all_rows, c.put.ensures.longer))
+    let enough : length c.add.new.nodes.slots ≤ length c.put.new.table.rows = rows_enter c.self.inside.nodes c.add.new.nodes c.in_ok-key.key.slot
+    c.in_ok-key.key.generation (length c.put.new.table.rows) _ c.in_ok-key.ensures.stored (omega (arith, table.all_rows, c.put.ensures.longer))
     c.put.ensures.there in
-    let most : length c.graft.new.nodes.slots ≤ length c.put.new.table.items = omega (arith, slots, enough) in
-    let put : Puts c.reserve.new.self.items c.put.new.table.items c.in_ok-key.key _ = subst (λ r. Puts c.reserve.new.self.items c.put.new.table.items
+    let most : length c.graft.new.nodes.slots ≤ length c.put.new.table.rows = omega (arith, slots, enough) in
+    let put : Puts c.reserve.new.self.rows c.put.new.table.rows c.in_ok-key.key _ = subst (λ r. Puts c.reserve.new.self.rows c.put.new.table.rows
     c.in_ok-key.key r) (c.summary_alone.ensures ∙ ap alone c.own_hull-hull.ensures) c.put.ensures.rows in
     let whole = c.touched_box.ensures ∙ ap touched_box c.own_hull-hull.ensures in
     insert_climbs c.self.inside.nodes c.graft.new.nodes c.self.inside.root c.args.parent c.in_ok-key.key c.args.before (touch (new_item c.args.id.now
-    c.args.rect c.args.style)) c.add.new.ids c.reserve.new.self.items c.put.new.table.items c.touched_box.result
+    c.args.rect c.args.style)) c.add.new.ids c.reserve.new.self.rows c.put.new.table.rows c.touched_box.result
     c.self.invariant.sound.tree t.0 t.1 (rw (← c.self.view_is) at c.requires.parent) (rw (← c.self.view_is) at c.requires.place) table most put refl
     whole
 
 pub invariant_of-self-2 : goal.invariant_of-self-2
 invariant_of-self-2 g c =
     let t = grown_here g (goal.at.invariant_of-self-2 g c).After-graft in
-    let table : IsTabled c.self.inside.nodes c.reserve.new.self.items (seen c.self.inside.nodes c.self.inside.root) = subst (λ r. IsTabled
-    c.self.inside.nodes r (seen c.self.inside.nodes c.self.inside.root)) (sym c.reserve.ensures.items) c.self.invariant.table in
+    let table : IsTabled c.self.inside.nodes c.reserve.new.self.rows (seen c.self.inside.nodes c.self.inside.root) = subst (λ r. IsTabled
+    c.self.inside.nodes r (seen c.self.inside.nodes c.self.inside.root)) (sym c.reserve.ensures.rows) c.self.invariant.table in
     let slots : length c.graft.new.nodes.slots ≡ length c.add.new.nodes.slots = same_slots c.add.new.nodes c.graft.new.nodes c.graft.ensures.same_slots in
-    let enough : length c.add.new.nodes.slots ≤ length c.put.new.table.items = rows_enter c.self.inside.nodes c.add.new.nodes c.in_ok-key.key.slot
-    c.in_ok-key.key.generation (length c.put.new.table.items) _ c.in_ok-key.ensures.stored (omega (arith, table.all_rows, c.put.ensures.longer))
+    let enough : length c.add.new.nodes.slots ≤ length c.put.new.table.rows = rows_enter c.self.inside.nodes c.add.new.nodes c.in_ok-key.key.slot
+    c.in_ok-key.key.generation (length c.put.new.table.rows) _ c.in_ok-key.ensures.stored (omega (arith, table.all_rows, c.put.ensures.longer))
     c.put.ensures.there in
-    let most : length c.graft.new.nodes.slots ≤ length c.put.new.table.items = omega (arith, slots, enough) in
-    let put : Puts c.reserve.new.self.items c.put.new.table.items c.in_ok-key.key _ = subst (λ r. Puts c.reserve.new.self.items c.put.new.table.items
+    let most : length c.graft.new.nodes.slots ≤ length c.put.new.table.rows = omega (arith, slots, enough) in
+    let put : Puts c.reserve.new.self.rows c.put.new.table.rows c.in_ok-key.key _ = subst (λ r. Puts c.reserve.new.self.rows c.put.new.table.rows
     c.in_ok-key.key r) (c.summary_alone.ensures ∙ ap alone c.own_hull-hull.ensures) c.put.ensures.rows in
     let whole = c.touched_box.ensures ∙ ap touched_box c.own_hull-hull.ensures in
     let w = owing_here g (goal.at.invariant_of-self-2 g c).After-put_count t in
@@ -115,9 +115,9 @@ invariant_of-self-2 g c =
           (apart_seen c.self.inside.nodes c.self.inside.root c.self.invariant.sound.tree) (rw (← c.self.view_is) at c.requires.parent) c.self.invariant.shallow
           (rw (← c.self.view_is) at c.requires.depth);
       table = insert_near c.self.inside.nodes c.graft.new.nodes c.self.inside.root c.args.parent c.in_ok-key.key c.args.before (touch
-          (new_item c.args.id.now c.args.rect c.args.style)) c.add.new.ids c.reserve.new.self.items c.put.new.table.items c.touched_box.result
+          (new_item c.args.id.now c.args.rect c.args.style)) c.add.new.ids c.reserve.new.self.rows c.put.new.table.rows c.touched_box.result
           c.self.invariant.sound.tree t.0 t.1 (rw (← c.self.view_is) at c.requires.parent) (rw (← c.self.view_is) at c.requires.place) table most put refl
-          whole c.gain.new.table.items c.gain.ensures.right c.gain.ensures.same_length;
+          whole c.gain.new.table.rows c.gain.ensures.right c.gain.ensures.same_length;
     }
 
 pub returns-clause-inserted : goal.returns-clause-inserted
@@ -144,23 +144,23 @@ roomy a root ids rows rows2 counts counts2 e h k = subst (λ r. IsKept a root id
 
 pub invariant_of-self : goal.invariant_of-self
 invariant_of-self g c = subst (λ r. IsKept c.self.inside.nodes c.self.inside.root c.self.inside.ids r c.self.inside.blends.items)
-    (sym c.reserve.ensures.items) c.self.invariant
+    (sym c.reserve.ensures.rows) c.self.invariant
 
 pub invariant_of-self-in_err-id : goal.invariant_of-self-in_err-id
-invariant_of-self-in_err-id g c = roomy c.self.inside.nodes c.self.inside.root c.self.inside.ids c.self.inside.table.items c.reserve.new.self.items
-    c.self.inside.blends.items c.reserve-2.new.self.items c.reserve.ensures.items c.reserve-2.ensures.items c.self.invariant
+invariant_of-self-in_err-id g c = roomy c.self.inside.nodes c.self.inside.root c.self.inside.ids c.self.inside.table.rows c.reserve.new.self.rows
+    c.self.inside.blends.items c.reserve-2.new.self.items c.reserve.ensures.rows c.reserve-2.ensures.items c.self.invariant
 
 pub put-requires : goal.put-requires
 put-requires g c =
-    let rows : length c.self.inside.nodes.slots ≤ length c.reserve.new.self.items = omega (
+    let rows : length c.self.inside.nodes.slots ≤ length c.reserve.new.self.rows = omega (
       arith,
-      ap length c.reserve.ensures.items,
+      ap length c.reserve.ensures.rows,
       c.self.invariant.table.all_rows,
     ) in
     elim c.in_ok-key.ensures.stored.place [
       | inl p ↦ inl (omega (arith, p.0, rows))
-      | inr p ↦ elim (cases_lt c.in_ok-key.key.slot (length c.reserve.new.self.items)) [
+      | inr p ↦ elim (cases_lt c.in_ok-key.key.slot (length c.reserve.new.self.rows)) [
         | inl l ↦ inl l
-        | inr l ↦ inr (omega (arith, p.0, rows, l), omega (arith, c.in_ok-reserve.ensures.ok))
+        | inr l ↦ inr (omega (arith, p.0, rows, l), c.in_ok-reserve.ensures.room)
       ]
     ]

@@ -16,12 +16,12 @@ use Rattle.rd_tree.proofs.Laying.Again.{again_read, again_below, again_live, aga
 use Rattle.rd_tree.proofs.drawn_tree.DrawnTree.redraw.Goals as goal
 
 pub whole_of-whole-requires-clause-here : goal.whole_of-whole-requires-clause-here
-whole_of-whole-requires-clause-here g c = rw c.deref.ensures.value (row_here c.self.inside.nodes c.self.inside.root c.args.key c.self.inside.ids
-    c.self.invariant.sound (rw (← c.self.view_is) at c.requires.live) c.self.inside.table.items c.self.invariant.table)
+whole_of-whole-requires-clause-here g c = (row_here c.self.inside.nodes c.self.inside.root c.args.key c.self.inside.ids
+    c.self.invariant.sound (rw (← c.self.view_is) at c.requires.live) c.self.inside.table.rows c.self.invariant.table)
 
 pub whole_of-whole-requires-clause-few : goal.whole_of-whole-requires-clause-few
-whole_of-whole-requires-clause-few g c = rw c.deref.ensures.value (few_here c.self.inside.nodes c.self.inside.root c.args.key c.self.inside.ids
-    c.self.invariant.sound (rw (← c.self.view_is) at c.requires.live) c.self.inside.table.items c.self.invariant.table)
+whole_of-whole-requires-clause-few g c = (few_here c.self.inside.nodes c.self.inside.root c.args.key c.self.inside.ids
+    c.self.invariant.sound (rw (← c.self.view_is) at c.requires.live) c.self.inside.table.rows c.self.invariant.table)
 
 pub draw_at-requires-clause-can : goal.draw_at-requires-clause-can
 draw_at-requires-clause-can g c = drawn_near c.self.inside.nodes c.self.inside.root c.args.key c.self.inside.ids c.args.old c.args.new c.args.rows.now.items c.args.inside
@@ -55,8 +55,8 @@ renew_up-requires g c =
     let near : AllNear (drawn_again c.args.rows.now.items c.args.key c.args.old c.args.new c.args.inside (seen c.self.inside.nodes c.self.inside.root)) = rw (← c.self.view_is) at c.requires.near in
     let r2 : Redraws false c.draw_at.new.nodes c.redraw.new.nodes c.args.rows.now.items c.args.inside (seen_from c.draw_at.new.nodes (child_and_sibling (linked c.draw_at.new.nodes c.args.key)).0) =
     subst (λ o. Redraws false c.draw_at.new.nodes c.redraw.new.nodes c.args.rows.now.items c.args.inside (seen_from c.draw_at.new.nodes o.0)) c.child_and_sibling-below.ensures c.redraw.ensures.drawn in
-    let o : c.whole_of-whole.result ≡ whole_at c.self.inside.nodes c.self.inside.table.items c.args.key = rw c.deref.ensures.value at c.whole_of-whole.ensures in
-    renews c.self.inside.nodes c.redraw.new.nodes c.self.inside.root c.args.key c.self.inside.ids c.self.inside.table.items Branch c.whole_of-whole.result c.self.invariant.sound
+    let o : c.whole_of-whole.result ≡ whole_at c.self.inside.nodes c.self.inside.table.rows c.args.key = c.whole_of-whole.ensures in
+    renews c.self.inside.nodes c.redraw.new.nodes c.self.inside.root c.args.key c.self.inside.ids c.self.inside.table.rows Branch c.whole_of-whole.result c.self.invariant.sound
     (again_sound (drawn_far c.args.old c.args.new) (record { id = λ d. refl; style = λ d. refl }) c.self.inside.nodes c.draw_at.new.nodes c.self.inside.root c.args.key c.self.inside.ids c.self.invariant.sound m c.draw_at.ensures c.redraw.new.nodes c.args.rows.now.items c.args.inside false r2 near)
     (again_slots (drawn_far c.args.old c.args.new) (record { id = λ d. refl; style = λ d. refl }) c.self.inside.nodes c.draw_at.new.nodes c.self.inside.root c.args.key c.self.inside.ids c.self.invariant.sound m c.draw_at.ensures c.redraw.new.nodes c.args.rows.now.items c.args.inside false r2 near)
     c.self.invariant.table m
@@ -69,7 +69,7 @@ invariant_of-self g c =
     let near : AllNear (drawn_again c.args.rows.now.items c.args.key c.args.old c.args.new c.args.inside (seen c.self.inside.nodes c.self.inside.root)) = rw (← c.self.view_is) at c.requires.near in
     let r2 : Redraws false c.draw_at.new.nodes c.redraw.new.nodes c.args.rows.now.items c.args.inside (seen_from c.draw_at.new.nodes (child_and_sibling (linked c.draw_at.new.nodes c.args.key)).0) =
     subst (λ o. Redraws false c.draw_at.new.nodes c.redraw.new.nodes c.args.rows.now.items c.args.inside (seen_from c.draw_at.new.nodes o.0)) c.child_and_sibling-below.ensures c.redraw.ensures.drawn in
-    let o : c.whole_of-whole.result ≡ whole_at c.self.inside.nodes c.self.inside.table.items c.args.key = rw c.deref.ensures.value at c.whole_of-whole.ensures in
+    let o : c.whole_of-whole.result ≡ whole_at c.self.inside.nodes c.self.inside.table.rows c.args.key = c.whole_of-whole.ensures in
     let sound = again_sound (drawn_far c.args.old c.args.new) (record { id = λ d. refl; style = λ d. refl }) c.self.inside.nodes c.draw_at.new.nodes c.self.inside.root c.args.key c.self.inside.ids c.self.invariant.sound m c.draw_at.ensures c.redraw.new.nodes c.args.rows.now.items c.args.inside false r2 near in
     record {
       sound = sound;
@@ -77,11 +77,11 @@ invariant_of-self g c =
           c.self.inside.blends.items c.self.invariant.blending;
       shallow = again_shallow (drawn_far c.args.old c.args.new) (record { id = λ d. refl; style = λ d. refl }) c.self.inside.nodes c.draw_at.new.nodes c.self.inside.root c.args.key c.self.inside.ids c.self.invariant.sound m c.draw_at.ensures c.redraw.new.nodes c.args.rows.now.items c.args.inside false r2 near
           c.self.invariant.shallow;
-      table = renewed c.self.inside.nodes c.redraw.new.nodes c.self.inside.root c.args.key c.self.inside.ids c.self.inside.table.items Branch c.whole_of-whole.result c.self.invariant.sound sound
+      table = renewed c.self.inside.nodes c.redraw.new.nodes c.self.inside.root c.args.key c.self.inside.ids c.self.inside.table.rows Branch c.whole_of-whole.result c.self.invariant.sound sound
           (again_slots (drawn_far c.args.old c.args.new) (record { id = λ d. refl; style = λ d. refl }) c.self.inside.nodes c.draw_at.new.nodes c.self.inside.root c.args.key c.self.inside.ids c.self.invariant.sound m c.draw_at.ensures c.redraw.new.nodes c.args.rows.now.items c.args.inside false r2 near)
           c.self.invariant.table m
           (again_edited (drawn_far c.args.old c.args.new) (record { id = λ d. refl; style = λ d. refl }) c.self.inside.nodes c.draw_at.new.nodes c.self.inside.root c.args.key c.self.inside.ids c.self.invariant.sound m c.draw_at.ensures c.redraw.new.nodes c.args.rows.now.items c.args.inside false r2 near)
-          o tt c.renew_up.new.table.items c.renew_up.ensures.right c.renew_up.ensures.same_length;
+          o tt c.renew_up.new.table.rows c.renew_up.ensures.right c.renew_up.ensures.same_length;
     }
 
 pub returns-clause-drawn : goal.returns-clause-drawn

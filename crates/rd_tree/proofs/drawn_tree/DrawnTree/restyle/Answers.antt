@@ -56,9 +56,9 @@ owing_here g c =
     c.touch.ensures in
     let slots : marks c.touch.new.nodes ≡ marks c.self.inside.nodes = c.touch.ensures.same_slots ∙ c.restyle-reach.ensures.restyled.same_slots in
     let l : c.given_at-less.result ≡ given_under (linked c.self.inside.nodes c.args.key) (count_at c.self.inside.blends.items c.args.key) =
-    c.given_at-less.ensures ∙ ap (λ r. given_under (linked c.self.inside.nodes c.args.key) (count_at r c.args.key)) c.deref-2.ensures.value in
+    c.given_at-less.ensures ∙ ap (λ r. given_under (linked c.self.inside.nodes c.args.key) (count_at r c.args.key)) c.deref.ensures.value in
     let h : c.given_at-more.result ≡ given_under (linked c.restyle-reach.new.self c.args.key) (count_at c.self.inside.blends.items c.args.key) =
-    c.given_at-more.ensures ∙ ap (λ r. given_under (linked c.restyle-reach.new.self c.args.key) (count_at r c.args.key)) c.deref-3.ensures.value in (
+    c.given_at-more.ensures ∙ ap (λ r. given_under (linked c.restyle-reach.new.self c.args.key) (count_at r c.args.key)) c.deref-2.ensures.value in (
       styled_owing c.self.inside.nodes c.restyle-reach.new.self c.touch.new.nodes c.self.inside.root c.args.key c.self.inside.ids
           c.self.inside.blends.items c.args.c.now c.restyle-reach.result c.given_at-less.result c.given_at-more.result c.parent_of-up.result
           c.self.invariant.sound s2.0 c.restyle-reach.ensures.restyled s1.1 s2.1 slots m c.self.invariant.blending l h c.parent_of-up.ensures,
@@ -81,11 +81,11 @@ invariant_of-self g c =
     c.touch.ensures in
     let slots : marks c.touch.new.nodes ≡ marks c.self.inside.nodes = c.touch.ensures.same_slots ∙ c.restyle-reach.ensures.restyled.same_slots in
     let e : Edited c.args.key (seen c.self.inside.nodes c.self.inside.root) (seen c.touch.new.nodes c.self.inside.root) = box_edited c.self.inside.nodes
-    c.restyle-reach.new.self c.touch.new.nodes c.self.inside.root c.args.key c.self.inside.ids c.self.inside.table.items (restyle c.args.c.now)
+    c.restyle-reach.new.self c.touch.new.nodes c.self.inside.root c.args.key c.self.inside.ids c.self.inside.table.rows (restyle c.args.c.now)
     c.restyle-reach.result c.stale_by-stale.result c.self.invariant.sound s2.0 s1.1 s2.1 c.self.invariant.table m in
-    let o : c.whole_of-old.result ≡ whole_at c.self.inside.nodes c.self.inside.table.items c.args.key = rw c.deref.ensures.value at c.whole_of-old.ensures in
-    let st : IsStale c.stale_by-stale.result c.self.inside.table.items (seen c.touch.new.nodes c.self.inside.root) c.args.key =
-    box_stale c.self.inside.nodes c.restyle-reach.new.self c.touch.new.nodes c.self.inside.root c.args.key c.self.inside.ids c.self.inside.table.items
+    let o : c.whole_of-old.result ≡ whole_at c.self.inside.nodes c.self.inside.table.rows c.args.key = c.whole_of-old.ensures in
+    let st : IsStale c.stale_by-stale.result c.self.inside.table.rows (seen c.touch.new.nodes c.self.inside.root) c.args.key =
+    box_stale c.self.inside.nodes c.restyle-reach.new.self c.touch.new.nodes c.self.inside.root c.args.key c.self.inside.ids c.self.inside.table.rows
     (restyle c.args.c.now) c.restyle-reach.result c.stale_by-stale.result c.self.invariant.sound s2.0 s1.1 s2.1 c.self.invariant.table m
     c.stale_by-stale.ensures.branch (λ n. sym c.extent_of-before.ensures ∙ (c.stale_by-stale.ensures.nothing n ∙ c.extent_of-after.ensures)) in
     let w = owing_here g (goal.at.invariant_of-self g c).After-renew_up in
@@ -98,8 +98,8 @@ invariant_of-self g c =
       shallow = shallow_each (λ j. same_key j c.args.key) (restyle c.args.c.now) c.restyle-reach.result c.args.key
           (seen c.self.inside.nodes c.self.inside.root) (seen c.restyle-reach.new.self c.self.inside.root) (seen c.touch.new.nodes c.self.inside.root) s1.1
           s2.1 c.self.invariant.shallow;
-      table = renewed c.self.inside.nodes c.touch.new.nodes c.self.inside.root c.args.key c.self.inside.ids c.self.inside.table.items c.stale_by-stale.result
-          c.whole_of-old.result c.self.invariant.sound s2.0 slots c.self.invariant.table m e o st c.renew_up.new.table.items c.renew_up.ensures.right
+      table = renewed c.self.inside.nodes c.touch.new.nodes c.self.inside.root c.args.key c.self.inside.ids c.self.inside.table.rows c.stale_by-stale.result
+          c.whole_of-old.result c.self.invariant.sound s2.0 slots c.self.invariant.table m e o st c.renew_up.new.table.rows c.renew_up.ensures.right
           c.renew_up.ensures.same_length;
     }
 
@@ -126,12 +126,12 @@ returns g c =
     by_that _ _ _ (reached-styling c.args.key c.args.c.now c.args.self.now) (rw (← c.self.view_is, b, k) refl)
 
 pub whole_of-old-requires-clause-here : goal.whole_of-old-requires-clause-here
-whole_of-old-requires-clause-here g c = rw c.deref.ensures.value (row_here c.self.inside.nodes c.self.inside.root c.args.key c.self.inside.ids
-    c.self.invariant.sound (rw (← c.self.view_is) at c.requires.live) c.self.inside.table.items c.self.invariant.table)
+whole_of-old-requires-clause-here g c = (row_here c.self.inside.nodes c.self.inside.root c.args.key c.self.inside.ids
+    c.self.invariant.sound (rw (← c.self.view_is) at c.requires.live) c.self.inside.table.rows c.self.invariant.table)
 
 pub whole_of-old-requires-clause-few : goal.whole_of-old-requires-clause-few
-whole_of-old-requires-clause-few g c = rw c.deref.ensures.value (few_here c.self.inside.nodes c.self.inside.root c.args.key c.self.inside.ids
-    c.self.invariant.sound (rw (← c.self.view_is) at c.requires.live) c.self.inside.table.items c.self.invariant.table)
+whole_of-old-requires-clause-few g c = (few_here c.self.inside.nodes c.self.inside.root c.args.key c.self.inside.ids
+    c.self.invariant.sound (rw (← c.self.view_is) at c.requires.live) c.self.inside.table.rows c.self.invariant.table)
 
 pub extent_of-before-requires : goal.extent_of-before-requires
 extent_of-before-requires g c = fit_here c.self.inside.nodes c.self.inside.root c.args.key c.self.inside.ids c.self.invariant.sound (rw (← c.self.view_is)
@@ -160,26 +160,26 @@ renew_up-requires g c =
     c.touch.ensures in
     let slots : marks c.touch.new.nodes ≡ marks c.self.inside.nodes = c.touch.ensures.same_slots ∙ c.restyle-reach.ensures.restyled.same_slots in
     let e : Edited c.args.key (seen c.self.inside.nodes c.self.inside.root) (seen c.touch.new.nodes c.self.inside.root) = box_edited c.self.inside.nodes
-    c.restyle-reach.new.self c.touch.new.nodes c.self.inside.root c.args.key c.self.inside.ids c.self.inside.table.items (restyle c.args.c.now)
+    c.restyle-reach.new.self c.touch.new.nodes c.self.inside.root c.args.key c.self.inside.ids c.self.inside.table.rows (restyle c.args.c.now)
     c.restyle-reach.result c.stale_by-stale.result c.self.invariant.sound s2.0 s1.1 s2.1 c.self.invariant.table m in
-    let o : c.whole_of-old.result ≡ whole_at c.self.inside.nodes c.self.inside.table.items c.args.key = rw c.deref.ensures.value at c.whole_of-old.ensures in
-    let st : IsStale c.stale_by-stale.result c.self.inside.table.items (seen c.touch.new.nodes c.self.inside.root) c.args.key =
-    box_stale c.self.inside.nodes c.restyle-reach.new.self c.touch.new.nodes c.self.inside.root c.args.key c.self.inside.ids c.self.inside.table.items
+    let o : c.whole_of-old.result ≡ whole_at c.self.inside.nodes c.self.inside.table.rows c.args.key = c.whole_of-old.ensures in
+    let st : IsStale c.stale_by-stale.result c.self.inside.table.rows (seen c.touch.new.nodes c.self.inside.root) c.args.key =
+    box_stale c.self.inside.nodes c.restyle-reach.new.self c.touch.new.nodes c.self.inside.root c.args.key c.self.inside.ids c.self.inside.table.rows
     (restyle c.args.c.now) c.restyle-reach.result c.stale_by-stale.result c.self.invariant.sound s2.0 s1.1 s2.1 c.self.invariant.table m
     c.stale_by-stale.ensures.branch (λ n. sym c.extent_of-before.ensures ∙ (c.stale_by-stale.ensures.nothing n ∙ c.extent_of-after.ensures)) in
-    renews c.self.inside.nodes c.touch.new.nodes c.self.inside.root c.args.key c.self.inside.ids c.self.inside.table.items c.stale_by-stale.result
+    renews c.self.inside.nodes c.touch.new.nodes c.self.inside.root c.args.key c.self.inside.ids c.self.inside.table.rows c.stale_by-stale.result
     c.whole_of-old.result c.self.invariant.sound s2.0 slots c.self.invariant.table m e o st
 
 pub given_at-less-requires : goal.given_at-less-requires
 given_at-less-requires g c =
     let m : has same_key c.args.key (seen c.self.inside.nodes c.self.inside.root) ≡ true = (rw (← c.self.view_is) at c.requires.live) in
-    rw c.deref-2.ensures.value (each_has_count c.self.inside.nodes c.self.inside.root (seen c.self.inside.nodes c.self.inside.root)
+    rw c.deref.ensures.value (each_has_count c.self.inside.nodes c.self.inside.root (seen c.self.inside.nodes c.self.inside.root)
     c.self.inside.blends.items (seen_stands c.self.inside.nodes c.self.inside.root c.self.invariant.sound.tree) c.self.invariant.blending.all_rows
     c.args.key m)
 
 pub given_at-more-requires : goal.given_at-more-requires
 given_at-more-requires g c =
     let m : has same_key c.args.key (seen c.self.inside.nodes c.self.inside.root) ≡ true = (rw (← c.self.view_is) at c.requires.live) in
-    rw c.deref-3.ensures.value (each_has_count c.self.inside.nodes c.self.inside.root (seen c.self.inside.nodes c.self.inside.root)
+    rw c.deref-2.ensures.value (each_has_count c.self.inside.nodes c.self.inside.root (seen c.self.inside.nodes c.self.inside.root)
     c.self.inside.blends.items (seen_stands c.self.inside.nodes c.self.inside.root c.self.invariant.sound.tree) c.self.invariant.blending.all_rows
     c.args.key m)

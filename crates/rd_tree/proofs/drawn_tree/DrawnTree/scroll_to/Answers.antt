@@ -19,12 +19,12 @@ use Rattle.rd_tree.proofs.Laying.Again.{anew, again_read, again_below, again_liv
 use Rattle.rd_tree.proofs.drawn_tree.DrawnTree.scroll_to.Goals as goal
 
 pub whole_of-was-requires-clause-here : goal.whole_of-was-requires-clause-here
-whole_of-was-requires-clause-here g c = rw c.deref.ensures.value (row_here c.self.inside.nodes c.self.inside.root c.args.key c.self.inside.ids
-    c.self.invariant.sound (rw (← c.self.view_is) at c.requires.live) c.self.inside.table.items c.self.invariant.table)
+whole_of-was-requires-clause-here g c = (row_here c.self.inside.nodes c.self.inside.root c.args.key c.self.inside.ids
+    c.self.invariant.sound (rw (← c.self.view_is) at c.requires.live) c.self.inside.table.rows c.self.invariant.table)
 
 pub whole_of-was-requires-clause-few : goal.whole_of-was-requires-clause-few
-whole_of-was-requires-clause-few g c = rw c.deref.ensures.value (few_here c.self.inside.nodes c.self.inside.root c.args.key c.self.inside.ids
-    c.self.invariant.sound (rw (← c.self.view_is) at c.requires.live) c.self.inside.table.items c.self.invariant.table)
+whole_of-was-requires-clause-few g c = (few_here c.self.inside.nodes c.self.inside.root c.args.key c.self.inside.ids
+    c.self.invariant.sound (rw (← c.self.view_is) at c.requires.live) c.self.inside.table.rows c.self.invariant.table)
 
 pub redraw_where-requires-clause-read : goal.redraw_where-requires-clause-read
 redraw_where-requires-clause-read g c = subst (λ o. IsRead c.put_scroll-asked.new.self o.0) (sym c.child_and_sibling-below.ensures) (again_read (with_scroll c.args.scroll) (record { id = λ d. refl; style = λ d. refl }) c.self.inside.nodes c.put_scroll-asked.new.self c.self.inside.root c.args.key c.self.inside.ids c.self.invariant.sound (rw (← c.self.view_is) at c.requires.live) c.put_scroll-asked.ensures.put)
@@ -64,8 +64,8 @@ renew_up-requires g c =
     (sym (ap (λ d. d.boxes) c.self.view_is)) c.is-is_root.result (c.is-is_root.ensures ∙ ap (λ d. same_key c.args.key d.root) c.self.view_is) c.put_scroll-asked.ensures.clips)) c.requires.near in
     let r2 : Redraws c.put_scroll-asked.result c.put_scroll-asked.new.self c.redraw_where.new.nodes c.args.rows.now.items c.args.inside (seen_from c.put_scroll-asked.new.self (child_and_sibling (linked c.put_scroll-asked.new.self c.args.key)).0) =
     subst (λ o. Redraws c.put_scroll-asked.result c.put_scroll-asked.new.self c.redraw_where.new.nodes c.args.rows.now.items c.args.inside (seen_from c.put_scroll-asked.new.self o.0)) c.child_and_sibling-below.ensures c.redraw_where.ensures.drawn in
-    let o : c.whole_of-was.result ≡ whole_at c.self.inside.nodes c.self.inside.table.items c.args.key = rw c.deref.ensures.value at c.whole_of-was.ensures in
-    renews c.self.inside.nodes c.redraw_where.new.nodes c.self.inside.root c.args.key c.self.inside.ids c.self.inside.table.items Branch c.whole_of-was.result c.self.invariant.sound
+    let o : c.whole_of-was.result ≡ whole_at c.self.inside.nodes c.self.inside.table.rows c.args.key = c.whole_of-was.ensures in
+    renews c.self.inside.nodes c.redraw_where.new.nodes c.self.inside.root c.args.key c.self.inside.ids c.self.inside.table.rows Branch c.whole_of-was.result c.self.invariant.sound
     (again_sound (with_scroll c.args.scroll) (record { id = λ d. refl; style = λ d. refl }) c.self.inside.nodes c.put_scroll-asked.new.self c.self.inside.root c.args.key c.self.inside.ids c.self.invariant.sound m c.put_scroll-asked.ensures.put c.redraw_where.new.nodes c.args.rows.now.items c.args.inside c.put_scroll-asked.result r2 near)
     (again_slots (with_scroll c.args.scroll) (record { id = λ d. refl; style = λ d. refl }) c.self.inside.nodes c.put_scroll-asked.new.self c.self.inside.root c.args.key c.self.inside.ids c.self.invariant.sound m c.put_scroll-asked.ensures.put c.redraw_where.new.nodes c.args.rows.now.items c.args.inside c.put_scroll-asked.result r2 near)
     c.self.invariant.table m
@@ -80,7 +80,7 @@ invariant_of-self g c =
     (sym (ap (λ d. d.boxes) c.self.view_is)) c.is-is_root.result (c.is-is_root.ensures ∙ ap (λ d. same_key c.args.key d.root) c.self.view_is) c.put_scroll-asked.ensures.clips)) c.requires.near in
     let r2 : Redraws c.put_scroll-asked.result c.put_scroll-asked.new.self c.redraw_where.new.nodes c.args.rows.now.items c.args.inside (seen_from c.put_scroll-asked.new.self (child_and_sibling (linked c.put_scroll-asked.new.self c.args.key)).0) =
     subst (λ o. Redraws c.put_scroll-asked.result c.put_scroll-asked.new.self c.redraw_where.new.nodes c.args.rows.now.items c.args.inside (seen_from c.put_scroll-asked.new.self o.0)) c.child_and_sibling-below.ensures c.redraw_where.ensures.drawn in
-    let o : c.whole_of-was.result ≡ whole_at c.self.inside.nodes c.self.inside.table.items c.args.key = rw c.deref.ensures.value at c.whole_of-was.ensures in
+    let o : c.whole_of-was.result ≡ whole_at c.self.inside.nodes c.self.inside.table.rows c.args.key = c.whole_of-was.ensures in
     let sound = again_sound (with_scroll c.args.scroll) (record { id = λ d. refl; style = λ d. refl }) c.self.inside.nodes c.put_scroll-asked.new.self c.self.inside.root c.args.key c.self.inside.ids c.self.invariant.sound m c.put_scroll-asked.ensures.put c.redraw_where.new.nodes c.args.rows.now.items c.args.inside c.put_scroll-asked.result r2 near in
     record {
       sound = sound;
@@ -88,11 +88,11 @@ invariant_of-self g c =
           c.self.inside.blends.items c.self.invariant.blending;
       shallow = again_shallow (with_scroll c.args.scroll) (record { id = λ d. refl; style = λ d. refl }) c.self.inside.nodes c.put_scroll-asked.new.self c.self.inside.root c.args.key c.self.inside.ids c.self.invariant.sound m c.put_scroll-asked.ensures.put c.redraw_where.new.nodes c.args.rows.now.items c.args.inside c.put_scroll-asked.result r2 near
           c.self.invariant.shallow;
-      table = renewed c.self.inside.nodes c.redraw_where.new.nodes c.self.inside.root c.args.key c.self.inside.ids c.self.inside.table.items Branch c.whole_of-was.result c.self.invariant.sound sound
+      table = renewed c.self.inside.nodes c.redraw_where.new.nodes c.self.inside.root c.args.key c.self.inside.ids c.self.inside.table.rows Branch c.whole_of-was.result c.self.invariant.sound sound
           (again_slots (with_scroll c.args.scroll) (record { id = λ d. refl; style = λ d. refl }) c.self.inside.nodes c.put_scroll-asked.new.self c.self.inside.root c.args.key c.self.inside.ids c.self.invariant.sound m c.put_scroll-asked.ensures.put c.redraw_where.new.nodes c.args.rows.now.items c.args.inside c.put_scroll-asked.result r2 near)
           c.self.invariant.table m
           (again_edited (with_scroll c.args.scroll) (record { id = λ d. refl; style = λ d. refl }) c.self.inside.nodes c.put_scroll-asked.new.self c.self.inside.root c.args.key c.self.inside.ids c.self.invariant.sound m c.put_scroll-asked.ensures.put c.redraw_where.new.nodes c.args.rows.now.items c.args.inside c.put_scroll-asked.result r2 near)
-          o tt c.renew_up.new.table.items c.renew_up.ensures.right c.renew_up.ensures.same_length;
+          o tt c.renew_up.new.table.rows c.renew_up.ensures.right c.renew_up.ensures.same_length;
     }
 
 pub returns-clause-drawn : goal.returns-clause-drawn

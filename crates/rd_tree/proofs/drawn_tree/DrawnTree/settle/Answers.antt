@@ -1,5 +1,4 @@
 use Rattle.std.proofs.Common.{◌≡◌, refl, ap, ◌∙◌, true}
-use Rattle.rd_tree.specs.Internal.Renews.{whole_at}
 use Rattle.rd_tree.specs.Forest.{map_where}
 use Rattle.rd_tree.specs.Internal.Linked.{seen, marks, IsConsistent}
 use Rattle.rd_tree.specs.Touching.{settled}
@@ -15,26 +14,26 @@ use Rattle.rd_tree.proofs.Tables.Settling.{root_there, all_marks}
 use Rattle.rd_tree.proofs.drawn_tree.DrawnTree.settle.Goals as goal
 
 pub whole_of-marks-requires-clause-here : goal.whole_of-marks-requires-clause-here
-whole_of-marks-requires-clause-here g c = rw c.deref.ensures.value (row_here c.self.inside.nodes c.self.inside.root c.self.inside.root
+whole_of-marks-requires-clause-here g c = (row_here c.self.inside.nodes c.self.inside.root c.self.inside.root
     c.self.inside.ids c.self.invariant.sound (root_there c.self.inside.nodes c.self.inside.root c.self.invariant.sound.tree)
-    c.self.inside.table.items c.self.invariant.table)
+    c.self.inside.table.rows c.self.invariant.table)
 
 pub whole_of-marks-requires-clause-few : goal.whole_of-marks-requires-clause-few
-whole_of-marks-requires-clause-few g c = rw c.deref.ensures.value (few_here c.self.inside.nodes c.self.inside.root c.self.inside.root
+whole_of-marks-requires-clause-few g c = (few_here c.self.inside.nodes c.self.inside.root c.self.inside.root
     c.self.inside.ids c.self.invariant.sound (root_there c.self.inside.nodes c.self.inside.root c.self.invariant.sound.tree)
-    c.self.inside.table.items c.self.invariant.table)
+    c.self.inside.table.rows c.self.invariant.table)
 
 pub settle_from-requires-clause-marks : goal.settle_from-requires-clause-marks
 settle_from-requires-clause-marks g c =
-    ap (λ w. w.touched) (c.whole_of-marks.ensures ∙ ap (λ l. whole_at c.self.inside.nodes l c.self.inside.root) c.deref.ensures.value)
-    ∙ all_marks c.self.inside.nodes c.self.inside.root c.self.inside.table.items c.self.invariant.sound.tree c.self.invariant.table
+    ap (λ w. w.touched) (c.whole_of-marks.ensures)
+    ∙ all_marks c.self.inside.nodes c.self.inside.root c.self.inside.table.rows c.self.invariant.sound.tree c.self.invariant.table
 
 pub settle_from-requires-clause-read : goal.settle_from-requires-clause-read
 settle_from-requires-clause-read g c = read_root c.self.inside.nodes c.self.inside.root c.self.invariant.sound.tree
 
 pub settle_from-requires-clause-has_rows : goal.settle_from-requires-clause-has_rows
 settle_from-requires-clause-has_rows g c =
-    each_has_row c.self.inside.nodes c.self.inside.root (seen c.self.inside.nodes c.self.inside.root) c.self.inside.table.items (seen_stands
+    each_has_row c.self.inside.nodes c.self.inside.root (seen c.self.inside.nodes c.self.inside.root) c.self.inside.table.rows (seen_stands
     c.self.inside.nodes c.self.inside.root c.self.invariant.sound.tree) c.self.invariant.table.all_rows
 
 pub settle_from-requires-clause-counted : goal.settle_from-requires-clause-counted
@@ -51,7 +50,7 @@ invariant_of-self g c =
           c.self.invariant.blending;
       shallow = shallow_items (λ j. true) settled (seen c.self.inside.nodes c.self.inside.root) (seen c.settle_from.new.nodes c.self.inside.root) s.1
           c.self.invariant.shallow;
-      table = settled_table c.self.inside.nodes c.settle_from.new.nodes c.self.inside.root c.self.inside.table.items c.settle_from.new.table.items
+      table = settled_table c.self.inside.nodes c.settle_from.new.nodes c.self.inside.root c.self.inside.table.rows c.settle_from.new.table.rows
           c.settle_from.ensures.settled.same_slots s.1
           (is_live c.self.inside.nodes c.self.inside.root (seen c.self.inside.nodes c.self.inside.root) (seen_stands c.self.inside.nodes c.self.inside.root
           c.self.invariant.sound.tree))

@@ -4,7 +4,6 @@ use Rattle.rd_keys.specs.Keys.{same_key}
 use Rattle.rd_tree.specs.Forest.{keys, has, without_branch, branch}
 use Rattle.rd_tree.specs.Document.{with_all_left}
 use Rattle.rd_tree.specs.Internal.Linked.{linked, marks, seen, IsConsistent}
-use Rattle.rd_tree.specs.Internal.Summaries.{summary_at}
 use Rattle.rd_tree.specs.Internal.Blending.{count_at, given_under}
 use Rattle.rd_tree.proofs.Blending.Edits.{IsOwing, each_has_count, cut_owing, removed_blending}
 use Rattle.rd_tree.proofs.Nodes.Removing.{ready, removed}
@@ -27,23 +26,22 @@ unreachable-requires g c =
 
 pub whole_of-whole-requires-clause-few : goal.whole_of-whole-requires-clause-few
 whole_of-whole-requires-clause-few g c = few_touched c.self.inside.nodes c.self.inside.root (seen c.self.inside.nodes c.self.inside.root) (seen_stands
-    c.self.inside.nodes c.self.inside.root c.self.invariant.sound.tree) c.args.key (rw (← c.self.view_is) at c.requires.live) c.deref.result.now
-    (ap (λ r. summary_at r c.args.key) c.deref.ensures.value ∙ c.self.invariant.table.right c.args.key (rw (← c.self.view_is) at c.requires.live))
+    c.self.inside.nodes c.self.inside.root c.self.invariant.sound.tree) c.args.key (rw (← c.self.view_is) at c.requires.live) c.self.inside.table.rows
+    (c.self.invariant.table.right c.args.key (rw (← c.self.view_is) at c.requires.live))
     c.self.invariant.sound.limit
 
 pub lose-requires : goal.lose-requires
 lose-requires g c =
     let left : IsLeft c.unlink.new.nodes c.self.inside.root c.in-Some.parent (without_branch same_key c.args.key (seen c.self.inside.nodes
-    c.self.inside.root)) c.self.inside.table.items c.whole_of-whole.result =
-    left_by c.self.inside.nodes c.unlink.new.nodes c.self.inside.root c.args.key c.in-Some.parent c.self.inside.ids c.self.inside.table.items
+    c.self.inside.root)) c.self.inside.table.rows c.whole_of-whole.result =
+    left_by c.self.inside.nodes c.unlink.new.nodes c.self.inside.root c.args.key c.in-Some.parent c.self.inside.ids c.self.inside.table.rows
     c.self.invariant.sound (rw (← c.self.view_is) at c.requires.live) (rw (← c.self.view_is) at c.requires.below) c.unlink.ensures
     c.self.invariant.table.all_rows
     (is_parent c.self.inside.nodes c.self.inside.root c.args.key c.in-Some.parent c.self.invariant.sound.tree (rw (← c.self.view_is) at c.requires.live)
     (rw (← c.self.view_is) at c.requires.below) (sym c.in-Some.is ∙ c.parent_of.ensures))
     c.self.invariant.table.right c.whole_of-whole.result (c.whole_of-whole.ensures ∙ whole_is c.self.inside.nodes c.self.inside.root
     (seen c.self.inside.nodes c.self.inside.root) (seen_stands c.self.inside.nodes c.self.inside.root c.self.invariant.sound.tree) c.args.key
-    (rw (← c.self.view_is) at c.requires.live) c.deref.result.now (ap (λ r. summary_at r c.args.key) c.deref.ensures.value
-    ∙ c.self.invariant.table.right c.args.key (rw (← c.self.view_is) at c.requires.live))) in
+    (rw (← c.self.view_is) at c.requires.live) c.self.inside.table.rows (c.self.invariant.table.right c.args.key (rw (← c.self.view_is) at c.requires.live))) in
     left.climbs
 
 -- The counts above the branch are ready to be set right.
@@ -55,7 +53,7 @@ owing_here g c =
     let parent = is_parent c.self.inside.nodes c.self.inside.root c.args.key c.in-Some.parent c.self.invariant.sound.tree live below (sym c.in-Some.is
     ∙ c.parent_of.ensures) in
     let e : c.given_at-layers.result ≡ given_under (linked c.self.inside.nodes c.args.key) (count_at c.self.inside.blends.items c.args.key) =
-    c.given_at-layers.ensures ∙ ap (λ r. given_under (linked c.self.inside.nodes c.args.key) (count_at r c.args.key)) c.deref-2.ensures.value in
+    c.given_at-layers.ensures ∙ ap (λ r. given_under (linked c.self.inside.nodes c.args.key) (count_at r c.args.key)) c.deref.ensures.value in
     cut_owing c.self.inside.nodes c.unlink.new.nodes c.self.inside.root c.args.key c.in-Some.parent c.self.inside.ids c.self.inside.blends.items
     c.self.invariant.sound live below c.unlink.ensures c.self.invariant.blending parent c.given_at-layers.result e
 
@@ -65,7 +63,7 @@ recount-requires g c = (owing_here g (goal.at.recount-requires g c).After-lose).
 pub given_at-layers-requires : goal.given_at-layers-requires
 given_at-layers-requires g c =
     let live : has same_key c.args.key (seen c.self.inside.nodes c.self.inside.root) ≡ true = rw (← c.self.view_is) at c.requires.live in
-    rw c.deref-2.ensures.value (each_has_count c.self.inside.nodes c.self.inside.root (seen c.self.inside.nodes c.self.inside.root)
+    rw c.deref.ensures.value (each_has_count c.self.inside.nodes c.self.inside.root (seen c.self.inside.nodes c.self.inside.root)
     c.self.inside.blends.items (seen_stands c.self.inside.nodes c.self.inside.root c.self.invariant.sound.tree) c.self.invariant.blending.all_rows
     c.args.key live)
 
@@ -86,21 +84,20 @@ invariant_of-self g c =
     c.self.invariant.sound (rw (← c.self.view_is) at c.requires.live) (rw (← c.self.view_is) at c.requires.below) c.unlink.ensures
     c.free_branch.ensures.freed c.free_branch.ensures.dropped in
     let left : IsLeft c.unlink.new.nodes c.self.inside.root c.in-Some.parent (without_branch same_key c.args.key (seen c.self.inside.nodes
-    c.self.inside.root)) c.self.inside.table.items c.whole_of-whole.result =
-    left_by c.self.inside.nodes c.unlink.new.nodes c.self.inside.root c.args.key c.in-Some.parent c.self.inside.ids c.self.inside.table.items
+    c.self.inside.root)) c.self.inside.table.rows c.whole_of-whole.result =
+    left_by c.self.inside.nodes c.unlink.new.nodes c.self.inside.root c.args.key c.in-Some.parent c.self.inside.ids c.self.inside.table.rows
     c.self.invariant.sound (rw (← c.self.view_is) at c.requires.live) (rw (← c.self.view_is) at c.requires.below) c.unlink.ensures
     c.self.invariant.table.all_rows
     (is_parent c.self.inside.nodes c.self.inside.root c.args.key c.in-Some.parent c.self.invariant.sound.tree (rw (← c.self.view_is) at c.requires.live)
     (rw (← c.self.view_is) at c.requires.below) (sym c.in-Some.is ∙ c.parent_of.ensures))
     c.self.invariant.table.right c.whole_of-whole.result (c.whole_of-whole.ensures ∙ whole_is c.self.inside.nodes c.self.inside.root
     (seen c.self.inside.nodes c.self.inside.root) (seen_stands c.self.inside.nodes c.self.inside.root c.self.invariant.sound.tree) c.args.key
-    (rw (← c.self.view_is) at c.requires.live) c.deref.result.now (ap (λ r. summary_at r c.args.key) c.deref.ensures.value
-    ∙ c.self.invariant.table.right c.args.key (rw (← c.self.view_is) at c.requires.live))) in
+    (rw (← c.self.view_is) at c.requires.live) c.self.inside.table.rows (c.self.invariant.table.right c.args.key (rw (← c.self.view_is) at c.requires.live))) in
     record {
       sound = t.0;
       table = removed_near c.self.inside.nodes c.free_branch.new.nodes c.self.inside.root (without_branch same_key c.args.key (seen c.self.inside.nodes
-          c.self.inside.root)) (keys (branch same_key c.args.key (seen c.self.inside.nodes c.self.inside.root))) c.self.inside.table.items
-          c.lose.new.table.items c.self.invariant.table.all_rows c.lose.ensures.same_length t.1 t.2
+          c.self.inside.root)) (keys (branch same_key c.args.key (seen c.self.inside.nodes c.self.inside.root))) c.self.inside.table.rows
+          c.lose.new.table.rows c.self.invariant.table.all_rows c.lose.ensures.same_length t.1 t.2
           (c.lose.ensures.right c.self.inside.root (without_branch same_key c.args.key (seen c.self.inside.nodes c.self.inside.root)) left.stands
           left.there left.loses);
       blending = removed_blending c.self.inside.nodes c.free_branch.new.nodes c.self.inside.root (without_branch same_key c.args.key (seen c.self.inside.nodes
@@ -123,5 +120,5 @@ returns g c =
     c.self.invariant.sound.tree))) (rw (← c.self.view_is, t.1, t.2) refl)
 
 pub whole_of-whole-requires-clause-here : goal.whole_of-whole-requires-clause-here
-whole_of-whole-requires-clause-here g c = rw c.deref.ensures.value (row_here c.self.inside.nodes c.self.inside.root c.args.key c.self.inside.ids
-    c.self.invariant.sound (rw (← c.self.view_is) at c.requires.live) c.self.inside.table.items c.self.invariant.table)
+whole_of-whole-requires-clause-here g c = (row_here c.self.inside.nodes c.self.inside.root c.args.key c.self.inside.ids
+    c.self.invariant.sound (rw (← c.self.view_is) at c.requires.live) c.self.inside.table.rows c.self.invariant.table)

@@ -17,12 +17,12 @@ use Rattle.rd_tree.proofs.drawn_tree.DrawnTree.touch_branch.Goals.{After-work_be
 use Rattle.rd_tree.proofs.drawn_tree.DrawnTree.touch_branch.Goals as goal
 
 pub whole_of-old-requires-clause-here : goal.whole_of-old-requires-clause-here
-whole_of-old-requires-clause-here g c = rw c.deref.ensures.value (row_here c.self.inside.nodes c.self.inside.root c.args.key c.self.inside.ids
-    c.self.invariant.sound (rw (← c.self.view_is) at c.requires) c.self.inside.table.items c.self.invariant.table)
+whole_of-old-requires-clause-here g c = (row_here c.self.inside.nodes c.self.inside.root c.args.key c.self.inside.ids
+    c.self.invariant.sound (rw (← c.self.view_is) at c.requires) c.self.inside.table.rows c.self.invariant.table)
 
 pub whole_of-old-requires-clause-few : goal.whole_of-old-requires-clause-few
-whole_of-old-requires-clause-few g c = rw c.deref.ensures.value (few_here c.self.inside.nodes c.self.inside.root c.args.key c.self.inside.ids
-    c.self.invariant.sound (rw (← c.self.view_is) at c.requires) c.self.inside.table.items c.self.invariant.table)
+whole_of-old-requires-clause-few g c = (few_here c.self.inside.nodes c.self.inside.root c.args.key c.self.inside.ids
+    c.self.invariant.sound (rw (← c.self.view_is) at c.requires) c.self.inside.table.rows c.self.invariant.table)
 
 pub work_below-requires-clause-read : goal.work_below-requires-clause-read
 work_below-requires-clause-read g c = (under_box c.self.inside.nodes c.self.inside.root c.args.key c.self.invariant.sound.tree (rw (← c.self.view_is) at
@@ -45,17 +45,17 @@ pub renew_up-requires : goal.renew_up-requires
 renew_up-requires g c =
     let s = sound_here g (goal.at.renew_up-requires g c).After-work_below in
     let m : has same_key c.args.key (seen c.self.inside.nodes c.self.inside.root) ≡ true = (rw (← c.self.view_is) at c.requires) in
-    let o : c.whole_of-old.result ≡ whole_at c.self.inside.nodes c.self.inside.table.items c.args.key = rw c.deref.ensures.value at c.whole_of-old.ensures in
+    let o : c.whole_of-old.result ≡ whole_at c.self.inside.nodes c.self.inside.table.rows c.args.key = c.whole_of-old.ensures in
     let e : Edited c.args.key (seen c.self.inside.nodes c.self.inside.root) (seen c.work_below.new.nodes c.self.inside.root) = subtree_edited
     c.self.inside.nodes c.work_below.new.nodes c.self.inside.root c.args.key touch s.1 in
-    renews c.self.inside.nodes c.work_below.new.nodes c.self.inside.root c.args.key c.self.inside.ids c.self.inside.table.items Branch
+    renews c.self.inside.nodes c.work_below.new.nodes c.self.inside.root c.args.key c.self.inside.ids c.self.inside.table.rows Branch
     c.whole_of-old.result c.self.invariant.sound s.0 c.work_below.ensures.same_slots c.self.invariant.table m e o tt
 
 pub invariant_of-self : goal.invariant_of-self
 invariant_of-self g c =
     let s = sound_here g (goal.at.invariant_of-self g c).After-work_below in
     let m : has same_key c.args.key (seen c.self.inside.nodes c.self.inside.root) ≡ true = (rw (← c.self.view_is) at c.requires) in
-    let o : c.whole_of-old.result ≡ whole_at c.self.inside.nodes c.self.inside.table.items c.args.key = rw c.deref.ensures.value at c.whole_of-old.ensures in
+    let o : c.whole_of-old.result ≡ whole_at c.self.inside.nodes c.self.inside.table.rows c.args.key = c.whole_of-old.ensures in
     let e : Edited c.args.key (seen c.self.inside.nodes c.self.inside.root) (seen c.work_below.new.nodes c.self.inside.root) = subtree_edited
     c.self.inside.nodes c.work_below.new.nodes c.self.inside.root c.args.key touch s.1 in
     record {
@@ -65,8 +65,8 @@ invariant_of-self g c =
           (λ d. refl) s.1 c.work_below.ensures.same_slots c.self.invariant.blending;
       shallow = shallow_items (λ j. in_subtree same_key j c.args.key (seen c.self.inside.nodes c.self.inside.root)) touch
           (seen c.self.inside.nodes c.self.inside.root) (seen c.work_below.new.nodes c.self.inside.root) s.1 c.self.invariant.shallow;
-      table = renewed c.self.inside.nodes c.work_below.new.nodes c.self.inside.root c.args.key c.self.inside.ids c.self.inside.table.items
-          Branch c.whole_of-old.result c.self.invariant.sound s.0 c.work_below.ensures.same_slots c.self.invariant.table m e o tt c.renew_up.new.table.items
+      table = renewed c.self.inside.nodes c.work_below.new.nodes c.self.inside.root c.args.key c.self.inside.ids c.self.inside.table.rows
+          Branch c.whole_of-old.result c.self.invariant.sound s.0 c.work_below.ensures.same_slots c.self.invariant.table m e o tt c.renew_up.new.table.rows
           c.renew_up.ensures.right c.renew_up.ensures.same_length;
     }
 

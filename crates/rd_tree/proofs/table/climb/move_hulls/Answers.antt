@@ -7,28 +7,28 @@ use Rattle.rd_tree.proofs.Tables.Hulling.{Hulling, HereHull, hulling_begun, hull
 use Rattle.rd_tree.proofs.table.climb.move_hulls.Goals as goal
 
 pub loop-at-init : goal.loop-at-init
-loop-at-init c = hulling_begun c.args.nodes.now c.args.table.now.items c.args.from c.args.lost c.args.gained
+loop-at-init c = hulling_begun c.args.nodes.now c.args.table.now.rows c.args.from c.args.lost c.args.gained
 
 pub moved_hull-hull-requires : goal.moved_hull-hull-requires
 moved_hull-hull-requires c =
-    let w : Hulling c.args.nodes.now c.args.table.now.items c.loop-at.table.items c.args.from (Some c.in-Some.key) c.args.lost c.args.gained = subst
-    (λ o. Hulling c.args.nodes.now c.args.table.now.items c.loop-at.table.items c.args.from o c.args.lost c.args.gained) c.in-Some.is
+    let w : Hulling c.args.nodes.now c.args.table.now.rows c.loop-at.table.rows c.args.from (Some c.in-Some.key) c.args.lost c.args.gained = subst
+    (λ o. Hulling c.args.nodes.now c.args.table.now.rows c.loop-at.table.rows c.args.from o c.args.lost c.args.gained) c.in-Some.is
     c.loop-at.invariant in
-    let h : HereHull c.args.nodes.now c.loop-at.table.items c.in-Some.key = here_hull c.args.nodes.now c.args.table.now.items c.loop-at.table.items
+    let h : HereHull c.args.nodes.now c.loop-at.table.rows c.in-Some.key = here_hull c.args.nodes.now c.args.table.now.rows c.loop-at.table.rows
     c.args.from c.in-Some.key c.args.lost c.args.gained w c.requires in
-    rw c.deref.ensures.value (record { here = h.here; fits = h.fits; read = h.read; rows = h.has_rows })
+    (record { here = h.here; fits = h.fits; read = h.read; rows = h.has_rows })
 
 pub put_hull-requires : goal.put_hull-requires
 put_hull-requires c =
-    let w : Hulling c.args.nodes.now c.args.table.now.items c.loop-at.table.items c.args.from (Some c.in-Some.key) c.args.lost c.args.gained = subst
-    (λ o. Hulling c.args.nodes.now c.args.table.now.items c.loop-at.table.items c.args.from o c.args.lost c.args.gained) c.in-Some.is
+    let w : Hulling c.args.nodes.now c.args.table.now.rows c.loop-at.table.rows c.args.from (Some c.in-Some.key) c.args.lost c.args.gained = subst
+    (λ o. Hulling c.args.nodes.now c.args.table.now.rows c.loop-at.table.rows c.args.from o c.args.lost c.args.gained) c.in-Some.is
     c.loop-at.invariant in
-    (here_hull c.args.nodes.now c.args.table.now.items c.loop-at.table.items c.args.from c.in-Some.key c.args.lost c.args.gained w c.requires).here
+    (here_hull c.args.nodes.now c.args.table.now.rows c.loop-at.table.rows c.args.from c.in-Some.key c.args.lost c.args.gained w c.requires).here
 
 pub loop-at-smaller : goal.loop-at-smaller
 loop-at-smaller c =
-    let w : Hulling c.args.nodes.now c.args.table.now.items c.loop-at.table.items c.args.from (Some c.in-Some.key) c.args.lost c.args.gained = subst
-    (λ o. Hulling c.args.nodes.now c.args.table.now.items c.loop-at.table.items c.args.from o c.args.lost c.args.gained) c.in-Some.is
+    let w : Hulling c.args.nodes.now c.args.table.now.rows c.loop-at.table.rows c.args.from (Some c.in-Some.key) c.args.lost c.args.gained = subst
+    (λ o. Hulling c.args.nodes.now c.args.table.now.rows c.loop-at.table.rows c.args.from o c.args.lost c.args.gained) c.in-Some.is
     c.loop-at.invariant in
     let n : from_up c.args.nodes.now.limit (linked c.args.nodes.now) (parent_of (linked c.args.nodes.now c.in-Some.key)) < from_up c.args.nodes.now.limit
     (linked c.args.nodes.now) (Some c.in-Some.key) =
@@ -38,16 +38,15 @@ loop-at-smaller c =
 
 pub loop-at-preserved : goal.loop-at-preserved
 loop-at-preserved c =
-    let w : Hulling c.args.nodes.now c.args.table.now.items c.loop-at.table.items c.args.from (Some c.in-Some.key) c.args.lost c.args.gained = subst
-    (λ o. Hulling c.args.nodes.now c.args.table.now.items c.loop-at.table.items c.args.from o c.args.lost c.args.gained) c.in-Some.is
+    let w : Hulling c.args.nodes.now c.args.table.now.rows c.loop-at.table.rows c.args.from (Some c.in-Some.key) c.args.lost c.args.gained = subst
+    (λ o. Hulling c.args.nodes.now c.args.table.now.rows c.loop-at.table.rows c.args.from o c.args.lost c.args.gained) c.in-Some.is
     c.loop-at.invariant in
-    rw c.parent_of-at.ensures (hulling_next c.args.nodes.now c.args.table.now.items c.loop-at.table.items c.args.from c.in-Some.key
-    c.args.lost c.args.gained w c.put_hull.new.table.items c.moved_hull-hull.result (rw c.deref.ensures.value at
-    c.moved_hull-hull.ensures) c.put_hull.ensures.rows c.put_hull.ensures.same_length)
+    rw c.parent_of-at.ensures (hulling_next c.args.nodes.now c.args.table.now.rows c.loop-at.table.rows c.args.from c.in-Some.key
+    c.args.lost c.args.gained w c.put_hull.new.table.rows c.moved_hull-hull.result c.moved_hull-hull.ensures c.put_hull.ensures.rows c.put_hull.ensures.same_length)
 
 pub returns-clause-hulls : goal.returns-clause-hulls
-returns-clause-hulls c = hulling_ended c.args.nodes.now c.args.table.now.items c.loop-at.table.items c.args.from c.args.lost c.args.gained (subst
-    (λ o. Hulling c.args.nodes.now c.args.table.now.items c.loop-at.table.items c.args.from o c.args.lost c.args.gained) c.in_default.is
+returns-clause-hulls c = hulling_ended c.args.nodes.now c.args.table.now.rows c.loop-at.table.rows c.args.from c.args.lost c.args.gained (subst
+    (λ o. Hulling c.args.nodes.now c.args.table.now.rows c.loop-at.table.rows c.args.from o c.args.lost c.args.gained) c.in_default.is
     c.loop-at.invariant)
 
 pub returns-clause-others : goal.returns-clause-others

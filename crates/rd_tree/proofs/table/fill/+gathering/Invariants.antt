@@ -11,7 +11,7 @@ abbrev pub decreases-gather : goal.decreases-gather
 decreases-gather l = 2 * size (seen_from l.nodes.now l.first)
 
 abbrev pub invariant-gather-loop-at : goal.invariant-gather-loop-at
-invariant-gather-loop-at l = Filled l.nodes l.fn.table.items l.table.items l.fn.first l.at l.all
+invariant-gather-loop-at l = Filled l.nodes l.fn.table.rows l.table.rows l.fn.first l.at l.all
 
 abbrev pub decreases-gather-loop-at : goal.decreases-gather-loop-at
 decreases-gather-loop-at l = size (seen_from l.nodes l.at)

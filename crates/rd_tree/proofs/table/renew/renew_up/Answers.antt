@@ -10,14 +10,14 @@ use Rattle.rd_tree.proofs.table.renew.renew_up.Goals as goal
 pub whole_of-new-requires-clause-few : goal.whole_of-new-requires-clause-few
 whole_of-new-requires-clause-few c =
     let r = c.requires in
-    let i : IsRightIn c.renew.new.table.items r.boxes c.args.key = c.renew.ensures.right r.root r.boxes r.is r.there r.ready.inner in
-    rw c.deref.ensures.value (few_touched c.args.nodes.now r.root r.boxes r.is c.args.key r.there c.renew.new.table.items (i c.args.key (above_self
+    let i : IsRightIn c.renew.new.table.rows r.boxes c.args.key = c.renew.ensures.right r.root r.boxes r.is r.there r.ready.inner in
+    (few_touched c.args.nodes.now r.root r.boxes r.is c.args.key r.there c.renew.new.table.rows (i c.args.key (above_self
     c.args.nodes.now r.root r.boxes r.is c.args.key r.there)) r.few)
 
 pub swap_up-requires : goal.swap_up-requires
 swap_up-requires c =
     let r = c.requires in
-    let i : IsRightIn c.renew.new.table.items r.boxes c.args.key = c.renew.ensures.right r.root r.boxes r.is r.there r.ready.inner in
+    let i : IsRightIn c.renew.new.table.rows r.boxes c.args.key = c.renew.ensures.right r.root r.boxes r.is r.there r.ready.inner in
     rw c.parent_of-up.ensures (record {
       root = r.root;
       boxes = r.boxes;
@@ -26,14 +26,14 @@ swap_up-requires c =
       has_rows = λ k h. let l = r.has_rows k h in omega (arith, l, c.renew.ensures.same_length);
       fits = r.fits;
       few = r.few;
-      swapping = renewing c.args.nodes.now r.root r.boxes r.is c.args.key r.there c.args.table.now.items c.renew.new.table.items i (c.renew.ensures.others
-          r.root r.boxes r.is r.there) c.args.old r.ready.outer c.whole_of-new.result (rw c.deref.ensures.value at c.whole_of-new.ensures);
+      swapping = renewing c.args.nodes.now r.root r.boxes r.is c.args.key r.there c.args.table.now.rows c.renew.new.table.rows i (c.renew.ensures.others
+          r.root r.boxes r.is r.there) c.args.old r.ready.outer c.whole_of-new.result (c.whole_of-new.ensures);
     })
 
 pub returns-clause-right : goal.returns-clause-right
 returns-clause-right c root f is m q =
-    let i : IsRightIn c.renew.new.table.items f c.args.key = c.renew.ensures.right root f is m q.inner in
-    let w : IsSwapping c.renew.new.table.items f (parent_of (linked c.args.nodes.now c.args.key)) c.args.old c.whole_of-new.result =
-    renewing c.args.nodes.now root f is c.args.key m c.args.table.now.items c.renew.new.table.items i (c.renew.ensures.others root f is m) c.args.old
-    q.outer c.whole_of-new.result (rw c.deref.ensures.value at c.whole_of-new.ensures) in
+    let i : IsRightIn c.renew.new.table.rows f c.args.key = c.renew.ensures.right root f is m q.inner in
+    let w : IsSwapping c.renew.new.table.rows f (parent_of (linked c.args.nodes.now c.args.key)) c.args.old c.whole_of-new.result =
+    renewing c.args.nodes.now root f is c.args.key m c.args.table.now.rows c.renew.new.table.rows i (c.renew.ensures.others root f is m) c.args.old
+    q.outer c.whole_of-new.result (c.whole_of-new.ensures) in
     (rw c.parent_of-up.ensures at c.swap_up.ensures.right) root f is (in_up c.args.nodes.now root f is c.args.key m) w

@@ -13,7 +13,7 @@ decreases-settle_from l = 2 * size (seen_from l.nodes.now l.first)
 
 abbrev pub invariant-settle_from-loop-at : goal.invariant-settle_from-loop-at
 invariant-settle_from-loop-at l =
-    Settling l.fn.nodes l.nodes l.fn.table.items l.table.items l.fn.first l.at × (l.left ≡ touched_in (seen_from l.nodes l.at))
+    Settling l.fn.nodes l.nodes l.fn.table.rows l.table.rows l.fn.first l.at × (l.left ≡ touched_in (seen_from l.nodes l.at))
 
 abbrev pub decreases-settle_from-loop-at : goal.decreases-settle_from-loop-at
 decreases-settle_from-loop-at l = size (seen_from l.nodes l.at)

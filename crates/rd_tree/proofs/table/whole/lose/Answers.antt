@@ -4,23 +4,23 @@ use Rattle.rd_tree.proofs.Tables.Gaining.{losing, can_lose, can_swap, others_row
 use Rattle.rd_tree.proofs.table.whole.lose.Goals as goal
 
 pub drop_child-requires-clause-some : goal.drop_child-requires-clause-some
-drop_child-requires-clause-some c = can_lose c.args.nodes.now c.args.table.now.items c.args.parent c.args.whole c.requires
+drop_child-requires-clause-some c = can_lose c.args.nodes.now c.args.table.now.rows c.args.parent c.args.whole c.requires
 
 pub swap_up-requires : goal.swap_up-requires
 swap_up-requires c =
     let r = c.requires in
-    can_swap c.args.nodes.now c.args.table.now.items c.drop_child.new.table.items c.args.parent _ c.args.whole c.nothing.result r
+    can_swap c.args.nodes.now c.args.table.now.rows c.drop_child.new.table.rows c.args.parent _ c.args.whole c.nothing.result r
     c.drop_child.ensures.same_length
-    (subst (λ o. IsSwapping c.drop_child.new.table.items r.boxes (Some c.args.parent) c.args.whole o) (sym c.nothing.ensures)
-    (losing c.args.nodes.now c.args.table.now.items c.drop_child.new.table.items r.root c.args.parent r.boxes r.is r.there c.args.whole
+    (subst (λ o. IsSwapping c.drop_child.new.table.rows r.boxes (Some c.args.parent) c.args.whole o) (sym c.nothing.ensures)
+    (losing c.args.nodes.now c.args.table.now.rows c.drop_child.new.table.rows r.root c.args.parent r.boxes r.is r.there c.args.whole
     c.drop_child.ensures.rows r.ready))
 
 pub returns-clause-right : goal.returns-clause-right
 returns-clause-right c = λ root f s i g.
-    c.swap_up.ensures.right root f s i (subst (λ o. IsSwapping c.drop_child.new.table.items f (Some c.args.parent) c.args.whole o) (sym c.nothing.ensures)
-    (losing c.args.nodes.now c.args.table.now.items c.drop_child.new.table.items root c.args.parent f s i c.args.whole c.drop_child.ensures.rows g))
+    c.swap_up.ensures.right root f s i (subst (λ o. IsSwapping c.drop_child.new.table.rows f (Some c.args.parent) c.args.whole o) (sym c.nothing.ensures)
+    (losing c.args.nodes.now c.args.table.now.rows c.drop_child.new.table.rows root c.args.parent f s i c.args.whole c.drop_child.ensures.rows g))
 
 pub returns-clause-others : goal.returns-clause-others
 returns-clause-others c = λ root f s i k l o.
-    c.swap_up.ensures.others root f s i k l o ∙ others_row c.args.nodes.now c.args.table.now.items c.drop_child.new.table.items root c.args.parent f s i _
+    c.swap_up.ensures.others root f s i k l o ∙ others_row c.args.nodes.now c.args.table.now.rows c.drop_child.new.table.rows root c.args.parent f s i _
     k c.drop_child.ensures.rows l o

@@ -1,8 +1,8 @@
-use Rattle.std.proofs.Common.{◌≡◌, ◌∙◌, ap, sym, subst}
+use Rattle.std.proofs.Common.{◌∙◌, ap, sym, subst}
 use Rattle.rd_keys.specs.Keys.{same_key}
 use Rattle.rd_tree.specs.Forest.{item_of}
 use Rattle.rd_tree.specs.Limits.{IsNear}
-use Rattle.rd_tree.specs.Changes.{unscrolled, placing}
+use Rattle.rd_tree.specs.Changes.{placing}
 use Rattle.rd_tree.specs.Touching.{edited}
 use Rattle.rd_tree.specs.Internal.Handing.{IsFar, offset_in}
 use Rattle.rd_tree.specs.Internal.Hands.{hand_at}

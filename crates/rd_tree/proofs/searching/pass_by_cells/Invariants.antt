@@ -3,7 +3,7 @@ use Rattle.rd_tree.specs.Forest.{size, from_some}
 use Rattle.rd_tree.specs.Seeking.{hull_reaches}
 use Rattle.rd_tree.specs.Internal.Linked.{seen}
 use Rattle.rd_tree.proofs.Nodes.Seeking.{Seeks, IsLiveIfAny}
-use Rattle.rd_tree.proofs.searching.pass_to_hull.Given as goal
+use Rattle.rd_tree.proofs.searching.pass_by_cells.Given as goal
 
 abbrev pub invariant-loop-at : goal.invariant-loop-at
 invariant-loop-at g l = record {
