@@ -31,7 +31,7 @@ pub fn finish<A: Ledger>(kept: Kept<A>, new: NewList<A>, plan: Plan<A>) -> Kept<
         aside,
         room,
         parts,
-        mut chunks,
+        chunks,
         mut level,
     } = plan;
     let Level {
@@ -46,7 +46,7 @@ pub fn finish<A: Ledger>(kept: Kept<A>, new: NewList<A>, plan: Plan<A>) -> Kept<
     }
     let had = in_line_chunks(had, &entries, &made, patch.line(), parts);
     let entries = in_line(alloc, entries, made, patch.line(), aside, room);
-    renew_chunks(&mut chunks, &entries, &had);
+    let chunks = renew_chunks(chunks, &entries, had);
     *level = Level {
         entries,
         graph: graph.apply(patch),

@@ -134,17 +134,17 @@ finish-in_line_chunks-had-requires-clause-line g t c =
     let more = c.deref-2.ensures.len in
     line_so (option_map (λ l. places_of l.now) c.line.result) (line_of c.args.plan.patch) (length c.deref.result.now + length c.deref-2.result.now) (size_of c.args.kept.entries + made_count c.args.plan.steps) (c.line.ensures ∙ ap (λ p. line_of p.patch) c.plan.view_is) (omega (arith, none, entries, counted, many, more)) c.requires.line
 
-pub finish-renew_chunks-requires-clause-none : goal.finish-renew_chunks-requires-clause-none
-finish-renew_chunks-requires-clause-none g t c = c.plan.invariant.4
+pub finish-renew_chunks-chunks-requires-clause-none : goal.finish-renew_chunks-chunks-requires-clause-none
+finish-renew_chunks-chunks-requires-clause-none g t c = c.plan.invariant.4
 
-pub finish-renew_chunks-requires-clause-had : goal.finish-renew_chunks-requires-clause-had
-finish-renew_chunks-requires-clause-had g t c =
+pub finish-renew_chunks-chunks-requires-clause-had : goal.finish-renew_chunks-chunks-requires-clause-had
+finish-renew_chunks-chunks-requires-clause-had g t c =
     let same = c.line.ensures ∙ sym c.line-2.ensures in
     let all = ap (λ es. es ++ c.deref-2.result.now) c.deref.ensures.value ∙ ap (λ es. c.loop-step.entries.items ++ es) c.deref-2.ensures.value in
-    rw (c.deref-4.ensures.value, c.deref-3.ensures.value, c.in_line-entries.ensures.items, ← same, ← all) c.in_line_chunks-had.ensures
+    rw (c.deref-3.ensures.value, c.in_line-entries.ensures.items, ← same, ← all) c.in_line_chunks-had.ensures
 
 pub finish-of-requires : goal.finish-of-requires
-finish-of-requires g t c = subst (Covers c.renew_chunks.new.chunks.items) c.deref-3.ensures.value c.renew_chunks.ensures
+finish-of-requires g t c = subst (Covers c.renew_chunks-chunks.result.items) c.deref-3.ensures.value c.renew_chunks-chunks.ensures
 
 pub finish-apply-requires : goal.finish-apply-requires
 finish-apply-requires g t c = fits c.plan.inside.patch c.args.plan.patch c.into_level-entries.result.graph c.args.kept.graph (ap (λ p. p.patch) c.plan.view_is) c.into_level-entries.ensures.seen.0 c.requires.patch

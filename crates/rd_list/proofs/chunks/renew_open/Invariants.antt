@@ -1,6 +1,6 @@
 use Rattle.std.proofs.Common.{◌≤◌, length, take, drop}
 use Rattle.rd_list.specs.Chunks.{Covers, CoversAll}
-use Rattle.rd_list.proofs.chunks.renew_chunks.Given as goal
+use Rattle.rd_list.proofs.chunks.renew_open.Given as goal
 
 abbrev pub invariant-loop-i : goal.invariant-loop-i
 invariant-loop-i g l = record {

@@ -1,8 +1,8 @@
 use Rattle.std.proofs.Common.{◌≡◌, ◌+◌, arith, drop, sym, subst, ℕ}
 use Rattle.rd_list.specs.Chunks.{Covers}
 use Rattle.rd_list.proofs.Covering.{ahead_first, stay_next}
-use Rattle.rd_list.proofs.chunks.renew_chunks.Goals as goal
-use Rattle.rd_list.proofs.chunks.renew_chunks.Goals.{then-stays+else-not-cover_on+else-not-push_chunk, else-stays}
+use Rattle.rd_list.proofs.chunks.renew_open.Goals as goal
+use Rattle.rd_list.proofs.chunks.renew_open.Goals.{then-stays+else-not-cover_on+else-not-push_chunk, else-stays}
 
 pub loop-i-preserved : goal.loop-i-preserved
 loop-i-preserved g c =
