@@ -14,3 +14,4 @@ pub mod MovedNodes
 pub mod InPlace
 pub mod Windows
 pub mod StayBits
+pub mod ByRanks

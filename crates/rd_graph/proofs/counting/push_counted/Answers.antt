@@ -1,6 +1,6 @@
 use Rattle.std.proofs.Common.{refl, ap, ◌∙◌, sym, cond, arith, ℕ, List, [], ◌∷◌, ◌++◌, ◌+◌}
 use Rattle.rd_graph.specs.Internal.Ranks.{counted_ranks}
-use Rattle.rd_graph.proofs.ByRanks.CountedRanks.{passed_few, passed_none, passed_next, part_next, part_end}
+use Rattle.rd_graph.proofs.LinedUp.ByRanks.CountedRanks.{passed_few, passed_none, passed_next, part_next, part_end}
 use Rattle.rd_graph.proofs.counting.push_counted.Goals as goal
 
 pub loop-place-init : goal.loop-place-init

@@ -2,7 +2,7 @@ use Rattle.std.proofs.Common.{refl, ap, ◌∙◌, cond, arith, ℕ, [], ◌∷�
 use Rattle.rd_keys.specs.declared.entry.EntryKey.{EntryKey}
 use Rattle.rd_graph.specs.Internal.Tables.{label_in}
 use Rattle.rd_graph.specs.Internal.Ranks.{labelled_ranks}
-use Rattle.rd_graph.proofs.ByRanks.CountedRanks.{part_next, part_end, labelled_one}
+use Rattle.rd_graph.proofs.LinedUp.ByRanks.CountedRanks.{part_next, part_end, labelled_one}
 use Rattle.rd_graph.proofs.counting.push_labels.Goals as goal
 
 pub loop-place-init : goal.loop-place-init

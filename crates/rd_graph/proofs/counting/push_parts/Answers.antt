@@ -1,5 +1,5 @@
 use Rattle.std.proofs.lemmas.Result.{on_ok_weaker}
-use Rattle.rd_graph.proofs.ByRanks.RankParts.{put_parts}
+use Rattle.rd_graph.proofs.LinedUp.ByRanks.RankParts.{put_parts}
 use Rattle.rd_graph.proofs.counting.push_parts.Goals as goal
 
 pub returns : goal.returns

@@ -1,4 +1,4 @@
-use Rattle.rd_graph.proofs.ByRanks.RankParts.{range_once, none_goes_back}
+use Rattle.rd_graph.proofs.LinedUp.ByRanks.RankParts.{range_once, none_goes_back}
 use Rattle.rd_graph.proofs.counting.push_within.Goals as goal
 
 pub label_nodes-requires-clause-once : goal.label_nodes-requires-clause-once

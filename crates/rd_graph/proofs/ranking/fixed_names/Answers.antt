@@ -1,4 +1,4 @@
-use Rattle.rd_graph.proofs.ByRanks.Ranks.{fixed_next}
+use Rattle.rd_graph.proofs.LinedUp.ByRanks.Ranks.{fixed_next}
 use Rattle.rd_graph.proofs.ranking.fixed_names.Goals as goal
 
 pub loop-i-preserved : goal.loop-i-preserved

@@ -1,7 +1,7 @@
 use Rattle.std.proofs.Common.{refl, ap, ℕ, List, ◌++◌}
 use Rattle.rd_graph.specs.Internal.Ranks.{fixed}
 use Rattle.rd_graph.proofs.Lists.Gatherings.{whole_at_end}
-use Rattle.rd_graph.proofs.ByRanks.Ranks.{fixed_next}
+use Rattle.rd_graph.proofs.LinedUp.ByRanks.Ranks.{fixed_next}
 use Rattle.rd_graph.proofs.ranking.fixed_places.Goals as goal
 
 pub loop-place-init : goal.loop-place-init

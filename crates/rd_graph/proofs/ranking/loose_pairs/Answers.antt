@@ -1,7 +1,7 @@
 use Rattle.std.proofs.Common.{refl, ap, arith, ℕ, List, ◌++◌}
 use Rattle.rd_graph.specs.Internal.Ranks.{loose}
 use Rattle.rd_graph.proofs.Lists.Gatherings.{whole_at_end}
-use Rattle.rd_graph.proofs.ByRanks.Ranks.{loose_next, rank_few}
+use Rattle.rd_graph.proofs.LinedUp.ByRanks.Ranks.{loose_next, rank_few}
 use Rattle.rd_graph.proofs.ranking.loose_pairs.Goals as goal
 
 pub loop-place-preserved : goal.loop-place-preserved

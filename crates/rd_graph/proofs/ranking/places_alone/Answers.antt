@@ -1,6 +1,6 @@
 use Rattle.std.proofs.Common.{◌∙◌, ap, ℕ, List, map}
 use Rattle.std.proofs.lemmas.List.{take_all}
-use Rattle.rd_graph.proofs.ByRanks.Ranks.{alone_next}
+use Rattle.rd_graph.proofs.LinedUp.ByRanks.Ranks.{alone_next}
 use Rattle.rd_graph.proofs.ranking.places_alone.Goals as goal
 
 pub loop-place-init : goal.loop-place-init

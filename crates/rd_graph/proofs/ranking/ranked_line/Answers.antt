@@ -2,7 +2,7 @@ use Rattle.std.proofs.Common.{◌∙◌, sym, subst, Some}
 use Rattle.std.proofs.lemmas.Result.{IfOk-weaker}
 use Rattle.rd_graph.specs.Patches.{IsArranged}
 use Rattle.rd_graph.specs.Internal.Seen.{seen}
-use Rattle.rd_graph.proofs.ByRanks.RankedMerges.{ranked_by, once_fixed, named_fixed, count_places}
+use Rattle.rd_graph.proofs.LinedUp.ByRanks.RankedMerges.{ranked_by, once_fixed, named_fixed, count_places}
 use Rattle.rd_graph.proofs.ranking.ranked_line.Goals as goal
 
 pub sorted_places-requires-clause-stays : goal.sorted_places-requires-clause-stays

@@ -1,5 +1,5 @@
 use Rattle.std.proofs.Common.{refl}
-use Rattle.rd_graph.proofs.ByRanks.OutOfOrder.{end_first, end_earlier, end_higher, end_all}
+use Rattle.rd_graph.proofs.LinedUp.ByRanks.OutOfOrder.{end_first, end_earlier, end_higher, end_all}
 use Rattle.rd_graph.proofs.regions.end_of.Goals as goal
 
 pub loop-i-init : goal.loop-i-init

@@ -1,4 +1,4 @@
-use Rattle.rd_graph.proofs.ByRanks.OutOfOrder.{EndSoFar}
+use Rattle.rd_graph.proofs.LinedUp.ByRanks.OutOfOrder.{EndSoFar}
 use Rattle.rd_graph.proofs.regions.end_of.Given as goal
 
 abbrev pub invariant-loop-i : goal.invariant-loop-i

@@ -1,5 +1,5 @@
 use Rattle.std.proofs.Common.{refl}
-use Rattle.rd_graph.proofs.ByRanks.OutOfOrder.{start_first, start_later, start_lower, start_all}
+use Rattle.rd_graph.proofs.LinedUp.ByRanks.OutOfOrder.{start_first, start_later, start_lower, start_all}
 use Rattle.rd_graph.proofs.regions.start_of.Goals as goal
 
 pub loop-i-init : goal.loop-i-init

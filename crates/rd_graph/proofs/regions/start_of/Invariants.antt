@@ -1,5 +1,5 @@
 use Rattle.std.proofs.Common.{length, ◌-◌}
-use Rattle.rd_graph.proofs.ByRanks.OutOfOrder.{StartSoFar}
+use Rattle.rd_graph.proofs.LinedUp.ByRanks.OutOfOrder.{StartSoFar}
 use Rattle.rd_graph.proofs.regions.start_of.Given as goal
 
 abbrev pub invariant-loop-i : goal.invariant-loop-i

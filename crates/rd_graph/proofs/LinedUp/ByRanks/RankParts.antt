@@ -27,7 +27,7 @@ use Rattle.rd_graph.proofs.Patches.Namings.{node_count}
 use Rattle.rd_graph.proofs.LinedUp.LineFacts.{seen_length}
 use Rattle.rd_graph.proofs.LinedUp.PlacedLines.{before_places}
 use Rattle.rd_graph.proofs.LinedUp.Walks.{staying_to}
-use Rattle.rd_graph.proofs.ByRanks.CountedRanks.{passed_few, passed_grows, passed_own}
+use Rattle.rd_graph.proofs.LinedUp.ByRanks.CountedRanks.{passed_few, passed_grows, passed_own}
 
 -- ---- a part of a list
 

@@ -28,7 +28,7 @@ use Rattle.rd_graph.proofs.LinedUp.LineFacts.{node_length, seen_length}
 use Rattle.rd_graph.proofs.LinedUp.ChainPlaces.{before_at}
 use Rattle.rd_graph.proofs.LinedUp.Walks.{staying_to, staying_from, staying_before, staying_once, stays_below}
 use Rattle.rd_graph.proofs.LinedUp.PlacedLines.{placed_line, once_places, chained, at_old, not_gone}
-use Rattle.rd_graph.proofs.ByRanks.RankedLines.{ranked_map, ranked_places, chain_pairs, chain_seconds, ranks_rise, loose_has, loose_before, loose_to, loose_once, fixed_of, fixed_to, fixed_before, fixed_once, fixed_rank, fixed_length, fixed_map, fixed_places}
+use Rattle.rd_graph.proofs.LinedUp.ByRanks.RankedLines.{ranked_map, ranked_places, chain_pairs, chain_seconds, ranks_rise, loose_has, loose_before, loose_to, loose_once, fixed_of, fixed_to, fixed_before, fixed_once, fixed_rank, fixed_length, fixed_map, fixed_places}
 
 pub counted_length : (n : ℕ) (os : List (Option ℕ)) → length (counted n os) ≡ length os
 counted_length n [] = refl
