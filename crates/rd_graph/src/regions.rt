@@ -1,75 +1,72 @@
-//! The region of places in which the places of a chain are out of order. Before it and after it they rise.
-ghost use Rattle.std.specs.Prelude.{ℕ, ◌<◌, length, slice_index_or};
-ghost use Rattle.rd_graph.specs.Internal.Regions.{IsStart, IsEnd, IsRegion};
+//! Regions of places in which the places of a chain are out of order. Before them, between them and after them they rise.
+ghost use Rattle.std.specs.Prelude.{◌≡◌, ℕ, ◌<◌, ◌≤◌, IfOk, length, slice_index_or};
+ghost use Rattle.rd_graph.specs.Internal.Regions.{AreLeast, IsCut, RiseFrom};
 
-/// The places from one up to another. Of the places of a chain, the first ones are lower, and the last ones are not.
+use std::alloc::{AllocError, Global};
+
+/// So many of some places lie before a place, and the others do not.
+#[derive(Clone, Copy)]
+pub(crate) struct Cut {
+    pub(crate) met: usize,
+    pub(crate) place: usize,
+}
+
+/// What lies between two cuts.
 #[derive(Clone, Copy)]
 pub(crate) struct Region {
-    pub(crate) from: usize,
-    pub(crate) to: usize,
-    pub(crate) first: usize,
-    pub(crate) last: usize,
+    pub(crate) from: Cut,
+    pub(crate) to: Cut,
 }
 
-/// How many of some places rise before all others, and a place that parts them from these: the lowest of these, where
-/// it is below an end.
-fn start_of(places: &[usize], end: usize) -> (usize, usize)
-    ensures { IsStart places.now result.0 result.1 }
+/// Of some places below an end, from each one on the least, and the end after the last one.
+pub(crate) fn least_from(
+    alloc: Global,
+    places: &[usize],
+    end: usize,
+) -> Result<Vec<usize>, AllocError>
+    ensures { IfOk result (λ v. AreLeast places.now end v.items) }
 {
-    let mut first = places.len();
-    let mut from = end;
-    let mut least = end;
+    let mut least = vec![in alloc; end; places.len() + 1]?;
     for i in 0..places.len() {
-        let place = places[places.len() - 1 - i];
-        if least <= place {
-            first = places.len() - 1 - i;
-            from = least;
-            continue;
-        }
-        least = place;
+        let at = places.len() - 1 - i;
+        least[at] = least[at + 1].min(places[at]);
     }
-    (first, from)
+    Ok(least)
 }
 
-/// From which of some places on they rise after all others, and the place after the highest of those.
-fn end_of(places: &[usize], end: usize) -> (usize, usize)
-    requires { (k : ℕ) → k < length places.now → slice_index_or places.now k 0 < end }
-    ensures { IsEnd places.now end result.0 result.1 }
+/// The last cut up to which places rise from another one on.
+pub(crate) fn risen(places: &[usize], least: &[usize], end: usize, from: Cut) -> Cut
+    requires least { AreLeast places.now end least.now }
+    requires from { IsCut places.now end from }
+    ensures cut { IsCut places.now end result }
+    ensures after { from.place ≤ result.place }
+    ensures rises { RiseFrom places.now from.met result.met }
 {
-    let mut last = 0;
-    let mut to = 0;
-    let mut most = 0;
-    for i in 0..places.len() {
-        let place = places[i];
-        if place < most {
-            last = i + 1;
-            to = most;
-            continue;
-        }
-        most = place + 1;
+    let mut met = from.met;
+    while met < places.len() && places[met] < least[met + 1] {
+        met += 1;
     }
-    (last, to)
+    Cut {
+        met,
+        place: least[met],
+    }
 }
 
-/// The region in which places are out of order, or the whole, where they are not.
-pub(crate) fn region_of(places: &[usize], end: usize) -> Region
-    requires { (k : ℕ) → k < length places.now → slice_index_or places.now k 0 < end }
-    ensures { IsRegion places.now end result }
+/// The first cut after another one where not all places are met.
+pub(crate) fn next_cut(places: &[usize], least: &[usize], end: usize, from: Cut) -> Cut
+    requires least { AreLeast places.now end least.now }
+    requires below { (k : ℕ) → k < length places.now → slice_index_or places.now k 0 < end }
+    requires from { IsCut places.now end from }
+    requires some { from.met < length places.now }
+    ensures cut { IsCut places.now end result }
+    ensures after { from.place ≤ result.place }
+    ensures more { from.met < result.met }
 {
-    let (first, from) = start_of(places, end);
-    let (last, to) = end_of(places, end);
-    if last <= first {
-        return Region {
-            from: 0,
-            to: end,
-            first: 0,
-            last: places.len(),
-        };
+    let mut met = from.met + 1;
+    let mut place = places[from.met] + 1;
+    while met < places.len() && least[met] < place {
+        place = place.max(places[met] + 1);
+        met += 1;
     }
-    Region {
-        from,
-        to,
-        first,
-        last,
-    }
+    Cut { met, place }
 }

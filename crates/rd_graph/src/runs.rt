@@ -29,17 +29,43 @@ pub(crate) fn push_run(
     Ok(())
 }
 
-/// Does the place follow a run, and may it be of the run? The first place `apart` of another kind may not, nor one that is
+/// Does a place follow a run, and may so many from it on be of the run? The first place `apart` of another kind may not, nor what is
 /// set aside where the run is not.
-fn goes_on(run: Run, place: usize, apart: usize, aside: bool) -> bool
+fn goes_on(run: Run, place: usize, count: usize, apart: usize, aside: bool) -> bool
     ensures next { IsTrue result → place ≡ run.from + run.count }
-    ensures few { IsTrue result → run.count + 1 < 2 ^ 64 }
+    ensures few { IsTrue result → run.count + count < 2 ^ 64 }
 {
     place != apart
         && run.aside == aside
         && run.from <= place
         && place - run.from == run.count
-        && run.count < usize::MAX
+        && count <= usize::MAX - run.count
+}
+
+/// Puts so many places from one on at the end, with the run before them where they go on with it.
+pub(crate) fn push_places(
+    runs: &mut Vec<Run>,
+    place: usize,
+    count: usize,
+    apart: usize,
+    aside: bool,
+) -> Result<(), AllocError>
+    ensures { OnOk result (places_of runs.new.items ≡ places_of runs.old.items ++ up_from place count) }
+{
+    let len = runs.len();
+    if len == 0 {
+        return push_run(runs, place, count, aside);
+    }
+    let last = runs[len - 1];
+    if goes_on(last, place, count, apart, aside) {
+        runs[len - 1] = Run {
+            from: last.from,
+            count: last.count + count,
+            aside,
+        };
+        return Ok(());
+    }
+    push_run(runs, place, count, aside)
 }
 
 /// Puts a place at the end.
@@ -51,31 +77,7 @@ pub(crate) fn push_place(
 ) -> Result<(), AllocError>
     ensures { OnOk result (places_of runs.new.items ≡ places_of runs.old.items ++ place ∷ []) }
 {
-    let count = runs.len();
-    if count == 0 {
-        return push_run(runs, place, 1, aside);
-    }
-    let last = runs[count - 1];
-    if goes_on(last, place, apart, aside) {
-        runs[count - 1] = Run {
-            from: last.from,
-            count: last.count + 1,
-            aside,
-        };
-        return Ok(());
-    }
-    push_run(runs, place, 1, aside)
-}
-
-/// The places as runs, the first place `apart` of another kind not after those before it.
-pub(crate) fn runs_of(alloc: Global, places: &[usize], apart: usize) -> Result<Vec<Run>, AllocError>
-    ensures { IfOk result (λ v. places_of v.items ≡ places.now) }
-{
-    let mut runs = Vec::new(alloc);
-    for place in places {
-        push_place(&mut runs, *place, apart, false)?;
-    }
-    Ok(runs)
+    push_places(runs, place, 1, apart, aside)
 }
 
 /// How many places there are, or else the greatest number.

@@ -33,16 +33,23 @@ one_run r = append-nil (up_from r.from r.count)
 pub places_put : (rs ss : List Run) (r : Run) → ss ≡ rs ++ r ∷ [] → places_of ss ≡ places_of rs ++ up_from r.from r.count
 places_put rs ss r e = ap places_of e ∙ places-append rs (r ∷ []) ∙ ap (λ ks. places_of rs ++ ks) (one_run r)
 
--- one place more, of the last run
-pub lengthened : (rs : List Run) (i : ℕ) (r : Run) (p : ℕ) (a : Bool) → i + 1 ≡ length rs → r ≡ get_or rs i r → p ≡ r.from + r.count
-    → places_of (slice_set rs i (record { from = r.from; count = r.count + 1; aside = a })) ≡ places_of rs ++ p ∷ []
-lengthened [] i r p a l e f = absurd (omega (arith, l))
-lengthened (x ∷ []) zero r p a l e f =
-    append-nil (up_from r.from (r.count + 1)) ∙ up-more r.from r.count ∙ ap (λ k. up_from r.from r.count ++ k ∷ []) (sym f)
-    ∙ ap (λ ks. ks ++ p ∷ []) (sym (append-nil (up_from r.from r.count)) ∙ ap (λ (z : Run). up_from z.from z.count ++ []) e)
-lengthened (x ∷ y ∷ ys) zero r p a l e f = absurd (omega (arith, l))
-lengthened (x ∷ xs) (suc i) r p a l e f =
-    ap (λ ks. up_from x.from x.count ++ ks) (lengthened xs i r p a (omega (arith, l)) e f) ∙ sym (append_assoc (up_from x.from x.count) (places_of xs) (p ∷ []))
+pub up-parts : (p m n : ℕ) → up_from p (m + n) ≡ up_from p m ++ up_from (p + m) n
+up-parts p zero n = ap (up_from p) (let e : 0 + n ≡ n = omega arith in e) ∙ ap (λ k. up_from k n) (let e : p ≡ p + 0 = omega arith in e)
+up-parts p (suc m) n =
+    let one : suc m + n ≡ suc (m + n) = omega arith in
+    let same : p + 1 + m ≡ p + suc m = omega arith in
+    ap (up_from p) one ∙ ap (λ ks. p ∷ ks) (up-parts (p + 1) m n ∙ ap (λ k. up_from (p + 1) m ++ up_from k n) same)
+
+-- more places, of the last run
+pub lengthened : (rs : List Run) (i : ℕ) (r : Run) (p n : ℕ) (a : Bool) → i + 1 ≡ length rs → r ≡ get_or rs i r → p ≡ r.from + r.count
+    → places_of (slice_set rs i (record { from = r.from; count = r.count + n; aside = a })) ≡ places_of rs ++ up_from p n
+lengthened [] i r p n a l e f = absurd (omega (arith, l))
+lengthened (x ∷ []) zero r p n a l e f =
+    append-nil (up_from r.from (r.count + n)) ∙ up-parts r.from r.count n ∙ ap (λ k. up_from r.from r.count ++ up_from k n) (sym f)
+    ∙ ap (λ ks. ks ++ up_from p n) (sym (append-nil (up_from r.from r.count)) ∙ ap (λ (z : Run). up_from z.from z.count ++ []) e)
+lengthened (x ∷ y ∷ ys) zero r p n a l e f = absurd (omega (arith, l))
+lengthened (x ∷ xs) (suc i) r p n a l e f =
+    ap (λ ks. up_from x.from x.count ++ ks) (lengthened xs i r p n a (omega (arith, l)) e f) ∙ sym (append_assoc (up_from x.from x.count) (places_of xs) (up_from p n))
 
 drop_at : {T : Type 0} (xs : List T) (i : ℕ) (x : T) → i < length xs → x ≡ get_or xs i x → drop i xs ≡ x ∷ drop (suc i) xs
 drop_at [] i x l e = absurd (omega arith)

@@ -1,5 +1,5 @@
 -- A walk along the old places: what it has, in which order, and that nothing comes twice.
-use Rattle.std.proofs.Common.{◌≡◌, refl, ap, ◌∙◌, sym, subst, ℕ, zero, suc, ◌+◌, ◌-◌, ◌<◌, ◌≤◌, Bool, true, false, cond, List, [], ◌∷◌, ◌++◌, length, get_or, inl, inr, ◌⊎◌, arith}
+use Rattle.std.proofs.Common.{◌≡◌, refl, ap, ◌∙◌, sym, subst, ℕ, zero, suc, ◌+◌, ◌-◌, ◌<◌, ◌≤◌, Bool, true, false, cond, List, [], ◌∷◌, ◌++◌, length, get_or, inl, inr, ◌⊎◌, arith, append_assoc}
 use Rattle.std.proofs.lemmas.Bool.{cases_lt}
 use Rattle.rd_graph.specs.Orders.{Before}
 use Rattle.rd_graph.specs.Internal.Walks.{stays_at, staying, from_after, led_to, walk, RisesWhere}
@@ -200,3 +200,14 @@ module _ (stays : List Bool) where
             omega (arith, e, s, u)
         | inr m ↦ o.0 (subst (λ (z : ℕ). Has ps z) (sym e) m)
       ]
+
+-- ---- a stretch in two parts
+
+pub staying_parts : (stays : List Bool) (from m n : ℕ) → staying stays from (m + n) ≡ staying stays from m ++ staying stays (from + m) n
+staying_parts stays from zero n = ap (λ k. staying stays from k) (let e : 0 + n ≡ n = omega arith in e) ∙ ap (λ k. staying stays k n) (let e : from ≡ from + 0 = omega arith in e)
+staying_parts stays from (suc m) n =
+    let one : List ℕ = cond (stays_at stays from) (from ∷ []) [] in
+    let next : from + 1 + m ≡ from + suc m = omega arith in
+    let count : suc m + n ≡ suc (m + n) = omega arith in
+    ap (λ k. staying stays from k) count ∙ ap (λ ps. one ++ ps) (staying_parts stays (from + 1) m n) ∙ sym (append_assoc one (staying stays (from + 1) m) (staying stays (from + 1 + m) n))
+    ∙ ap (λ k. (one ++ staying stays (from + 1) m) ++ staying stays k n) next

@@ -46,8 +46,24 @@ module _ {E : Type 0} (same : E → E → Bool) (sound : (a b : E) → same a b 
     once_at_most xs (λ a. let l : count a x + sum_by (count a) xs ≤ 1 = (let u = h a in rw (sum_by-cons (count a) x xs) at u) in omega (arith, l)),
   )
 
+  pub once_sums : (xs ys : List E) → ((n : E → ℕ) → sum_by n ys ≡ sum_by n xs) → Once xs → Once ys
+  once_sums xs ys same_sums o = once_at_most ys (λ a. let l = at_most xs a o in let e = same_sums (count a) in omega (arith, l, e))
+
   pub once_permutation : (xs ys : List E) → IsPermutation xs ys → Once xs → Once ys
-  once_permutation xs ys p o = once_at_most ys (λ a. let l = at_most xs a o in let e = sum_by-IsPermutation (count a) xs ys p in omega (arith, l, e))
+  once_permutation xs ys p = once_sums xs ys (λ n. sum_by-IsPermutation n xs ys p)
+
+  found : (xs : List E) (a : E) → 1 ≤ sum_by (count a) xs → Has xs a
+  found [] a l = absurd (omega (arith, l))
+  found (x ∷ xs) a l = elim (cases (same a x)) [
+    | inl t ↦ inl (sym (sound a x t))
+    | inr f ↦
+        let c : count a x ≡ 0 = rw f refl in
+        let m : 1 ≤ count a x + sum_by (count a) xs = (rw (sum_by-cons (count a) x xs) at l) in
+        inr (found xs a (omega (arith, c, m)))
+  ]
+
+  pub has_sums : (xs ys : List E) → ((n : E → ℕ) → sum_by n ys ≡ sum_by n xs) → (a : E) → Has xs a → Has ys a
+  has_sums xs ys same_sums a h = let l = some xs a h in let e = same_sums (count a) in found ys a (omega (arith, l, e))
 
 lt_same : (m n : ℕ) → m ≡ n → is_lt (nat_cmp m n) ≡ false
 lt_same m n e = by (nat_cmp m n) refl
@@ -73,7 +89,7 @@ module _ {A : Type 0} where
   ]
 
   -- along a sorted list numbers do not fall
-  rises : (num : A → ℕ) (xs : List A) → IsNonDecreasingBy num xs → (a b : A) → Before xs a b → num a ≤ num b
+  pub rises : (num : A → ℕ) (xs : List A) → IsNonDecreasingBy num xs → (a b : A) → Before xs a b → num a ≤ num b
   rises num [] up a b h = absurd h
   rises num (x ∷ xs) up a b (inl h) =
       let r = up 0 (suc h.1.0) b (omega arith) (let l = h.1.1 in omega (arith, l)) in

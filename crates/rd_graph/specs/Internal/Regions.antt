@@ -1,31 +1,30 @@
--- The region of places in which the places of a chain are out of order.
-use Rattle.std.specs.Prelude.{ℕ, ◌<◌, ◌≤◌, List, length, slice_index_or}
+-- Regions of places in which the places of a chain are out of order, and the cuts that bound them.
+use Rattle.std.specs.Prelude.{◌≡◌, ℕ, ◌+◌, ◌<◌, ◌≤◌, List, length, slice_index_or}
+use Rattle.rd_graph.specs.declared.regions.Cut.{Cut}
 use Rattle.rd_graph.specs.declared.regions.Region.{Region}
 
--- the first ones of some places rise and are lower than a place, and the others are not
-pub record IsStart (ps : List ℕ) (first from : ℕ) : Type 0 where
-  pub few : first ≤ length ps
-  pub before : (k : ℕ) → k < first → slice_index_or ps k 0 < from
-  pub after : (k : ℕ) → first ≤ k → k < length ps → from ≤ slice_index_or ps k 0
-  pub rises : (j k : ℕ) → j < k → k < first → slice_index_or ps j 0 < slice_index_or ps k 0
+-- of some places below an end, from each one on the least, and the end after the last one
+pub record AreLeast (ps : List ℕ) (end : ℕ) (least : List ℕ) : Type 0 where
+  pub count : length least ≡ length ps + 1
+  pub within : (i : ℕ) → i ≤ length ps → slice_index_or least i 0 ≤ end
+  pub low : (i k : ℕ) → i ≤ k → k < length ps → slice_index_or least i 0 ≤ slice_index_or ps k 0
+  pub high : (i x : ℕ) → i ≤ length ps → x ≤ end → ((k : ℕ) → i ≤ k → k < length ps → x ≤ slice_index_or ps k 0) → x ≤ slice_index_or least i 0
 
--- the last ones of some places rise and are not lower than a place, and the others are
-pub record IsEnd (ps : List ℕ) (end last to : ℕ) : Type 0 where
-  pub few : last ≤ length ps
-  pub low : to ≤ end
-  pub before : (k : ℕ) → k < last → slice_index_or ps k 0 < to
-  pub after : (k : ℕ) → last ≤ k → k < length ps → to ≤ slice_index_or ps k 0
-  pub rises : (j k : ℕ) → last ≤ j → j < k → k < length ps → slice_index_or ps j 0 < slice_index_or ps k 0
+-- so many of some places lie before a place, and the others do not
+pub record IsCut (ps : List ℕ) (end : ℕ) (c : Cut) : Type 0 where
+  pub few : c.met ≤ length ps
+  pub low : c.place ≤ end
+  pub before : (k : ℕ) → k < c.met → slice_index_or ps k 0 < c.place
+  pub after : (k : ℕ) → c.met ≤ k → k < length ps → c.place ≤ slice_index_or ps k 0
 
--- Some places rise before a region and after it. Those that lie in it are one after another.
+-- places rise, from one of them up to another
+pub record RiseFrom (ps : List ℕ) (from to : ℕ) : Type 0 where
+  pub next : from ≤ to
+  pub rises : (j k : ℕ) → from ≤ j → j < k → k < to → slice_index_or ps j 0 < slice_index_or ps k 0
+
+-- what lies between two cuts
 pub record IsRegion (ps : List ℕ) (end : ℕ) (r : Region) : Type 0 where
-  pub forward : r.from ≤ r.to
-  pub low : r.to ≤ end
-  pub next : r.first ≤ r.last
-  pub few : r.last ≤ length ps
-  pub before : (k : ℕ) → k < r.first → slice_index_or ps k 0 < r.from
-  pub within : (k : ℕ) → r.first ≤ k → k < r.last → r.from ≤ slice_index_or ps k 0
-  pub below : (k : ℕ) → k < r.last → slice_index_or ps k 0 < r.to
-  pub after : (k : ℕ) → r.last ≤ k → k < length ps → r.to ≤ slice_index_or ps k 0
-  pub rises_before : (j k : ℕ) → j < k → k < r.first → slice_index_or ps j 0 < slice_index_or ps k 0
-  pub rises_after : (j k : ℕ) → r.last ≤ j → j < k → k < length ps → slice_index_or ps j 0 < slice_index_or ps k 0
+  pub from : IsCut ps end r.from
+  pub to : IsCut ps end r.to
+  pub forward : r.from.place ≤ r.to.place
+  pub next : r.from.met ≤ r.to.met

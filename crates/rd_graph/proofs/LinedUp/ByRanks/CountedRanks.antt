@@ -1,4 +1,4 @@
--- Ranks that are counted, and the loops that put them.
+-- Ranks that are counted, and ranks that are labels: the loops that put them.
 use Rattle.std.proofs.Common.{◌≡◌, refl, ap, ◌∙◌, sym, ℕ, suc, ◌+◌, ◌-◌, ◌<◌, ◌≤◌, ltb, Bool, true, false, cond, List, [], ◌∷◌, ◌++◌, length, take, drop, get_or, inl, inr, arith}
 use Rattle.std.proofs.lemmas.Bool.{cases_lt, lt-ltb, le-ltb, ltb-true, ltb-false}
 use Rattle.std.proofs.lemmas.List.{append-nil}
@@ -7,10 +7,12 @@ use Rattle.rd_keys.specs.declared.entry.EntryKey.{EntryKey}
 use Rattle.rd_graph.specs.Graphs.{nodes}
 use Rattle.rd_graph.specs.Patches.{AreRising}
 use Rattle.rd_graph.specs.Internal.Seen.{seen}
-use Rattle.rd_graph.specs.Internal.Walks.{stays_at, staying, IsMet}
-use Rattle.rd_graph.specs.Internal.Ranks.{passed, labelled_ranks}
+use Rattle.rd_graph.specs.Internal.Walks.{stays_at, staying}
+use Rattle.rd_graph.specs.Internal.Ranks.{alike, passed, counted_ranks, labelled_ranks}
 use Rattle.rd_graph.specs.declared.graph.Node.{Node}
+use Rattle.rd_graph.proofs.Lists.Listing.{Has}
 use Rattle.rd_graph.proofs.Lists.Gatherings.{one_at, joins_on}
+use Rattle.rd_graph.proofs.LinedUp.Walks.{staying_to, staying_parts}
 use Rattle.rd_graph.proofs.Patches.Namings.{node_name, node_count}
 
 -- ---- how many of some places are lower
@@ -41,27 +43,6 @@ passed_grows ps p q l = elim (cases_lt (passed q ps) (passed p ps)) [
 pub passed_own : (ps : List ℕ) (i : ℕ) → AreRising ps → i < length ps → passed (get_or ps i 0) ps ≡ i
 passed_own ps i up l = passed_is (get_or ps i 0) ps i (omega (arith, l)) (λ k m. up k i m l) (λ m. omega arith)
 
-pub passed_none : (ps : List ℕ) (p : ℕ) → ((k : ℕ) → k < length ps → p ≤ get_or ps k 0) → 0 ≡ passed p ps
-passed_none ps p high = sym (passed_is p ps 0 (omega arith) (λ k m. omega (arith, m)) (high 0))
-
-pub passed_next : (ps : List ℕ) (p met next : ℕ) → AreRising ps → met ≡ passed p ps → IsMet ps met p next → next ≡ passed (p + 1) ps
-passed_next ps p met next up was (inl e) =
-    let few = passed_few p ps in
-    let same = e.0 in
-    same ∙ sym (passed_is (p + 1) ps met (omega (arith, few, was)) (λ k m. let u = passed_low p ps k (omega (arith, m, was)) in omega (arith, u)) (λ m.
-    let apart = e.1 m in
-    let at_met : get_or ps (passed p ps) 0 ≡ get_or ps met 0 = ap (λ n. get_or ps n 0) (sym was) in
-    let high = passed_high p ps (omega (arith, m, was)) in
-    omega (arith, apart, at_met, high)))
-passed_next ps p met next up was (inr e) =
-    let more = e.0 in
-    let l = e.1 in
-    let here = e.2 in
-    more ∙ sym (passed_is (p + 1) ps (met + 1) (omega (arith, l)) (λ k m. elim (cases_lt k met) [
-      | inl u ↦ let v = passed_low p ps k (omega (arith, u, was)) in omega (arith, v)
-      | inr u ↦ let same : get_or ps k 0 ≡ get_or ps met 0 = ap (λ n. get_or ps n 0) (let n : k ≡ met = omega (arith, u, m) in n) in omega (arith, same, here)
-    ]) (λ m. let u = up met (met + 1) (omega arith) m in omega (arith, u, here)))
-
 -- ---- one place of a stretch
 
 module _ (put : List ℕ → List (ℕ × ℕ)) (stays : List Bool) (to place : ℕ) where
@@ -89,3 +70,38 @@ labelled_one least label ns place n x l e ps =
     let c = node_count ns in
     let one : take 1 (drop place (nodes (seen ns))) ≡ (get_or ns place x).key ∷ [] = one_at (nodes (seen ns)) place x.key (omega (arith, c, l)) ∙ ap (λ k. k ∷ []) (node_name ns place x) in
     rw one (ap (λ m. (least + m, place) ∷ labelled_ranks least label ns ps) (sym e))
+
+-- the places up to one of some that rise, and those after it
+pub counted_parts : (least : ℕ) (some ps qs : List ℕ) (n : ℕ) → ((p : ℕ) → Has ps p → passed p some ≡ n) → counted_ranks least some (ps ++ qs) ≡ alike (least + n) ps ++ counted_ranks least some qs
+counted_parts least some [] qs n h = refl
+counted_parts least some (p ∷ ps) qs n h = ap (λ m. (least + m, p) ∷ counted_ranks least some (ps ++ qs)) (h p (inl refl)) ∙ ap (λ zs. (least + n, p) ∷ zs) (counted_parts least some ps qs n (λ q m. h q (inr m)))
+
+module _ (stays : List Bool) (some : List ℕ) (least to i place : ℕ) (up : AreRising some) (low : (k : ℕ) → k < i → get_or some k 0 < place) (high : (k : ℕ) → i ≤ k → k < length some → place ≤ get_or some k 0) where
+  passed_here : (p : ℕ) → i ≤ length some → place ≤ p → (i < length some → p ≤ get_or some i 0) → passed p some ≡ i
+  passed_here p few l m = passed_is p some i few (λ k n. let u = low k n in omega (arith, u, l)) m
+
+  -- up to the next of some places
+  pub counted_next : (now then whole : List (ℕ × ℕ)) → i < length some → get_or some i 0 < to → now ++ counted_ranks least some (staying stays place (to - place)) ≡ whole → then ≡ now ++ alike (least + i) (staying stays place (get_or some i 0 + 1 - place))
+      → then ++ counted_ranks least some (staying stays (get_or some i 0 + 1) (to - (get_or some i 0 + 1))) ≡ whole
+  counted_next now then whole l m was is =
+      let next : ℕ = get_or some i 0 + 1 in
+      let above = high i (omega arith) l in
+      let here : List ℕ = staying stays place (next - place) in
+      let rest : List ℕ = staying stays next (to - next) in
+      let split : staying stays place (to - place) ≡ here ++ rest = ap (staying stays place) (let e : to - place ≡ (next - place) + (to - next) = omega (arith, m, above) in e) ∙ staying_parts stays place (next - place) (to - next)
+      ∙ ap (λ k. here ++ staying stays k (to - next)) (let e : place + (next - place) ≡ next = omega (arith, above) in e) in
+      joins_on now then (alike (least + i) here) (counted_ranks least some rest) whole is
+      (ap (λ zs. now ++ zs) (sym (ap (counted_ranks least some) split ∙ counted_parts least some here rest i (λ p h.
+      let t = staying_to stays place (next - place) p h in
+      let u = t.1 in
+      let v = t.2 in
+      passed_here p (omega (arith, l)) u (λ n. omega (arith, v, above)))))
+      ∙ was)
+
+  -- after the last of them
+  pub counted_last : (now whole : List (ℕ × ℕ)) → i ≡ length some → now ++ counted_ranks least some (staying stays place (to - place)) ≡ whole → now ++ alike (least + length some) (staying stays place (to - place)) ≡ whole
+  counted_last now whole e was =
+      let all : List ℕ = staying stays place (to - place) in
+      ap (λ zs. now ++ zs) (ap (λ n. alike (least + n) all) (sym e) ∙ sym (append-nil (alike (least + i) all)) ∙ sym (counted_parts least some all [] i (λ p h.
+      let t = staying_to stays place (to - place) p h in
+      passed_here p (omega (arith, e)) t.1 (λ n. omega (arith, n, e)))) ∙ ap (counted_ranks least some) (append-nil all)) ∙ was

@@ -1,7 +1,7 @@
--- Ranks outside of a region and within it are ranks of all nodes.
-use Rattle.std.proofs.Common.{◌≡◌, refl, ap, ◌∙◌, sym, subst, ℕ, zero, suc, ◌+◌, ◌-◌, ◌<◌, ◌≤◌, ltb, Bool, cond, List, [], ◌∷◌, ◌++◌, length, map, take, drop, get_or, unwrap_or, inl, inr, ◌⊎◌, arith, append_assoc, length-drop, length-take-le, get_or-drop, get_or-take, take-append-drop}
+-- Ranks that are put from one cut to the next are ranks of all nodes.
+use Rattle.std.proofs.Common.{◌≡◌, refl, ap, ◌∙◌, sym, subst, ℕ, ◌+◌, ◌-◌, ◌<◌, ◌≤◌, ltb, Bool, cond, List, [], ◌∷◌, ◌++◌, length, map, take, drop, get_or, unwrap_or, inl, inr, ◌⊎◌, arith, append_assoc, length-drop, length-take-le, get_or-drop, get_or-take, take-append-drop}
 use Rattle.std.proofs.lemmas.Bool.{cases_lt, lt-ltb, le-ltb}
-use Rattle.std.proofs.lemmas.List.{map-append}
+use Rattle.std.proofs.lemmas.List.{append-nil, map-append, get_or-map}
 use Rattle.std.specs.Prelude.{slice_range}
 use Rattle.std.specs.List.{take-map, drop-map}
 use Rattle.rd_keys.specs.declared.entry.EntryKey.{EntryKey}
@@ -12,10 +12,11 @@ use Rattle.rd_graph.specs.Names.{place_of, same_entry}
 use Rattle.rd_graph.specs.Patches.{AreRising}
 use Rattle.rd_graph.specs.Internal.Chains.{AreLabels, NoneGoesBack}
 use Rattle.rd_graph.specs.Internal.Seen.{seen}
-use Rattle.rd_graph.specs.Internal.Walks.{stays_at, staying}
-use Rattle.rd_graph.specs.Internal.Regions.{IsRegion}
-use Rattle.rd_graph.specs.Internal.Ranks.{passed, ranked, counted_ranks, labelled_ranks, AreNamesAt, AreRanks, PutsWithin, PutsRanked}
+use Rattle.rd_graph.specs.Internal.Walks.{staying}
+use Rattle.rd_graph.specs.Internal.Regions.{IsCut, IsRegion, RiseFrom}
+use Rattle.rd_graph.specs.Internal.Ranks.{alike, at_ranks, passed, ranked, counted_ranks, labelled_ranks, AreRankable, PutsTo, PutsWithin, PutsRanked}
 use Rattle.rd_graph.specs.declared.graph.Node.{Node}
+use Rattle.rd_graph.specs.declared.regions.Cut.{Cut}
 use Rattle.rd_graph.specs.declared.regions.Region.{Region}
 use Rattle.rd_graph.proofs.Lists.Listing.{Has, Once, has_from, contains_from, has_left, has_right, has_either, has_map, before_left, before_right, before_once, once_left, once_right, once_apart}
 use Rattle.rd_graph.proofs.Reaching.Calls.{once_of, once_to}
@@ -26,7 +27,7 @@ use Rattle.rd_graph.proofs.Lists.Gatherings.{one_at, apart_at}
 use Rattle.rd_graph.proofs.Patches.Namings.{node_count}
 use Rattle.rd_graph.proofs.LinedUp.LineFacts.{seen_length}
 use Rattle.rd_graph.proofs.LinedUp.PlacedLines.{before_places}
-use Rattle.rd_graph.proofs.LinedUp.Walks.{staying_to}
+use Rattle.rd_graph.proofs.LinedUp.Walks.{staying_to, staying_parts}
 use Rattle.rd_graph.proofs.LinedUp.ByRanks.CountedRanks.{passed_few, passed_grows, passed_own}
 
 -- ---- a part of a list
@@ -114,299 +115,300 @@ module _ (ns : List Node) (i j : ℕ) where
 pub goes_forward : (g : Graph EntryKey) → IsInOrder g → NoneGoesBack g
 goes_forward g sound a b s back = before_once (nodes g) a b (once_of (nodes g) sound.once) (sound.forward a b s) back
 
--- ---- places that stay, in parts
-
-staying_parts : (stays : List Bool) (from m n : ℕ) → staying stays from (m + n) ≡ staying stays from m ++ staying stays (from + m) n
-staying_parts stays from zero n = ap (λ k. staying stays from k) (let e : 0 + n ≡ n = omega arith in e) ∙ ap (λ k. staying stays k n) (let e : from ≡ from + 0 = omega arith in e)
-staying_parts stays from (suc m) n =
-    let one : List ℕ = cond (stays_at stays from) (from ∷ []) [] in
-    let next : from + 1 + m ≡ from + suc m = omega arith in
-    let count : suc m + n ≡ suc (m + n) = omega arith in
-    ap (λ k. staying stays from k) count ∙ ap (λ ps. one ++ ps) (staying_parts stays (from + 1) m n) ∙ sym (append_assoc one (staying stays (from + 1) m) (staying stays (from + 1 + m) n))
-    ∙ ap (λ k. (one ++ staying stays (from + 1) m) ++ staying stays k n) next
+-- ---- places with ranks
 
 module _ {E : Type 0} (names : List E) where
-  ranked_parts : (rank : E → ℕ) (ps qs : List ℕ) → ranked rank names (ps ++ qs) ≡ ranked rank names ps ++ ranked rank names qs
-  ranked_parts rank [] qs = refl
-  ranked_parts rank (p ∷ ps) qs =
-      let one : List (ℕ × ℕ) = map (λ k. (rank k, p)) (take 1 (drop p names)) in
-      ap (λ zs. one ++ zs) (ranked_parts rank ps qs) ∙ sym (append_assoc one (ranked rank names ps) (ranked rank names qs))
-
   ranked_one : (rank : E → ℕ) (p : ℕ) (ps : List ℕ) (d : E) → p < length names → ranked rank names (p ∷ ps) ≡ (rank (get_or names p d), p) ∷ ranked rank names ps
   ranked_one rank p ps d l = rw (one_at names p d l) refl
 
-  -- ranks that are the same at some places
-  ranked_same : (rank other : E → ℕ) (ps : List ℕ) → ((p : ℕ) → Has ps p → (p < length names) × ((d : E) → rank (get_or names p d) ≡ other (get_or names p d))) → ranked rank names ps ≡ ranked other names ps
-  ranked_same rank other [] h = refl
-  ranked_same rank other (p ∷ ps) h =
+  -- ranks of names, as ranks of their places
+  ranked_at : (rank : E → ℕ) (at : ℕ → ℕ) (ps : List ℕ) → ((p : ℕ) → Has ps p → (p < length names) × ((d : E) → rank (get_or names p d) ≡ at p)) → ranked rank names ps ≡ at_ranks at ps
+  ranked_at rank at [] h = refl
+  ranked_at rank at (p ∷ ps) h =
       let here = h p (inl refl) in
       let d : E = any_of names p here.0 in
-      ranked_one rank p ps d here.0 ∙ ap (λ n. (n, p) ∷ ranked rank names ps) (here.1 d) ∙ ap (λ zs. (other (get_or names p d), p) ∷ zs) (ranked_same rank other ps (λ q m. h q (inr m))) ∙ sym (ranked_one other p ps d here.0)
+      ranked_one rank p ps d here.0 ∙ ap (λ n. (n, p) ∷ ranked rank names ps) (here.1 d) ∙ ap (λ zs. (at p, p) ∷ zs) (ranked_at rank at ps (λ q m. h q (inr m)))
 
-  -- ranks that are counted at some places
-  ranked_counted : (rank : E → ℕ) (least : ℕ) (some ps : List ℕ) → ((p : ℕ) → Has ps p → (p < length names) × ((d : E) → rank (get_or names p d) ≡ least + passed p some)) → ranked rank names ps ≡ counted_ranks least some ps
-  ranked_counted rank least some [] h = refl
-  ranked_counted rank least some (p ∷ ps) h =
-      let here = h p (inl refl) in
-      let d : E = any_of names p here.0 in
-      ranked_one rank p ps d here.0 ∙ ap (λ n. (n, p) ∷ ranked rank names ps) (here.1 d) ∙ ap (λ zs. (least + passed p some, p) ∷ zs) (ranked_counted rank least some ps (λ q m. h q (inr m)))
+at_ranks_parts : (rank : ℕ → ℕ) (ps qs : List ℕ) → at_ranks rank (ps ++ qs) ≡ at_ranks rank ps ++ at_ranks rank qs
+at_ranks_parts rank ps qs = map-append {B = ℕ × ℕ} (λ p. (rank p, p)) ps qs
 
--- ---- the ranks
+at_ranks_same : (rank other : ℕ → ℕ) (ps : List ℕ) → ((p : ℕ) → Has ps p → rank p ≡ other p) → at_ranks rank ps ≡ at_ranks other ps
+at_ranks_same rank other [] h = refl
+at_ranks_same rank other (p ∷ ps) h = ap (λ n. (n, p) ∷ at_ranks rank ps) (h p (inl refl)) ∙ ap (λ zs. (other p, p) ∷ zs) (at_ranks_same rank other ps (λ q m. h q (inr m)))
 
-module _ (r : Region) (names : List EntryKey) (ns : List Node) (some : List ℕ) (sound : IsInOrder (seen ns)) (once : spec.Once names) (named : AreNamesAt some names (seen ns)) (region : IsRegion some (length ns) r)
-    (label : EntryKey → ℕ) (labels : AreLabels (seen (slice_range ns r.from r.to)) (slice_range names r.first r.last) label) where
+-- ---- from one cut to the next
+
+module _ (places : List ℕ) (names : List EntryKey) (stays : List Bool) (ns : List Node) (what : AreRankable ns stays places names) where
   abbrev old : List EntryKey
   old = nodes (seen ns)
 
-  abbrev low_part : List ℕ
-  low_part = take r.first some
+  abbrev IsOwn : (ℕ → ℕ) → ℕ → EntryKey → Type 0
+  IsOwn rank i d = (rank (get_or places i 0) ≡ i) ⊎ ((j : ℕ) × (j < i) × Reaches (seen ns) (get_or names i d) (get_or names j d))
 
-  abbrev high_part : List ℕ
-  high_part = slice_range some r.last (length some)
+  abbrev IsEdge : ℕ → ℕ → EntryKey → Type 0
+  IsEdge i j d = Precedes (seen ns) (get_or old i d) (get_or old j d)
 
-  abbrev inside : List EntryKey
-  inside = slice_range names r.first r.last
+  -- none are put as yet
+  pub put_none : (c : Cut) (first : List (ℕ × ℕ)) → c.met ≡ 0 → c.place ≡ 0 → PutsTo c places names stays ns first first
+  put_none c first m p = record {
+    rank = λ q. 0;
+    rises = λ i j d l n s. omega arith;
+    few = λ i l. omega arith;
+    own = λ i d l. absurd (omega (arith, l, m));
+    pairs = sym (append-nil first) ∙ ap (λ k. first ++ at_ranks (λ q. 0) (staying stays 0 k)) (sym p);
+  }
 
-  -- the rank of a name at a place
-  abbrev rank_at : EntryKey → ℕ → ℕ
-  rank_at k p = cond (ltb p r.from) (passed p low_part) (cond (ltb p r.to) (r.first + label k) (r.last + passed p high_part))
+  -- ranks that are put from one cut up to another
+  record PutsOn (c to : Cut) (rank : ℕ → ℕ) : Type 0 where
+    low : (i : ℕ) → c.place ≤ i → i < to.place → c.met ≤ rank i
+    few : (i : ℕ) → c.place ≤ i → i < to.place → rank i ≤ to.met
+    rises : (i j : ℕ) (d : EntryKey) → c.place ≤ i → i < j → j < to.place → IsEdge i j d → rank i ≤ rank j
+    own : (i : ℕ) (d : EntryKey) → c.met ≤ i → i < to.met → IsOwn rank i d
 
-  abbrev rank : EntryKey → ℕ
-  rank k = rank_at k (unwrap_or (place_of same_entry old k) 0)
+  module _ (c to : Cut) (cut : IsCut places (length ns) c) (forward : c.place ≤ to.place) (next : c.met ≤ to.met) (first now then : List (ℕ × ℕ)) (was : PutsTo c places names stays ns first now)
+      (more : ℕ → ℕ) (on : PutsOn c to more) (put : then ≡ now ++ at_ranks more (staying stays c.place (to.place - c.place))) where
+    abbrev both : ℕ → ℕ
+    both p = cond (ltb p c.place) (was.rank p) (more p)
 
-  rank_low : (k : EntryKey) (p : ℕ) → p < r.from → rank_at k p ≡ passed p low_part
-  rank_low k p l = let t = lt-ltb p r.from l in rw t refl
+    both_low : (p : ℕ) → p < c.place → both p ≡ was.rank p
+    both_low p l = let t = lt-ltb p c.place l in rw t refl
 
-  rank_in : (k : EntryKey) (p : ℕ) → r.from ≤ p → p < r.to → rank_at k p ≡ r.first + label k
-  rank_in k p l m = let f = le-ltb p r.from l in let t = lt-ltb p r.to m in rw (f, t) refl
+    both_high : (p : ℕ) → c.place ≤ p → both p ≡ more p
+    both_high p l = let f = le-ltb p c.place l in rw f refl
 
-  rank_high : (k : EntryKey) (p : ℕ) → r.to ≤ p → rank_at k p ≡ r.last + passed p high_part
-  rank_high k p l = let v = region.forward in let f = le-ltb p r.from (omega (arith, v, l)) in let t = le-ltb p r.to l in rw (f, t) refl
-
-  rank_of : (p : ℕ) (d : EntryKey) → p < length ns → rank (get_or old p d) ≡ rank_at (get_or old p d) p
-  rank_of p d l =
-      let e = node_count ns in
-      ap (λ o. rank_at (get_or old p d) (unwrap_or o 0)) (place_has same_entry same_entry-sound same_entry-refl old p d (once_of old sound.once) (omega (arith, e, l)))
-
-  few_names : r.last ≤ length names
-  few_names = let e = named.count in let l = region.few in omega (arith, e, l)
-
-  inside_length : length inside ≡ r.last - r.first
-  inside_length = range_length names r.first r.last region.next few_names
-
-  low_few : (p : ℕ) → passed p low_part ≤ r.first
-  low_few p =
-      let l = passed_few p low_part in
-      let n = region.next in
-      let f = region.few in
-      let e = length-take-le r.first some (omega (arith, n, f)) in
-      omega (arith, l, e)
-
-  label_few : (k : EntryKey) → label k ≤ r.last - r.first
-  label_few k = elim (labels.from k) [
-    | inl e ↦ let s = inside_length in omega (arith, e, s)
-    | inr f ↦ let l = f.1 in let e = f.2 in let s = inside_length in omega (arith, l, e, s)
-  ]
-
-  -- along an edge
-  rises_at : (a b : EntryKey) (i j : ℕ) (d : EntryKey) → Precedes (seen ns) a b → i < j → j < length ns → get_or old j d ≡ b → rank_at a i ≤ rank_at b j
-  rises_at a b i j d s l m e = elim (cases_lt j r.from) [
-    | inl u ↦
-        let x = rank_low a i (omega (arith, l, u)) in
-        let y = rank_low b j u in
-        let g = passed_grows low_part i j (omega (arith, l)) in
-        omega (arith, x, y, g)
-    | inr u ↦ elim (cases_lt i r.from) [
-      | inl v ↦
-          let x = rank_low a i v in
-          let few = low_few i in
-          elim (cases_lt j r.to) [
-            | inl w ↦ let y = rank_in b j u w in omega (arith, x, y, few)
-            | inr w ↦ let y = rank_high b j w in let n = region.next in omega (arith, x, y, few, n)
+    both_rises : (i j : ℕ) (d : EntryKey) → i < j → j < to.place → IsEdge i j d → both i ≤ both j
+    both_rises i j d l m s = elim (cases_lt j c.place) [
+      | inl u ↦ let x = both_low i (omega (arith, l, u)) in let y = both_low j u in let v = was.rises i j d l u s in omega (arith, x, y, v)
+      | inr u ↦
+          let y = both_high j u in
+          elim (cases_lt i c.place) [
+            | inl v ↦ let x = both_low i v in let f = was.few i v in let k = on.low j u m in omega (arith, x, y, f, k)
+            | inr v ↦ let x = both_high i v in let k = on.rises i j d v l m s in omega (arith, x, y, k)
           ]
-      | inr v ↦ elim (cases_lt j r.to) [
-        | inl w ↦
-            let x = rank_in a i v (omega (arith, l, w)) in
-            let y = rank_in b j u w in
-            let there : Has (nodes (seen (slice_range ns r.from r.to))) b = subst (λ (k : EntryKey). Has (nodes (seen (slice_range ns r.from r.to))) k) e (in_part ns r.from r.to j d u w region.low) in
-            let g = labels.rises a b (precedes_inner ns r.from r.to sound a b there s) in
-            omega (arith, x, y, g)
-        | inr w ↦
-            let y = rank_high b j w in
-            elim (cases_lt i r.to) [
-              | inl z ↦ let x = rank_in a i v z in let few = label_few a in let n = region.next in omega (arith, x, y, few, n)
-              | inr z ↦ let x = rank_high a i z in let g = passed_grows high_part i j (omega (arith, l)) in omega (arith, x, y, g)
-            ]
-      ]
     ]
-  ]
 
-  rises : (a b : EntryKey) → Precedes (seen ns) a b → rank a ≤ rank b
-  rises a b s =
-      let t = before_places old a b a (sound.forward a b s) in
-      let l = t.2 in
-      let m = t.3 in
-      let c = node_count ns in
-      let x : rank a ≡ rank_at a t.0 = subst (λ (k : EntryKey). rank k ≡ rank_at k t.0) t.4 (rank_of t.0 a (omega (arith, l, m, c))) in
-      let y : rank b ≡ rank_at b t.1 = subst (λ (k : EntryKey). rank k ≡ rank_at k t.1) t.5 (rank_of t.1 a (omega (arith, m, c))) in
-      let up = rises_at a b t.0 t.1 a s l (omega (arith, m, c)) t.5 in
-      omega (arith, x, y, up)
+    both_few : (i : ℕ) → i < to.place → both i ≤ to.met
+    both_few i l = elim (cases_lt i c.place) [
+      | inl u ↦ let x = both_low i u in let f = was.few i u in omega (arith, x, f, next)
+      | inr u ↦ let x = both_high i u in let f = on.few i u l in omega (arith, x, f)
+    ]
 
-  -- ---- the names
-
-  abbrev place : ℕ → ℕ
-  place i = get_or some i 0
-
-  name_rank : (i : ℕ) (d : EntryKey) → i < length names → rank (get_or names i d) ≡ rank_at (get_or names i d) (place i)
-  name_rank i d l =
-      let c = named.count in
-      let s = seen_length ns in
-      let m : i < length some = omega (arith, l, c) in
-      let w = named.within i m in
-      subst (λ (k : EntryKey). rank k ≡ rank_at k (place i)) (sym (named.at i d m)) (rank_of (place i) d (omega (arith, w, s)))
-
-  low_own : (i : ℕ) → i < r.first → passed (place i) low_part ≡ i
-  low_own i l =
-      let n = region.next in
-      let f = region.few in
-      let size = length-take-le r.first some (omega (arith, n, f)) in
-      let at : (k : ℕ) → k < r.first → get_or low_part k 0 ≡ place k = λ k m. get_or-take r.first some k 0 m in
-      let up : AreRising low_part = λ j k u v. (let x = at j (omega (arith, u, v, size)) in let y = at k (omega (arith, v, size)) in let w = region.rises_before j k u (omega (arith, v, size)) in omega (arith, x, y, w)) in
-      ap (λ p. passed p low_part) (sym (at i l)) ∙ passed_own low_part i up (omega (arith, l, size))
-
-  high_own : (i : ℕ) → r.last ≤ i → i < length some → passed (place i) high_part ≡ i - r.last
-  high_own i l m =
-      let f = region.few in
-      let size = range_length some r.last (length some) f (omega arith) in
-      let at : (k : ℕ) → k < length some - r.last → get_or high_part k 0 ≡ place (r.last + k) = λ k n. range_at some r.last (length some) k 0 n in
-      let up : AreRising high_part = λ j k u v. (
-      let x = at j (omega (arith, u, v, size)) in
-      let y = at k (omega (arith, v, size)) in
-      let w = region.rises_after (r.last + j) (r.last + k) (omega arith) (omega (arith, u)) (omega (arith, v, size)) in
-      omega (arith, x, y, w)
-      ) in
-      let here : get_or high_part (i - r.last) 0 ≡ place i = at (i - r.last) (omega (arith, l, m)) ∙ ap (λ q. get_or some q 0) (let e : r.last + (i - r.last) ≡ i = omega (arith, l) in e) in
-      ap (λ p. passed p high_part) (sym here) ∙ passed_own high_part (i - r.last) up (omega (arith, l, m, size))
-
-  abbrev IsOwn : ℕ → EntryKey → Type 0
-  IsOwn i d = (rank (get_or names i d) ≡ i) ⊎ ((j : ℕ) × (j < i) × Reaches (seen ns) (get_or names i d) (get_or names j d))
-
-  inside_at : (k : ℕ) (d : EntryKey) → k < r.last - r.first → get_or inside k d ≡ get_or names (r.first + k) d
-  inside_at k d l = range_at names r.first r.last k d l
-
-  inside_own : (i : ℕ) (d : EntryKey) → r.first ≤ i → i < r.last → IsOwn i d
-  inside_own i d l m =
-      let few = few_names in
-      let size = inside_length in
-      let n : i < length names = omega (arith, m, few) in
-      let c = named.count in
-      let x : rank (get_or names i d) ≡ r.first + label (get_or names i d) = name_rank i d n ∙ rank_in (get_or names i d) (place i) (region.within i l m) (region.below i m) in
-      let q : r.first + (i - r.first) ≡ i = omega (arith, l) in
-      let here : get_or inside (i - r.first) d ≡ get_or names i d = inside_at (i - r.first) d (omega (arith, l, m)) ∙ ap (λ k. get_or names k d) q in
-      let low : label (get_or names i d) ≤ i - r.first = subst (λ (k : EntryKey). label k ≤ i - r.first) here (labels.own (i - r.first) d (omega (arith, l, m, size))) in
-      elim (labels.from (get_or names i d)) [
-        | inl e ↦ absurd (omega (arith, e, low, size, l, m))
-        | inr f ↦
-            let u = f.1 in
-            let e = f.2 in
-            elim (cases_lt f.0 (i - r.first)) [
-              | inr k ↦ inl (omega (arith, x, e, k, low, l))
-              | inl k ↦
-                  let there : get_or inside f.0 d ≡ get_or names (r.first + f.0) d = inside_at f.0 d (omega (arith, u, size)) in
-                  elim (f.3 d) [
-                    | inl same ↦ absurd (apart_at names (r.first + f.0) i d (once_of names once) (omega (arith, k, l)) n (sym there ∙ same))
-                    | inr reach ↦ inr (
-                      r.first + f.0,
-                      omega (arith, k, l),
-                      subst (λ (b : EntryKey). Reaches (seen ns) (get_or names i d) b) there (inner_reaches ns r.from r.to (get_or names i d) (get_or inside f.0 d) reach),
-                    )
-                  ]
-            ]
+    module _ (size : to.met ≤ length places) where
+      both_own : (i : ℕ) (d : EntryKey) → i < to.met → IsOwn both i d
+      both_own i d l = elim (cases_lt i c.met) [
+        | inl u ↦ elim (was.own i d u) [ inl e ↦ inl (both_low (get_or places i 0) (cut.before i u) ∙ e) | inr r ↦ inr r ]
+        | inr u ↦ elim (on.own i d u l) [ inl e ↦ inl (both_high (get_or places i 0) (cut.after i u (omega (arith, l, size))) ∙ e) | inr r ↦ inr r ]
       ]
 
-  own : (i : ℕ) (d : EntryKey) → i < length names → IsOwn i d
-  own i d l =
-      let c = named.count in
-      elim (cases_lt i r.first) [
-        | inl u ↦ inl (name_rank i d l ∙ rank_low (get_or names i d) (place i) (region.before i u) ∙ low_own i u)
-        | inr u ↦ elim (cases_lt i r.last) [
-          | inl v ↦ inside_own i d u v
-          | inr v ↦
-              let m : i < length some = omega (arith, l, c) in
-              let x = name_rank i d l ∙ rank_high (get_or names i d) (place i) (region.after i v m) in
-              let y = high_own i v m in
-              inl (omega (arith, x, y, v))
-        ]
-      ]
+      both_pairs : then ≡ first ++ at_ranks both (staying stays 0 to.place)
+      both_pairs =
+          let low : List ℕ = staying stays 0 c.place in
+          let high : List ℕ = staying stays c.place (to.place - c.place) in
+          let all : staying stays 0 to.place ≡ low ++ high = ap (λ n. staying stays 0 n) (let e : to.place ≡ c.place + (to.place - c.place) = omega (arith, forward) in e) ∙ staying_parts stays 0 c.place (to.place - c.place)
+          ∙ ap (λ k. low ++ staying stays k (to.place - c.place)) (let e : 0 + c.place ≡ c.place = omega arith in e) in
+          let lows : at_ranks both low ≡ at_ranks was.rank low = at_ranks_same both was.rank low (λ p h. let t = staying_to stays 0 c.place p h in let u = t.2 in both_low p (omega (arith, u))) in
+          let highs : at_ranks both high ≡ at_ranks more high = at_ranks_same both more high (λ p h. let t = staying_to stays c.place (to.place - c.place) p h in both_high p t.1) in
+          put ∙ ap (λ zs. zs ++ at_ranks more high) was.pairs ∙ append_assoc first (at_ranks was.rank low) (at_ranks more high)
+          ∙ ap (λ zs. first ++ (zs ++ at_ranks more high)) (sym lows) ∙ ap (λ zs. first ++ (at_ranks both low ++ zs)) (sym highs)
+          ∙ ap (λ zs. first ++ zs) (sym (at_ranks_parts both low high)) ∙ ap (λ ps. first ++ at_ranks both ps) (sym all)
 
-  pub are_ranks : AreRanks (seen ns) names rank
-  are_ranks = record { rises = rises; own = own }
+      put_more : PutsTo to places names stays ns first then
+      put_more = record { rank = both; rises = both_rises; few = both_few; own = both_own; pairs = both_pairs }
 
-  -- ---- the places
+  -- ---- ranks that are counted
 
-  module _ (stays : List Bool) (size : length stays ≡ length ns) where
-    all_places : staying stays 0 (length stays) ≡ staying stays 0 (r.from - 0) ++ (staying stays r.from (r.to - r.from) ++ staying stays r.to (length ns - r.to))
-    all_places =
-        let f = region.forward in
-        let l = region.low in
-        let first : length stays ≡ (r.from - 0) + ((r.to - r.from) + (length ns - r.to)) = omega (arith, size, f, l) in
-        let second : 0 + (r.from - 0) ≡ r.from = omega arith in
-        let third : r.from + (r.to - r.from) ≡ r.to = omega (arith, f) in
-        ap (λ n. staying stays 0 n) first ∙ staying_parts stays 0 (r.from - 0) ((r.to - r.from) + (length ns - r.to))
-        ∙ ap (λ k. staying stays 0 (r.from - 0) ++ staying stays k ((r.to - r.from) + (length ns - r.to))) second
-        ∙ ap (λ ps. staying stays 0 (r.from - 0) ++ ps) (staying_parts stays r.from (r.to - r.from) (length ns - r.to)
-        ∙ ap (λ k. staying stays r.from (r.to - r.from) ++ staying stays k (length ns - r.to)) third)
+  module _ (c to : Cut) (cut : IsCut places (length ns) c) (after : IsCut places (length ns) to) (rise : RiseFrom places c.met to.met) where
+    abbrev some : List ℕ
+    some = slice_range places c.met to.met
 
-    low_ranks : ranked rank old (staying stays 0 (r.from - 0)) ≡ counted_ranks 0 low_part (staying stays 0 (r.from - 0))
-    low_ranks = ranked_counted old rank 0 low_part (staying stays 0 (r.from - 0)) (λ p h.
-        let t = staying_to stays 0 (r.from - 0) p h in
-        let u = t.2 in
-        let f = region.forward in
-        let l = region.low in
-        let c = node_count ns in (
-          omega (arith, u, f, l, c),
-          λ d. (let x = rank_of p d (omega (arith, u, f, l)) in let y = rank_low (get_or old p d) p (omega (arith, u)) in omega (arith, x, y)),
-        ))
+    some_length : length some ≡ to.met - c.met
+    some_length = range_length places c.met to.met rise.next after.few
 
-    in_ranks : ranked rank old (staying stays r.from (r.to - r.from)) ≡ labelled_ranks r.first label ns (staying stays r.from (r.to - r.from))
-    in_ranks = ranked_same old rank (λ k. r.first + label k) (staying stays r.from (r.to - r.from)) (λ p h.
-        let t = staying_to stays r.from (r.to - r.from) p h in
-        let u = t.1 in
-        let v = t.2 in
-        let f = region.forward in
-        let l = region.low in
-        let c = node_count ns in (omega (arith, v, f, l, c), λ d. rank_of p d (omega (arith, v, f, l)) ∙ rank_in (get_or old p d) p u (omega (arith, v, f))))
+    some_at : (k : ℕ) → k < to.met - c.met → get_or some k 0 ≡ get_or places (c.met + k) 0
+    some_at k l = range_at places c.met to.met k 0 l
 
-    high_ranks : ranked rank old (staying stays r.to (length ns - r.to)) ≡ counted_ranks r.last high_part (staying stays r.to (length ns - r.to))
-    high_ranks = ranked_counted old rank r.last high_part (staying stays r.to (length ns - r.to)) (λ p h.
-        let t = staying_to stays r.to (length ns - r.to) p h in
-        let u = t.1 in
-        let v = t.2 in
-        let l = region.low in
-        let c = node_count ns in (omega (arith, v, l, c), λ d. rank_of p d (omega (arith, v, l)) ∙ rank_high (get_or old p d) p u))
+    pub some_rises : AreRising some
+    some_rises = λ j k u v.
+        let size = some_length in
+        let x = some_at j (omega (arith, u, v, size)) in
+        let y = some_at k (omega (arith, v, size)) in
+        let w = rise.rises (c.met + j) (c.met + k) (omega arith) (omega (arith, u)) (omega (arith, v, size)) in
+        omega (arith, x, y, w)
 
-    pub all_ranks : ranked rank old (staying stays 0 (length stays))
-        ≡ counted_ranks 0 low_part (staying stays 0 (r.from - 0)) ++ (labelled_ranks r.first label ns (staying stays r.from (r.to - r.from)) ++ counted_ranks r.last high_part (staying stays r.to (length ns - r.to)))
-    all_ranks =
-        let low : List ℕ = staying stays 0 (r.from - 0) in
-        let mid : List ℕ = staying stays r.from (r.to - r.from) in
-        let high : List ℕ = staying stays r.to (length ns - r.to) in
-        ap (λ ps. ranked rank old ps) all_places ∙ ranked_parts old rank low (mid ++ high) ∙ ap (λ zs. ranked rank old low ++ zs) (ranked_parts old rank mid high)
-        ∙ ap (λ zs. zs ++ (ranked rank old mid ++ ranked rank old high)) low_ranks
-        ∙ ap (λ zs. counted_ranks 0 low_part low ++ (zs ++ ranked rank old high)) in_ranks
-        ∙ ap (λ zs. counted_ranks 0 low_part low ++ (labelled_ranks r.first label ns mid ++ zs)) high_ranks
+    pub some_after : (k : ℕ) → k < length some → c.place ≤ get_or some k 0
+    some_after k l =
+        let size = some_length in
+        let n = after.few in
+        let x = some_at k (omega (arith, l, size)) in
+        let w = cut.after (c.met + k) (omega arith) (omega (arith, l, size, n)) in
+        omega (arith, x, w)
 
--- what three parts put one after the other
-pub put_parts : (r : Region) (names : List EntryKey) (ns : List Node) (some : List ℕ) (stays : List Bool) (first second third last : List (ℕ × ℕ)) → IsInOrder (seen ns) → length stays ≡ length ns → spec.Once names → AreNamesAt some names (seen ns)
-    → IsRegion some (length ns) r → second ≡ first ++ counted_ranks 0 (take r.first some) (staying stays 0 (r.from - 0)) → PutsWithin r names stays ns second third
-    → last ≡ third ++ counted_ranks r.last (slice_range some r.last (length some)) (staying stays r.to (length ns - r.to)) → PutsRanked names stays (seen ns) first last
-put_parts r names ns some stays first second third last sound size once named region one two three =
-    let low : List (ℕ × ℕ) = counted_ranks 0 (take r.first some) (staying stays 0 (r.from - 0)) in
-    let mid : List (ℕ × ℕ) = labelled_ranks r.first two.label ns (staying stays r.from (r.to - r.from)) in
-    let high : List (ℕ × ℕ) = counted_ranks r.last (slice_range some r.last (length some)) (staying stays r.to (length ns - r.to)) in
-    record {
-      rank = rank r names ns some sound once named region two.label two.labels;
-      ranks = are_ranks r names ns some sound once named region two.label two.labels;
-      pairs = three ∙ ap (λ zs. zs ++ high) (two.pairs ∙ ap (λ zs. zs ++ mid) one) ∙ append_assoc (first ++ low) mid high ∙ append_assoc first low (mid ++ high)
-          ∙ ap (λ zs. first ++ zs) (sym (all_ranks r names ns some sound once named region two.label two.labels stays size));
+    pub some_before : (k : ℕ) → k < length some → get_or some k 0 < to.place
+    some_before k l =
+        let size = some_length in
+        let x = some_at k (omega (arith, l, size)) in
+        let w = after.before (c.met + k) (omega (arith, l, size)) in
+        omega (arith, x, w)
+
+    some_own : (i : ℕ) → c.met ≤ i → i < to.met → c.met + passed (get_or places i 0) some ≡ i
+    some_own i l m =
+        let size = some_length in
+        let q : c.met + (i - c.met) ≡ i = omega (arith, l) in
+        let here : get_or some (i - c.met) 0 ≡ get_or places i 0 = some_at (i - c.met) (omega (arith, l, m)) ∙ ap (λ k. get_or places k 0) q in
+        let e : passed (get_or places i 0) some ≡ i - c.met = ap (λ p. passed p some) (sym here) ∙ passed_own some (i - c.met) some_rises (omega (arith, l, m, size)) in
+        omega (arith, e, l)
+
+    counted_on : PutsOn c to (λ p. c.met + passed p some)
+    counted_on = record {
+      low = λ i l m. omega arith;
+      few = λ i l m. (let f = passed_few i some in let size = some_length in let n = rise.next in omega (arith, f, size, n));
+      rises = λ i j d l m n s. (let g = passed_grows some i j (omega (arith, m)) in omega (arith, g));
+      own = λ i d l m. inl (some_own i l m);
     }
+
+    pub put_counted : (first now then : List (ℕ × ℕ)) → c.place ≤ to.place → PutsTo c places names stays ns first now → then ≡ now ++ counted_ranks c.met some (staying stays c.place (to.place - c.place)) → PutsTo to places names stays ns first then
+    put_counted first now then forward was put = put_more c to cut forward rise.next first now then was (λ p. c.met + passed p some) counted_on put after.few
+
+  -- ---- ranks that are labels
+
+  module _ (r : Region) (region : IsRegion places (length ns) r) (label : EntryKey → ℕ) (labels : AreLabels (seen (slice_range ns r.from.place r.to.place)) (slice_range names r.from.met r.to.met) label) where
+    abbrev inside : List EntryKey
+    inside = slice_range names r.from.met r.to.met
+
+    -- the rank of a place
+    abbrev label_at : ℕ → ℕ
+    label_at p = get_or (map (λ k. r.from.met + label k) old) p 0
+
+    label_is : (p : ℕ) (d : EntryKey) → p < length ns → label_at p ≡ r.from.met + label (get_or old p d)
+    label_is p d l = get_or-map (λ k. r.from.met + label k) old p d 0 (let e = node_count ns in omega (arith, e, l))
+
+    inside_length : length inside ≡ r.to.met - r.from.met
+    inside_length = range_length names r.from.met r.to.met region.next (let f = region.to.few in let e = what.at.count in omega (arith, e, f))
+
+    label_few : (k : EntryKey) → label k ≤ r.to.met - r.from.met
+    label_few k = elim (labels.from k) [
+      | inl e ↦ let s = inside_length in omega (arith, e, s)
+      | inr f ↦ let l = f.1 in let e = f.2 in let s = inside_length in omega (arith, l, e, s)
+    ]
+
+    label_rises : (i j : ℕ) (d : EntryKey) → r.from.place ≤ i → i < j → j < r.to.place → IsEdge i j d → label_at i ≤ label_at j
+    label_rises i j d l m n s =
+        let low = region.to.low in
+        let x = label_is i d (omega (arith, m, n, low)) in
+        let y = label_is j d (omega (arith, n, low)) in
+        let there = in_part ns r.from.place r.to.place j d (omega (arith, l, m)) n low in
+        let g = labels.rises (get_or old i d) (get_or old j d) (precedes_inner ns r.from.place r.to.place what.sound (get_or old i d) (get_or old j d) there s) in
+        omega (arith, x, y, g)
+
+    inside_at : (k : ℕ) (d : EntryKey) → k < r.to.met - r.from.met → get_or inside k d ≡ get_or names (r.from.met + k) d
+    inside_at k d l = range_at names r.from.met r.to.met k d l
+
+    label_own : (i : ℕ) (d : EntryKey) → r.from.met ≤ i → i < r.to.met → IsOwn label_at i d
+    label_own i d l m =
+        let few = region.to.few in
+        let c = what.at.count in
+        let s = seen_length ns in
+        let size = inside_length in
+        let n : i < length names = omega (arith, m, few, c) in
+        let o : i < length places = omega (arith, m, few) in
+        let w = what.at.within i o in
+        let name : get_or names i d ≡ get_or old (get_or places i 0) d = what.at.at i d o in
+        let x : label_at (get_or places i 0) ≡ r.from.met + label (get_or names i d) = label_is (get_or places i 0) d (omega (arith, w, s)) ∙ ap (λ k. r.from.met + label k) (sym name) in
+        let q : r.from.met + (i - r.from.met) ≡ i = omega (arith, l) in
+        let here : get_or inside (i - r.from.met) d ≡ get_or names i d = inside_at (i - r.from.met) d (omega (arith, l, m)) ∙ ap (λ k. get_or names k d) q in
+        let low : label (get_or names i d) ≤ i - r.from.met = subst (λ (k : EntryKey). label k ≤ i - r.from.met) here (labels.own (i - r.from.met) d (omega (arith, l, m, size))) in
+        elim (labels.from (get_or names i d)) [
+          | inl e ↦ absurd (omega (arith, e, low, size, l, m))
+          | inr f ↦
+              let u = f.1 in
+              let e = f.2 in
+              elim (cases_lt f.0 (i - r.from.met)) [
+                | inr k ↦ inl (omega (arith, x, e, k, low, l))
+                | inl k ↦
+                    let there : get_or inside f.0 d ≡ get_or names (r.from.met + f.0) d = inside_at f.0 d (omega (arith, u, size)) in
+                    elim (f.3 d) [
+                      | inl same ↦ absurd (apart_at names (r.from.met + f.0) i d (once_of names what.once) (omega (arith, k, l)) n (sym there ∙ same))
+                      | inr reach ↦ inr (
+                        r.from.met + f.0,
+                        omega (arith, k, l),
+                        subst (λ (b : EntryKey). Reaches (seen ns) (get_or names i d) b) there (inner_reaches ns r.from.place r.to.place (get_or names i d) (get_or inside f.0 d) reach),
+                      )
+                    ]
+              ]
+        ]
+
+    labelled_on : PutsOn r.from r.to label_at
+    labelled_on = record {
+      low = λ i l m. (let w = region.to.low in let d : EntryKey = any_node i (omega (arith, m, w)) in let x = label_is i d (omega (arith, m, w)) in omega (arith, x));
+      few = λ i l m. (let w = region.to.low in let d : EntryKey = any_node i (omega (arith, m, w)) in let x = label_is i d (omega (arith, m, w)) in let f = label_few (get_or old i d) in let n = region.next in omega (arith, x, f, n));
+      rises = label_rises;
+      own = label_own;
+    }
+      where
+        any_node : (i : ℕ) → i < length ns → EntryKey
+        any_node i l = any_of old i (let e = node_count ns in omega (arith, e, l))
+
+    labelled_are : labelled_ranks r.from.met label ns (staying stays r.from.place (r.to.place - r.from.place)) ≡ at_ranks label_at (staying stays r.from.place (r.to.place - r.from.place))
+    labelled_are = ranked_at old (λ k. r.from.met + label k) label_at (staying stays r.from.place (r.to.place - r.from.place)) (λ p h.
+        let t = staying_to stays r.from.place (r.to.place - r.from.place) p h in
+        let v = t.2 in
+        let f = region.forward in
+        let l = region.to.low in
+        let c = node_count ns in (omega (arith, v, f, l, c), λ d. sym (label_is p d (omega (arith, v, f, l)))))
+
+    put_labels : (first now then : List (ℕ × ℕ)) → PutsTo r.from places names stays ns first now → then ≡ now ++ labelled_ranks r.from.met label ns (staying stays r.from.place (r.to.place - r.from.place)) → PutsTo r.to places names stays ns first then
+    put_labels first now then was put = put_more r.from r.to region.from region.forward region.next first now then was label_at labelled_on (put ∙ ap (λ zs. now ++ zs) labelled_are) region.to.few
+
+  pub put_within : (r : Region) (first now then : List (ℕ × ℕ)) → IsRegion places (length ns) r → PutsTo r.from places names stays ns first now → PutsWithin r names stays ns now then → PutsTo r.to places names stays ns first then
+  put_within r first now then region was put = put_labels r region put.label put.labels first now then was put.pairs
+
+  -- ---- after the last cut
+
+  pub put_last : (c : Cut) (first now then : List (ℕ × ℕ)) → IsCut places (length ns) c → length places ≤ c.met → PutsTo c places names stays ns first now → then ≡ now ++ alike c.met (staying stays c.place (length ns - c.place)) → PutsRanked names stays (seen ns) first then
+  put_last c first now then cut all was put = record { rank = rank; ranks = record { rises = rank_rises; own = rank_own }; pairs = last.pairs ∙ ap (λ zs. first ++ zs) (sym ranks_are) }
+    where
+      to : Cut
+      to = record { met = c.met; place = length ns }
+
+      last : PutsTo to places names stays ns first then
+      last = put_more c to cut cut.low (omega arith) first now then was (λ p. c.met) (record {
+        low = λ i l m. omega arith;
+        few = λ i l m. omega arith;
+        rises = λ i j d l m n s. omega arith;
+        own = λ i d l m. absurd (omega (arith, l, m));
+      }) put cut.few
+
+      rank : EntryKey → ℕ
+      rank k = last.rank (unwrap_or (place_of same_entry old k) 0)
+
+      rank_of : (p : ℕ) (d : EntryKey) → p < length ns → rank (get_or old p d) ≡ last.rank p
+      rank_of p d l =
+          let e = node_count ns in
+          ap (λ o. last.rank (unwrap_or o 0)) (place_has same_entry same_entry-sound same_entry-refl old p d (once_of old what.sound.once) (omega (arith, e, l)))
+
+      rank_rises : (a b : EntryKey) → Precedes (seen ns) a b → rank a ≤ rank b
+      rank_rises a b s =
+          let t = before_places old a b a (what.sound.forward a b s) in
+          let l = t.2 in
+          let m = t.3 in
+          let e = node_count ns in
+          let x : rank a ≡ last.rank t.0 = subst (λ (k : EntryKey). rank k ≡ last.rank t.0) t.4 (rank_of t.0 a (omega (arith, l, m, e))) in
+          let y : rank b ≡ last.rank t.1 = subst (λ (k : EntryKey). rank k ≡ last.rank t.1) t.5 (rank_of t.1 a (omega (arith, m, e))) in
+          let edge : IsEdge t.0 t.1 a = subst (λ (k : EntryKey). Precedes (seen ns) k (get_or old t.1 a)) (sym t.4) (subst (λ (k : EntryKey). Precedes (seen ns) a k) (sym t.5) s) in
+          let up = last.rises t.0 t.1 a l (omega (arith, m, e)) edge in
+          omega (arith, x, y, up)
+
+      rank_own : (i : ℕ) (d : EntryKey) → i < length names → (rank (get_or names i d) ≡ i) ⊎ ((j : ℕ) × (j < i) × Reaches (seen ns) (get_or names i d) (get_or names j d))
+      rank_own i d l =
+          let n = what.at.count in
+          let s = seen_length ns in
+          let m : i < length places = omega (arith, l, n) in
+          let w = what.at.within i m in
+          let x : rank (get_or names i d) ≡ last.rank (get_or places i 0) = subst (λ (k : EntryKey). rank k ≡ last.rank (get_or places i 0)) (sym (what.at.at i d m)) (rank_of (get_or places i 0) d (omega (arith, w, s))) in
+          elim (last.own i d (omega (arith, m, all))) [ inl e ↦ inl (x ∙ e) | inr r ↦ inr r ]
+
+      ranks_are : ranked rank old (staying stays 0 (length stays)) ≡ at_ranks last.rank (staying stays 0 (length ns))
+      ranks_are = ap (λ k. ranked rank old (staying stays 0 k)) what.count ∙ ranked_at old rank last.rank (staying stays 0 (length ns)) (λ p h.
+          let t = staying_to stays 0 (length ns) p h in
+          let u = t.2 in
+          let e = node_count ns in (omega (arith, u, e), λ d. rank_of p d (omega (arith, u))))

@@ -1,12 +1,11 @@
 -- The line by ranks is one of the merge.
-use Rattle.std.proofs.Common.{◌≡◌, refl, ap, ◌∙◌, sym, subst, ℕ, ◌<◌, ◌≤◌, Bool, true, false, List, [], ◌∷◌, ◌++◌, length, map, get_or, Option, Some, inl, inr, ◌⊎◌, arith}
-use Rattle.std.specs.Prelude.{◌↔◌, Contains, IsTrue, IsPermutation}
-use Rattle.std.specs.List.Sorted.{IsNonDecreasingBy, IsStableByKey}
-use Rattle.std.specs.Ordering.{nat_cmp}
+use Rattle.std.proofs.Common.{◌≡◌, refl, ap, ◌∙◌, sym, subst, ℕ, ◌+◌, ◌<◌, ◌≤◌, Bool, true, false, List, [], ◌∷◌, ◌++◌, length, map, get_or, Option, Some, inl, inr, ◌⊎◌, arith}
+use Rattle.std.specs.Prelude.{◌↔◌, ◌&&◌, Contains, IsTrue}
+use Rattle.std.specs.List.{sum_by}
 use Rattle.std.proofs.lemmas.Bool.{cases_lt, eqb-true, eq-eqb}
 use Rattle.std.proofs.Math.Dec.{eqb}
 use Rattle.std.proofs.lemmas.List.{map-append, get_or-map}
-use Rattle.std.proofs.lemmas.List.Sorted.{Contains-permutation, IsPermutation-map, IsPermutation-sym}
+use Rattle.std.proofs.lemmas.List.Sums.{sum_by-cons}
 use Rattle.rd_keys.specs.declared.entry.EntryKey.{EntryKey}
 use Rattle.rd_graph.specs.Graphs.{Graph, nodes, Precedes, Reaches, Hop, here, over, Stitch, Drops, GoTogether, IsInOrder}
 use Rattle.rd_graph.specs.Orders as spec
@@ -16,19 +15,38 @@ use Rattle.rd_graph.specs.Internal.Passes.{stitch_pass}
 use Rattle.rd_graph.specs.Patches.{CanBePatched, IsArranged, is_gone, not_found}
 use Rattle.rd_graph.specs.Internal.Seen.{seen}
 use Rattle.rd_graph.specs.Internal.Walks.{stays_at, staying, counted, free_after}
-use Rattle.rd_graph.specs.Internal.Ranks.{fixed, loose, ranked, AreNamesAt, AreRanks, ArePlacesByRank}
+use Rattle.rd_graph.specs.Internal.Ranks.{fixed, loose, ranked, AreNamesAt, AreRanks, AreRankable, AreByRank}
 use Rattle.rd_graph.specs.declared.graph.Node.{Node}
-use Rattle.rd_graph.proofs.Lists.Listing.{Has, Once, cases, has_from, contains_from, has_left, has_right, has_either, has_map, map_has, before_left, before_right, before_across, before_once, before_from, before_to, once_join}
+use Rattle.rd_graph.proofs.Lists.Listing.{Has, Once, cases, never, has_left, has_right, has_either, has_map, map_has, before_left, before_right, before_across, before_once, before_either, before_from, before_to, once_join}
 use Rattle.rd_graph.proofs.Reaching.Calls.{once_of, once_to}
 use Rattle.rd_graph.proofs.Lists.Entries.{same_entry-sound, same_entry-refl, has_get}
 use Rattle.rd_graph.proofs.Reaching.Dropping.{dropped}
-use Rattle.rd_graph.proofs.Reaching.Sorting.{before_map, map_before, by_label, by_place, once_permutation}
+use Rattle.rd_graph.proofs.Reaching.Sorting.{before_map, map_before, has_sums, once_sums}
 use Rattle.rd_graph.proofs.Lists.Gatherings.{AreBelow, has_below, gathered_map}
 use Rattle.rd_graph.proofs.LinedUp.LineFacts.{node_length, seen_length}
 use Rattle.rd_graph.proofs.LinedUp.ChainPlaces.{before_at}
 use Rattle.rd_graph.proofs.LinedUp.Walks.{staying_to, staying_from, staying_before, staying_once, stays_below}
 use Rattle.rd_graph.proofs.LinedUp.PlacedLines.{placed_line, once_places, chained, at_old, not_gone}
 use Rattle.rd_graph.proofs.LinedUp.ByRanks.RankedLines.{ranked_map, ranked_places, chain_pairs, chain_seconds, ranks_rise, loose_has, loose_before, loose_to, loose_once, fixed_of, fixed_to, fixed_before, fixed_once, fixed_rank, fixed_length, fixed_map, fixed_places}
+
+sum_by_map : {A B : Type 0} (n : B → ℕ) (f : A → B) (xs : List A) → sum_by n (map f xs) ≡ sum_by (λ x. n (f x)) xs
+sum_by_map n f [] = refl
+sum_by_map n f (x ∷ xs) = sum_by-cons n (f x) (map f xs) ∙ ap (λ k. n (f x) + k) (sum_by_map n f xs) ∙ sym (sum_by-cons (λ y. n (f y)) x xs)
+
+-- two pairs are the same
+same_pair : ℕ × ℕ → ℕ × ℕ → Bool
+same_pair x y = eqb x.0 y.0 && eqb x.1 y.1
+
+same_pair-sound : (x y : ℕ × ℕ) → same_pair x y ≡ true → x ≡ y
+unfolding same_pair
+same_pair-sound x y h = elim (cases (eqb x.0 y.0)) [
+  | inl t ↦ let u : eqb x.1 y.1 ≡ true = (rw t at h) in ap (λ (n : ℕ). (n, x.1)) (eqb-true x.0 y.0 t) ∙ ap (λ (n : ℕ). (y.0, n)) (eqb-true x.1 y.1 u)
+  | inr f ↦ absurd (never false (rw f at h) refl)
+]
+
+same_pair-refl : (x : ℕ × ℕ) → same_pair x x ≡ true
+unfolding same_pair
+same_pair-refl x = let t : eqb x.0 x.0 ≡ true = eq-eqb x.0 x.0 refl in let u : eqb x.1 x.1 ≡ true = eq-eqb x.1 x.1 refl in rw (t, u) refl
 
 pub counted_length : (n : ℕ) (os : List (Option ℕ)) → length (counted n os) ≡ length os
 counted_length n [] = refl
@@ -87,7 +105,7 @@ module _ (gone : List ℕ) (chain : List EntryKey) (found : List (Option ℕ)) (
 
   module _ (label : EntryKey → ℕ) (labels : AreRanks g fx label) (all sorted : List (ℕ × ℕ))
       (all_are : all ≡ loose stays 0 places ++ ranked label old (staying stays 0 (length g)))
-      (moved : IsPermutation all sorted) (up : IsNonDecreasingBy (λ (x : ℕ × ℕ). x.0) sorted) (stable : IsStableByKey (λ (x : ℕ × ℕ). x.0) nat_cmp all sorted) where
+      (same : (n : ℕ × ℕ → ℕ) → sum_by n sorted ≡ sum_by n all) (up : (x y : ℕ × ℕ) → Before sorted x y → x.0 ≤ y.0) (stable : (x y : ℕ × ℕ) → Before all x y → x.0 ≡ y.0 → Before sorted x y) where
     abbrev second : ℕ × ℕ → ℕ
     second x = x.1
 
@@ -125,25 +143,37 @@ module _ (gone : List ℕ) (chain : List EntryKey) (found : List (Option ℕ)) (
         let t = (staying_to stays 0 (length g) p k).0 in
         cc)
 
-    line_moved : IsPermutation (map second all) line
-    line_moved = IsPermutation-map second all sorted moved
+    same_line : (n : ℕ → ℕ) → sum_by n line ≡ sum_by n (map second all)
+    same_line n = sum_by_map n second sorted ∙ same (λ x. n x.1) ∙ sym (sum_by_map n second all)
+
+    eqb_sound : (a b : ℕ) → eqb a b ≡ true → a ≡ b
+    eqb_sound a b h = eqb-true a b h
+
+    eqb_refl : (a : ℕ) → eqb a a ≡ true
+    eqb_refl a = eq-eqb a a refl
 
     once_line : Once line
-    once_line = once_permutation eqb (λ a b h. eqb-true a b h) (λ a. eq-eqb a a refl) (map second all) line line_moved (subst Once (sym seconds_are) once_seconds)
+    once_line = once_sums eqb eqb_sound eqb_refl (map second all) line same_line (subst Once (sym seconds_are) once_seconds)
 
     line_to : (p : ℕ) → Has line p → (stays_at stays p ≡ true) ⊎ Has places p
-    line_to p h = to_all p (subst (λ (qs : List ℕ). Has qs p) seconds_are (has_from (map second all) p (Contains-permutation line (map second all) p (IsPermutation-sym (map second all) line line_moved) (contains_from line p h))))
+    line_to p h = to_all p (subst (λ (qs : List ℕ). Has qs p) seconds_are (has_sums eqb eqb_sound eqb_refl line (map second all) (λ n. sym (same_line n)) p h))
 
     line_has : (p : ℕ) → Has (map second free ++ kept) p → Has line p
-    line_has p h = has_from line p (Contains-permutation (map second all) line p line_moved (contains_from (map second all) p (subst (λ (qs : List ℕ). Has qs p) (sym seconds_are) h)))
+    line_has p h = has_sums eqb eqb_sound eqb_refl (map second all) line same_line p (subst (λ (qs : List ℕ). Has qs p) (sym seconds_are) h)
 
     in_all : (x : ℕ × ℕ) → Has (free ++ tied) x → Has all x
     in_all x h = subst (λ (zs : List (ℕ × ℕ)). Has zs x) (sym all_are) h
 
+    sorted_has : (x : ℕ × ℕ) → Has all x → Has sorted x
+    sorted_has x h = has_sums same_pair same_pair-sound same_pair-refl all sorted same x h
+
     -- what the sort does to two pairs
     put : (x y : ℕ × ℕ) → Has all x → Has all y → (x.0 < y.0) ⊎ ((x.0 ≡ y.0) × Before all x y) → Before line x.1 y.1
-    put x y h k (inl l) = before_map second sorted x y (by_label (λ (z : ℕ × ℕ). z) (λ (z : ℕ × ℕ). z.0) (λ (z : ℕ × ℕ). z.0) all sorted (λ a m. refl) moved up stable x y h k l)
-    put x y h k (inr e) = before_map second sorted x y (by_place (λ (z : ℕ × ℕ). z) (λ (z : ℕ × ℕ). z.0) (λ (z : ℕ × ℕ). z.0) all sorted (λ a m. refl) moved up stable x y e.1 e.0)
+    put x y h k (inl l) = before_map second sorted x y (elim (before_either sorted x y (sorted_has x h) (sorted_has y k) (λ e. let f : x.0 ≡ y.0 = ap (λ (z : ℕ × ℕ). z.0) e in omega (arith, f, l))) [
+      | inl r ↦ r
+      | inr r ↦ absurd (let m = up y x r in omega (arith, m, l))
+    ])
+    put x y h k (inr e) = before_map second sorted x y (stable x y e.1 e.0)
 
     hop_up : (a b : EntryKey) → Hop (Precedes g) (is_gone gone g) a b → label a ≤ label b
     hop_up a b (here s) = labels.rises a b s
@@ -270,15 +300,15 @@ module _ (gone : List ℕ) (chain : List EntryKey) (found : List (Option ℕ)) (
   pub count_places : length places ≡ length chain
   count_places = ap length are ∙ places_length chain found (length ns) _ can.found_are
 
-  pub once_fixed : spec.Once (fixed stays places chain)
+  once_fixed : spec.Once (fixed stays places chain)
   once_fixed = once_to (fixed stays places chain) (fx_once gone chain found (seen ns) can sound stays places size_seen marked_seen are_seen)
 
-  pub named_fixed : AreNamesAt (fixed stays places places) (fixed stays places chain) (seen ns)
+  named_fixed : AreNamesAt (fixed stays places places) (fixed stays places chain) (seen ns)
   named_fixed = fx_named gone chain found (seen ns) can sound stays places size_seen marked_seen are_seen
 
-  pub ranked_by : (ps : List ℕ) → ArePlacesByRank stays places chain (seen ns) ps → IsArranged gone chain found (seen ns) (Some ps)
-  ranked_by ps by =
-      let r = by.by_rank in
-      subst (λ (ls : List ℕ). IsArranged gone chain found (seen ns) (Some ls)) (sym by.alone)
-      (ranked_line gone chain found (seen ns) can sound stays places size_seen marked_seen are_seen r.put.rank r.put.ranks r.before by.pairs
-      (r.put.pairs ∙ ap (λ m. loose stays 0 places ++ ranked r.put.rank (nodes (seen ns)) (staying stays 0 m)) size_seen) r.same r.sorted r.stable)
+  pub rankable : AreRankable ns stays (fixed stays places places) (fixed stays places chain)
+  rankable = record { sound = sound; count = size; once = once_fixed; at = named_fixed }
+
+  pub ranked_by : (pairs : List (ℕ × ℕ)) → AreByRank stays places chain (seen ns) pairs → IsArranged gone chain found (seen ns) (Some (map (λ (x : ℕ × ℕ). x.1) pairs))
+  ranked_by pairs by = ranked_line gone chain found (seen ns) can sound stays places size_seen marked_seen are_seen by.put.rank by.put.ranks by.before pairs
+      (by.put.pairs ∙ ap (λ m. loose stays 0 places ++ ranked by.put.rank (nodes (seen ns)) (staying stays 0 m)) size_seen) by.same by.sorted by.stable

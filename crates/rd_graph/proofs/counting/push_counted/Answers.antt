@@ -1,27 +1,35 @@
-use Rattle.std.proofs.Common.{refl, ap, ◌∙◌, sym, cond, arith, ℕ, List, [], ◌∷◌, ◌++◌, ◌+◌}
-use Rattle.rd_graph.specs.Internal.Ranks.{counted_ranks}
-use Rattle.rd_graph.proofs.LinedUp.ByRanks.CountedRanks.{passed_few, passed_none, passed_next, part_next, part_end}
+use Rattle.std.proofs.Common.{◌≡◌, refl, ◌∙◌, ap, get_or, inl, inr, arith}
+use Rattle.std.proofs.lemmas.Bool.{cases_lt}
+use Rattle.std.proofs.lemmas.Result.{on_ok_weaker}
+use Rattle.rd_graph.specs.Internal.Ranks.{spread}
+use Rattle.rd_graph.proofs.LinedUp.ByRanks.CountedRanks.{counted_next, counted_last}
 use Rattle.rd_graph.proofs.counting.push_counted.Goals as goal
 
-pub loop-place-init : goal.loop-place-init
-loop-place-init c = record { pairs = refl; met = passed_none c.args.some.now c.args.from c.requires.after }
+pub loop-i-init : goal.loop-i-init
+loop-i-init c = record { runs = refl; low = λ k l. absurd (omega (arith, l)); high = λ k l m. c.requires.after k m }
 
-pub overflow_add-least : goal.overflow_add-least
-overflow_add-least c =
-    let few = passed_few c.loop-place.place c.args.some.now in
-    let met = c.loop-place.invariant.met in
-    let all = c.requires.few in
-    omega (arith, few, met, all)
+pub push_staying-requires : goal.push_staying-requires
+push_staying-requires c = let l = c.requires.before c.loop-i.i c.loop-i-test.true in let to = c.requires.to in omega (arith, l, to)
 
-pub loop-place-preserved : goal.loop-place-preserved
-loop-place-preserved c =
-    let put : List ℕ → List (ℕ × ℕ) = counted_ranks c.args.least c.args.some.now in
+pub loop-i-preserved : goal.loop-i-preserved
+loop-i-preserved c =
+    let some = c.args.some.now in
+    let i = c.loop-i.i in
+    let was = c.loop-i.invariant in
     record {
-      pairs = part_next put c.args.stays.now c.args.to c.loop-place.place (c.args.least + c.loop-place.met) c.loop-place.pairs.items c.push_pair.new.pairs.items _ c.loop-place-test.true
-          (λ ps. ap (λ (m : ℕ). (c.args.least + m, c.loop-place.place) ∷ put ps) (sym c.loop-place.invariant.met)) c.loop-place.invariant.pairs
-          (c.in_ok-push_pair.ensures ∙ ap (λ b. c.loop-place.pairs.items ++ cond b ((c.args.least + c.loop-place.met, c.loop-place.place) ∷ []) []) c.has.ensures.stays);
-      met = passed_next c.args.some.now c.loop-place.place c.loop-place.met c.advance_past-met.result c.requires.rising c.loop-place.invariant.met c.advance_past-met.ensures;
+      runs = counted_next c.args.stays.now some c.args.least c.args.to i c.loop-i.place c.requires.rising was.low was.high (spread c.loop-i.runs.items) (spread c.push_staying.new.runs.items) _ c.loop-i-test.true (c.requires.before i c.loop-i-test.true) was.runs c.in_ok-push_staying.ensures;
+      low = λ k l. elim (cases_lt k i) [
+        | inl u ↦ let v = c.requires.rising k i u c.loop-i-test.true in omega (arith, v)
+        | inr u ↦ let e : get_or some k 0 ≡ get_or some i 0 = ap (λ n. get_or some n 0) (let f : k ≡ i = omega (arith, l, u) in f) in omega (arith, e)
+      ];
+      high = λ k l m. let v = c.requires.rising i k (omega (arith, l)) m in omega (arith, v);
     }
 
 pub returns : goal.returns
-returns c = part_end (counted_ranks c.args.least c.args.some.now) c.args.stays.now c.args.to c.loop-place.place c.loop-place.pairs.items _ refl c.loop-place-test.false c.loop-place.invariant.pairs
+returns c =
+    let l = c.loop-i-test.false in
+    let m = c.loop-i.auto.i-end in
+    let was = c.loop-i.invariant in
+    on_ok_weaker c.push_staying-2.result
+    (λ h. h ∙ counted_last c.args.stays.now c.args.some.now c.args.least c.args.to c.loop-i.i c.loop-i.place c.requires.rising was.low was.high (spread c.loop-i.runs.items) _ (omega (arith, l, m)) was.runs)
+    c.push_staying-2.ensures

@@ -1,4 +1,4 @@
-use Rattle.std.proofs.Common.{false, ◌≡◌, ◌+◌, ◌-◌, ◌++◌, ◌∙◌, inl, inr, get_or, length, subst, sym, take, drop, arith, ℕ}
+use Rattle.std.proofs.Common.{◌≡◌, ◌-◌, ◌++◌, ◌∙◌, inl, inr, get_or, length, subst, sym, take, drop, arith, ℕ}
 use Rattle.std.specs.Prelude.{vec_len}
 use Rattle.std.proofs.lemmas.List.{length-drop, length-take-le}
 use Rattle.rd_graph.specs.Internal.InPlace.{StayersRise, coming, no_run}
