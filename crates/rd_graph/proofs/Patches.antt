@@ -12,3 +12,4 @@ pub mod Along
 pub mod Namings
 pub mod Kinds
 pub mod AskedPlaces
+pub mod Thinned

@@ -35,7 +35,7 @@ impl Places {
         requires { Once names.items }
         ensures { IfOk result (λ p. p ≡ names.items) }
     {
-        let table = places(alloc, &names)?;
+        let table = places(alloc, &names, 0)?;
         Ok(Places { names, table })
     }
 

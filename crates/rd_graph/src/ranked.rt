@@ -6,6 +6,7 @@ ghost use Rattle.rd_graph.specs.Runs.{places_of, up_from};
 ghost use Rattle.rd_graph.specs.Internal.Walks.{staying};
 ghost use Rattle.rd_graph.specs.Internal.Ranks.{alike, spread};
 
+use crate::aside::set_aside;
 use crate::runs::{Run, push_places};
 use crate::stays::Stays;
 use std::alloc::{AllocError, Global};
@@ -62,7 +63,8 @@ pub(crate) fn sort(runs: &mut Vec<RankedRun>) -> Result<(), AllocError>
     Ok(())
 }
 
-/// The places alone, as runs, the first place `apart` of another kind not after those before it.
+/// The places alone, as runs, the first place `apart` of another kind not after those before it. What is not in its order is set
+/// aside.
 pub(crate) fn places_alone(
     alloc: Global,
     ranked: &[RankedRun],
@@ -74,5 +76,6 @@ pub(crate) fn places_alone(
     for run in ranked {
         push_places(&mut runs, run.from, run.count, apart, false)?;
     }
+    set_aside(alloc, &mut runs, apart)?;
     Ok(runs)
 }

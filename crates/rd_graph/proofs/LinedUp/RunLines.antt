@@ -51,6 +51,12 @@ lengthened (x ∷ y ∷ ys) zero r p n a l e f = absurd (omega (arith, l))
 lengthened (x ∷ xs) (suc i) r p n a l e f =
     ap (λ ks. up_from x.from x.count ++ ks) (lengthened xs i r p n a (omega (arith, l)) e f) ∙ sym (append_assoc (up_from x.from x.count) (places_of xs) (up_from p n))
 
+-- a run that is set aside, or no longer
+pub reflagged : (rs : List Run) (i : ℕ) (r : Run) (a : Bool) → i < length rs → r ≡ get_or rs i r → places_of (slice_set rs i (record { from = r.from; count = r.count; aside = a })) ≡ places_of rs
+reflagged [] i r a l e = absurd (omega (arith, l))
+reflagged (x ∷ xs) zero r a l e = ap (λ (z : Run). up_from z.from z.count ++ places_of xs) e
+reflagged (x ∷ xs) (suc i) r a l e = ap (λ ks. up_from x.from x.count ++ ks) (reflagged xs i r a (omega (arith, l)) e)
+
 drop_at : {T : Type 0} (xs : List T) (i : ℕ) (x : T) → i < length xs → x ≡ get_or xs i x → drop i xs ≡ x ∷ drop (suc i) xs
 drop_at [] i x l e = absurd (omega arith)
 drop_at (y ∷ ys) zero x l e = ap (λ z. z ∷ ys) (sym e)

@@ -1,4 +1,4 @@
-use Rattle.rd_graph.proofs.Thinned.Climbings.{adds_before}
+use Rattle.rd_graph.proofs.Patches.Thinned.Climbings.{adds_before}
 use Rattle.rd_graph.proofs.climbing.go_on_at.Goals as goal
 
 pub returns-clause-left : goal.returns-clause-left

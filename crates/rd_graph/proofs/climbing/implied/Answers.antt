@@ -2,7 +2,7 @@ use Rattle.std.proofs.Common.{◌≡◌, ◌∙◌, ap, subst, arith, ◌<◌, l
 use Rattle.rd_keys.specs.declared.entry.EntryKey.{EntryKey}
 use Rattle.rd_graph.specs.Internal.Seen.{seen}
 use Rattle.rd_graph.specs.Internal.Thinning.{AddsBefore}
-use Rattle.rd_graph.proofs.Thinned.Climbings.{lead_first, lead_next, implied_first, implied_next}
+use Rattle.rd_graph.proofs.Patches.Thinned.Climbings.{lead_first, lead_next, implied_first, implied_next}
 use Rattle.rd_graph.proofs.climbing.implied.Goals as goal
 
 pub loop-step-init : goal.loop-step-init

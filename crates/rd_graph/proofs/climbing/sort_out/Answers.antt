@@ -1,7 +1,7 @@
 use Rattle.std.proofs.Common.{◌∙◌, subst}
 use Rattle.rd_keys.specs.declared.entry.EntryKey.{EntryKey}
 use Rattle.rd_graph.specs.Internal.Thinning.{MayAdd}
-use Rattle.rd_graph.proofs.Thinned.Climbings.{adds_none, adds_next}
+use Rattle.rd_graph.proofs.Patches.Thinned.Climbings.{adds_none, adds_next}
 use Rattle.rd_graph.proofs.climbing.sort_out.Goals as goal
 
 pub loop-key-init : goal.loop-key-init

@@ -14,4 +14,4 @@ pub loop-run-preserved : goal.loop-run-preserved
 loop-run-preserved c = record { all = seconds_more c.args.ranked.now c.loop-run.run-index _ (places_of c.loop-run.runs.items) (places_of c.push_places.new.runs.items) c.loop-run-test.true c.loop-run.invariant.all c.in_ok-push_places.ensures }
 
 pub returns : goal.returns
-returns c = c.loop-run.invariant.all ∙ ap (λ (rs : List RankedRun). map (λ (p : ℕ × ℕ). p.1) (spread rs)) (take_all c.loop-run.run-index c.args.ranked.now c.loop-run-test.false)
+returns c = c.in_ok-set_aside.ensures ∙ c.loop-run.invariant.all ∙ ap (λ (rs : List RankedRun). map (λ (p : ℕ × ℕ). p.1) (spread rs)) (take_all c.loop-run.run-index c.args.ranked.now c.loop-run-test.false)

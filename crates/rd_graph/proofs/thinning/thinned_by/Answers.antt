@@ -1,7 +1,7 @@
 use Rattle.rd_graph.specs.Internal.Patching.{lists_seen}
 use Rattle.rd_graph.specs.Internal.Seen.{seen, seen_one}
 use Rattle.rd_graph.proofs.Patches.SeenAt.{seen_at, seen_whole}
-use Rattle.rd_graph.proofs.Thinned.Thinnings.{thin_next, thin_all}
+use Rattle.rd_graph.proofs.Patches.Thinned.Thinnings.{thin_next, thin_all}
 use Rattle.rd_graph.proofs.thinning.thinned_by.Goals as goal
 
 pub loop-place-preserved : goal.loop-place-preserved

@@ -1,5 +1,5 @@
 use Rattle.rd_graph.specs.Internal.Seen.{seen}
-use Rattle.rd_graph.proofs.Thinned.Thinnings.{thinner_left}
+use Rattle.rd_graph.proofs.Patches.Thinned.Thinnings.{thinner_left}
 use Rattle.rd_graph.proofs.thinning.thinner.Goals as goal
 
 pub returns : goal.returns

@@ -1,7 +1,7 @@
 use Rattle.std.proofs.Common.{◌∙◌, subst, List}
 use Rattle.rd_keys.specs.declared.entry.EntryKey.{EntryKey}
 use Rattle.rd_graph.specs.Internal.Thinning.{Leaves, MayLeave}
-use Rattle.rd_graph.proofs.Thinned.Climbings.{leaves_next}
+use Rattle.rd_graph.proofs.Patches.Thinned.Climbings.{leaves_next}
 use Rattle.rd_graph.proofs.Patches.Marks.{take_whole}
 use Rattle.rd_graph.proofs.thinning.without.Goals as goal
 

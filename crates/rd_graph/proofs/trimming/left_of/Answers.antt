@@ -2,7 +2,7 @@ use Rattle.std.proofs.Common.{◌∙◌, ap, [], ◌∷◌, ◌++◌, if◌then�
 use Rattle.rd_keys.specs.declared.entry.EntryKey.{EntryKey}
 use Rattle.rd_graph.specs.Internal.Trimming.{is_left}
 use Rattle.rd_graph.specs.Internal.Tables.{at}
-use Rattle.rd_graph.proofs.Thinned.Trims.{left_next}
+use Rattle.rd_graph.proofs.Patches.Thinned.Trims.{left_next}
 use Rattle.rd_graph.proofs.trimming.left_of.Goals as goal
 
 pub loop-key-preserved : goal.loop-key-preserved

@@ -2,7 +2,7 @@ use Rattle.std.proofs.Common.{◌∙◌, ap}
 use Rattle.rd_keys.specs.declared.entry.EntryKey.{EntryKey}
 use Rattle.rd_graph.specs.Internal.Trimming.{higher}
 use Rattle.rd_graph.specs.Internal.Tables.{at}
-use Rattle.rd_graph.proofs.Thinned.Trims.{highest_next}
+use Rattle.rd_graph.proofs.Patches.Thinned.Trims.{highest_next}
 use Rattle.rd_graph.proofs.trimming.top_of.Goals as goal
 
 pub loop-key-preserved : goal.loop-key-preserved

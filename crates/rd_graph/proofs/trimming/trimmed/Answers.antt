@@ -5,7 +5,7 @@ use Rattle.rd_graph.specs.Names.{place_of, same_entry}
 use Rattle.rd_graph.specs.Internal.Patching.{lists_seen}
 use Rattle.rd_graph.specs.Internal.Tables.{at}
 use Rattle.rd_graph.proofs.Lists.Listing.{contains_from}
-use Rattle.rd_graph.proofs.Thinned.Trims.{all_short, all_trimmed_same}
+use Rattle.rd_graph.proofs.Patches.Thinned.Trims.{all_short, all_trimmed_same}
 use Rattle.rd_graph.proofs.trimming.trimmed.Goals as goal
 
 pub returns : goal.returns

@@ -4,7 +4,7 @@ use Rattle.rd_graph.specs.Internal.Patching.{lists_seen}
 use Rattle.rd_graph.specs.Internal.Seen.{seen}
 use Rattle.rd_graph.specs.Runs.{places_of}
 use Rattle.rd_graph.proofs.Patches.Kinds.{told_none}
-use Rattle.rd_graph.proofs.Thinned.Thinnings.{thin_ordered, thin_can, thin_back}
+use Rattle.rd_graph.proofs.Patches.Thinned.Thinnings.{thin_ordered, thin_can, thin_back}
 use Rattle.rd_graph.proofs.graph.OrderGraph.patch.Goals as goal
 
 pub invariant_of-graph : goal.invariant_of-graph

@@ -8,7 +8,7 @@ use Rattle.rd_graph.specs.Internal.Patching.{lists_seen}
 use Rattle.rd_graph.specs.Internal.Seen.{seen}
 use Rattle.rd_graph.specs.Runs.{places_of}
 use Rattle.rd_graph.proofs.Patches.Merged.{patched_by}
-use Rattle.rd_graph.proofs.Thinned.Trimmings.{short_by}
+use Rattle.rd_graph.proofs.Patches.Thinned.Trimmings.{short_by}
 use Rattle.rd_graph.proofs.graph.OrderGraph.patch_as_is.Goals as goal
 
 pub returns-clause-fits : goal.returns-clause-fits

@@ -13,7 +13,7 @@ use Rattle.rd_graph.proofs.Lists.Listing.{Has, has_from, contains_from, map_has}
 use Rattle.rd_graph.proofs.Reaching.Calls.{once_of, pruning}
 use Rattle.rd_graph.proofs.Reaching.Chains.{place_in, place_before}
 use Rattle.rd_graph.proofs.Lists.Entries.{same_entry-sound, same_entry-refl}
-use Rattle.rd_graph.proofs.Thinned.Trims.{Trims, trims, trims_same}
+use Rattle.rd_graph.proofs.Patches.Thinned.Trims.{Trims, trims, trims_same}
 
 module _ (chain : List EntryKey) where
   abbrev Shorter : List EntryKey → List EntryKey → Type 0
