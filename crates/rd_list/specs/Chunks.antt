@@ -1,6 +1,6 @@
 -- Chunks of the entries of a level, and what each tells of its entries.
 -- All of it is this project's own choice.
-use Rattle.std.specs.Prelude.{◌≡◌, ℕ, ◌+◌, ◌≤◌, false, ◌<◌, ◌≢◌, IfSome, MatchOption, Option, None, Some, Box, List, [], ◌∷◌, length, take, drop, slice_index_or}
+use Rattle.std.specs.Prelude.{◌≡◌, ℕ, ◌+◌, ◌≤◌, false, ◌<◌, ◌≢◌, IfSome, MatchOption, Option, None, Some, Box, List, [], ◌∷◌, length, map, take, drop, slice_index_or}
 use Rattle.std.specs.declared.alloc.Global.{Global}
 use Rattle.rd_geom.specs.Plane.{Rectangle, IsWithin}
 use Rattle.rd_item.specs.Items.{Made}
@@ -13,6 +13,7 @@ use Rattle.rd_list.specs.Kept.{Ordered}
 use Rattle.rd_list.specs.Wrappers.{Wrapper}
 use Rattle.rd_list.specs.KeptView.{kept_entries}
 use Rattle.rd_list.specs.declared.chunks.Chunk.{Chunk}
+use Rattle.rd_list.specs.declared.blocks.Chunks.{Chunks}
 use Rattle.rd_list.specs.declared.told.ChunkBounds.{ChunkBounds}
 use Rattle.rd_list.specs.declared.kept.Entry.{Entry}
 use Rattle.rd_list.specs.declared.kept.Entry.TheVariants.{Leaf, Group}
@@ -22,6 +23,20 @@ use Rattle.rd_list.specs.declared.kept.Level.{Level}
 abbrev pub total : List Chunk → ℕ
 total [] = 0
 total (b ∷ bs) = b.count + total bs
+
+-- the sum of numbers
+abbrev pub added : List ℕ → ℕ
+added [] = 0
+added (n ∷ ns) = n + added ns
+
+-- of numbers of entries, each that of a block is the sum of the next eight, those of chunks, as far as there are blocks
+abbrev pub AreEights : List ℕ → List ℕ → Type 0
+AreEights [] ns = Unit {0}
+AreEights (m ∷ ms) ns = (8 ≤ length ns) × (m ≡ added (take 8 ns)) × AreEights ms (drop 8 ns)
+
+-- how many entries each chunk has
+abbrev pub counts : List Chunk → List ℕ
+counts bs = map (λ (b : Chunk). b.count) bs
 
 -- so many chunks come before one, and so many entries before its own
 abbrev pub IsAt : List Chunk → ℕ → ℕ → Type 0
@@ -94,10 +109,16 @@ module _ {A : Type 0} where
   Covers [] es = Unit {0}
   Covers (b ∷ bs) es = (b.count ≤ length es) × (b.is_open ≡ false → Tells b (take b.count es)) × Covers bs (drop b.count es)
 
-  -- The chunks of a level that may have no room are those of its first entries.
+  -- The chunks of a level are those of its first entries, and so are the blocks, each of eight of the chunks.
+  pub record AreCovered (c : Chunks) (es : List (Entry A)) : Type 0 where
+    pub chunks : Covers c.chunks.items es
+    pub blocks : Covers c.blocks.items es
+    pub eights : AreEights (counts c.blocks.items) (counts c.chunks.items)
+
+  -- So are those of a level that may have no room.
   abbrev pub CoversLevel : Option (Box (Level A) Global) → Type 0
   CoversLevel None = Unit {0}
-  CoversLevel (Some l) = Covers l.value.chunks.items l.value.entries.items
+  CoversLevel (Some l) = AreCovered l.value.chunks l.value.entries.items
 
   -- They are those of all entries.
   abbrev pub CoversAll : List Chunk → List (Entry A) → Type 0

@@ -143,7 +143,7 @@ fn stays(chunk: &Chunk, is_apart: bool) -> bool {
 
 /// Puts the chunks of some entries into room for them, by chunks that they had: open ones, and small ones beside them, are made
 /// anew, and the others stay. What there is no room for has none.
-fn renew_open<A: Ledger>(chunks: &mut Vec<Chunk>, entries: &[Entry<A>], had: &[Chunk])
+pub(crate) fn renew_open<A: Ledger>(chunks: &mut Vec<Chunk>, entries: &[Entry<A>], had: &[Chunk])
     requires none { chunks.old.items ≡ [] }
     requires had { Covers had.now entries.now }
     ensures { Covers chunks.new.items entries.now }
@@ -164,38 +164,6 @@ fn renew_open<A: Ledger>(chunks: &mut Vec<Chunk>, entries: &[Entry<A>], had: &[C
         place = end;
     }
     cover_on(chunks, entries, done, entries.len());
-}
-
-/// Has each entry a chunk, and is none of these open?
-fn are_closed<A: Ledger>(chunks: &[Chunk], entries: &[Entry<A>]) -> bool
-    requires { Covers chunks.now entries.now }
-{
-    let mut place = 0;
-    for chunk in chunks {
-        if chunk.is_open {
-            return false;
-        }
-        place += chunk.count;
-    }
-    place == entries.len()
-}
-
-/// The chunks of some entries, by chunks that they had: these, where none is open, and otherwise new ones, as far as there is room
-/// for them. Open ones, and small ones beside them, are made anew, and the others stay.
-pub fn renew_chunks<A: Ledger>(
-    mut room: Vec<Chunk>,
-    entries: &[Entry<A>],
-    had: Vec<Chunk>,
-) -> Vec<Chunk>
-    requires none { room.items ≡ [] }
-    requires had { Covers had.items entries.now }
-    ensures { Covers result.items entries.now }
-{
-    if are_closed(&had, entries) {
-        return had;
-    }
-    renew_open(&mut room, entries, &had);
-    room
 }
 
 /// How many entries the chunks of a level have.

@@ -1,8 +1,10 @@
 //! The chunk of a place. It is sought from the one that was found last, since places mostly rise.
-ghost use Rattle.std.specs.Prelude.{◌≡◌, ◌<◌, ◌≤◌, ◌+◌, IfSome, MatchOption, List, length, take, drop, false};
-ghost use Rattle.rd_list.specs.Chunks.{ChangesTo, Covers, IsAt, IsFound, IsReplaced, IsWider, Tells};
+ghost use Rattle.std.specs.Prelude.{◌≡◌, ◌⊎◌, ◌<◌, ◌≤◌, ◌+◌, None, IfSome, MatchOption, List, length, take, drop, false};
+ghost use Rattle.rd_list.specs.Blocks.{IsAtBoth};
+ghost use Rattle.rd_list.specs.Chunks.{AreCovered, AreEights, ChangesTo, Covers, IsAt, IsFound, IsReplaced, IsWider, Tells, counts};
 ghost use Rattle.rd_list.specs.declared.kept.Entry.{Entry};
 
+use crate::blocks::Chunks;
 use crate::chunks::{Chunk, open_chunk};
 use crate::kept::Entry;
 use crate::told::{ChunkBounds, told_too};
@@ -80,7 +82,7 @@ fn with_entry(chunk: &Chunk, told: Option<ChunkBounds>) -> Chunk
 /// Another entry comes to a place: one leaf for another, if something is told of it. The chunk of the place stays as it is if it
 /// says so of the new leaf too, and otherwise it is open.
 #[inline(always)]
-pub fn replace_entry<A: Ledger>(
+fn replace_in<A: Ledger>(
     chunks: &mut Vec<Chunk>,
     last: ChunkCursor,
     place: usize,
@@ -88,6 +90,7 @@ pub fn replace_entry<A: Ledger>(
 ) -> ChunkCursor
     requires { IsAt chunks.old.items last.at last.start }
     ensures at { IsAt chunks.new.items result.at result.start }
+    ensures counts { counts chunks.new.items ≡ counts chunks.old.items }
     ensures covers { (xs ys : List (Entry A)) → Covers chunks.old.items xs → ChangesTo place told xs ys
         → Covers chunks.new.items ys }
 {
@@ -97,6 +100,80 @@ pub fn replace_entry<A: Ledger>(
         chunks[found.at] = with_entry(&chunk, told);
     }
     found
+}
+
+/// Where the last block was found, and the last chunk.
+#[derive(Clone, Copy)]
+pub struct BlockCursor {
+    pub block: ChunkCursor,
+    pub chunk: ChunkCursor,
+}
+
+/// At the first block, and its first chunk.
+pub const FIRST_BLOCK: BlockCursor = BlockCursor {
+    block: FIRST_CHUNK,
+    chunk: FIRST_CHUNK,
+};
+
+/// The first chunk of a block, unless the chunk that was found last comes after it.
+#[inline(always)]
+fn within_block(
+    chunks: &Chunks,
+    block: ChunkCursor,
+    chunk: ChunkCursor,
+    place: usize,
+) -> ChunkCursor
+    requires eights { AreEights (counts chunks.now.blocks.items) (counts chunks.now.chunks.items) }
+    requires block { IsAt chunks.now.blocks.items block.at block.start }
+    requires chunk { IsAt chunks.now.chunks.items chunk.at chunk.start }
+    ensures { IsAt chunks.now.chunks.items result.at result.start }
+{
+    if chunk.start <= place && block.start <= chunk.start {
+        return chunk;
+    }
+    ChunkCursor {
+        at: block.at * 8,
+        start: block.start,
+    }
+}
+
+/// Is the chunk at a place open, if there is one?
+#[inline(always)]
+fn is_open_at(chunks: &[Chunk], at: usize) -> bool {
+    at < chunks.len() && chunks[at].is_open
+}
+
+/// What is told, or nothing.
+#[inline(always)]
+fn told_unless(is_none: bool, told: Option<ChunkBounds>) -> Option<ChunkBounds>
+    ensures { (result ≡ told) ⊎ (result ≡ None) }
+{
+    if is_none { None } else { told }
+}
+
+/// Another entry comes to a place: one leaf for another, if something is told of it. The chunk of the place, and the block of that, stay
+/// as they are if they say so of the new leaf too, and otherwise they are open; the block is open if the chunk is.
+#[inline(always)]
+pub fn replace_entry<A: Ledger>(
+    chunks: &mut Chunks,
+    last: BlockCursor,
+    place: usize,
+    told: Option<ChunkBounds>,
+) -> BlockCursor
+    requires eights { AreEights (counts chunks.old.blocks.items) (counts chunks.old.chunks.items) }
+    requires at { IsAtBoth chunks.old last }
+    ensures eights { AreEights (counts chunks.new.blocks.items) (counts chunks.new.chunks.items) }
+    ensures at { IsAtBoth chunks.new result }
+    ensures covers { (xs ys : List (Entry A)) → AreCovered chunks.old xs → ChangesTo place told xs ys → AreCovered chunks.new ys }
+{
+    let found = find_chunk(&chunks.blocks, last.block, place);
+    let from = within_block(chunks, found, last.chunk, place);
+    let of_chunk = told;
+    let chunk = replace_in::<A>(&mut chunks.chunks, from, place, of_chunk);
+    let is_open = is_open_at(&chunks.chunks, chunk.at);
+    let of_block = told_unless(is_open, told);
+    let block = replace_in::<A>(&mut chunks.blocks, found, place, of_block);
+    BlockCursor { block, chunk }
 }
 
 /// What chunks say of entries.

@@ -1,14 +1,16 @@
 //! What is told of entries at once: where all that may be seen of them lies, how many leaves they are or hold, the range of their
 //! names, and by which paint the newest of these leaves was made.
-ghost use Rattle.std.specs.Prelude.{IfSome, List, length, ◌≡◌, ◌∷◌, ◌++◌, []};
+ghost use Rattle.std.specs.Prelude.{IfSome, List, false, length, take, ◌≡◌, ◌≤◌, ◌∷◌, ◌++◌, []};
 ghost use Rattle.rd_list.specs.declared.kept.Entry.{Entry as KeptEntry};
 ghost use Rattle.rd_list.specs.declared.kept.Entry.TheVariants as variants;
-ghost use Rattle.rd_list.specs.Chunks.{Covers, IsGroupTold, IsListTold, IsTold, IsWider, leaf_count};
+ghost use Rattle.rd_list.specs.Blocks.{AreBlocked};
+ghost use Rattle.rd_list.specs.Chunks.{Covers, IsGroupTold, IsListTold, IsTold, IsWider, Tells, total};
 ghost use Rattle.rd_list.specs.Entries.{flat, is_empty};
 ghost use Rattle.rd_list.specs.KeptView.{kept_entries};
 ghost use Rattle.rd_list.specs.Internal.Telling.{IsBoth};
 
-use crate::chunks::Chunk;
+use crate::blocks::Blocked;
+use crate::chunks::{Chunk, open_chunk};
 use crate::kept::{Entry, Kept};
 use rd_geom::{Rect, hull, is_within};
 use rd_item::Item;
@@ -63,60 +65,80 @@ fn joined(told: &ChunkBounds, more: &ChunkBounds) -> Option<ChunkBounds>
     })
 }
 
+/// What is told of some entries, and of those of a chunk after them. None where nothing is told of either.
+#[inline(always)]
+fn joined_if<A: Ledger>(told: Option<ChunkBounds>, chunk: &Chunk) -> Option<ChunkBounds>
+    ensures { (xs ys : List (KeptEntry A)) → IfSome told (λ t. IsTold t xs) → (chunk.now.is_open ≡ false → IsTold chunk.now.told ys)
+        → IfSome result (λ t. IsTold t (xs ++ ys)) }
+{
+    let told = told?;
+    if chunk.is_open {
+        return None;
+    }
+    joined(&told, &chunk.told)
+}
+
+/// All of some chunks as one, which is open if one of them is.
+pub(crate) fn sum_of<A: Ledger>(chunks: &[Chunk], entries: &[Entry<A>]) -> Chunk
+    requires { Covers chunks.now entries.now }
+    ensures count { result.count ≡ total chunks.now }
+    ensures within { result.count ≤ length entries.now }
+    ensures told { result.is_open ≡ false → Tells result (take result.count entries.now) }
+{
+    let mut count = 0;
+    let mut told = Some(NOTHING);
+    for chunk in chunks {
+        told = joined_if::<A>(told, chunk);
+        count += chunk.count;
+    }
+    match told {
+        Some(told) => Chunk {
+            count,
+            is_open: false,
+            told,
+        },
+        None => open_chunk(count),
+    }
+}
+
 /// What chunks tell of all entries of a level. None where one is open, or an entry has none.
 fn told_by<A: Ledger>(chunks: &[Chunk], entries: &[Entry<A>]) -> Option<ChunkBounds>
     requires { Covers chunks.now entries.now }
     ensures { IfSome result (λ t. IsTold t entries.now) }
 {
-    let mut told = NOTHING;
-    let mut place = 0;
-    for chunk in chunks {
-        if chunk.is_open {
-            return None;
-        }
-        told = joined(&told, &chunk.told)?;
-        place += chunk.count;
-    }
-    if place < entries.len() {
+    let all = sum_of(chunks, entries);
+    if all.is_open || all.count < entries.len() {
         return None;
     }
-    Some(told)
+    Some(all.told)
+}
+
+/// The same of a level, by blocks where none of them is open.
+fn level_told<A: Ledger>(level: Blocked<'_, A>) -> Option<ChunkBounds>
+    requires { AreBlocked level }
+    ensures { IfSome result (λ t. IsTold t level.entry.entries.now) }
+{
+    let blocks = sum_of(level.blocks, level.entries);
+    if blocks.is_open {
+        return told_by(level.chunks, level.entries);
+    }
+    let rest = told_by(level.rest(blocks.count), &level.entries[blocks.count..])?;
+    joined(&blocks.told, &rest)
 }
 
 /// What chunks tell of a list.
 fn list_told<A: Ledger>(list: &Kept<A>) -> Option<ChunkBounds>
     ensures { IfSome result (λ t. IsListTold t list.now.entries) }
 {
-    let (chunks, entries) = list.chunked();
-    told_by(chunks, entries)
-}
-
-/// How many leaves all entries of a level are or hold, as chunks tell it. None where one is open, or an entry has none.
-fn leaves_by<A: Ledger>(chunks: &[Chunk], entries: &[Entry<A>]) -> Option<usize>
-    requires { Covers chunks.now entries.now }
-    ensures { IfSome result (λ n. n ≡ leaf_count entries.now) }
-{
-    let mut leaves: usize = 0;
-    let mut place = 0;
-    for chunk in chunks {
-        if chunk.is_open {
-            return None;
-        }
-        leaves = leaves.checked_add(chunk.told.leaves)?;
-        place += chunk.count;
-    }
-    if place < entries.len() {
-        return None;
-    }
-    Some(leaves)
+    level_told(list.blocked())
 }
 
 /// How many leaves a list has, as its chunks tell it.
 pub(crate) fn list_leaves<A: Ledger>(list: &Kept<A>) -> Option<usize>
     ensures { IfSome result (λ n. n ≡ length (flat list.now.entries)) }
 {
-    let (chunks, entries) = list.chunked();
-    leaves_by(chunks, entries)
+    let told = list_told(list)?;
+    Some(told.leaves)
 }
 
 /// Is there no entry?

@@ -7,7 +7,7 @@ use rd_graph::OrderGraph;
 use rd_hit::hit;
 use rd_item::{Item, Leaf, Shape};
 use rd_keys::{BoxKey, Key, Part};
-use rd_list::{Entry, Group, Kept, Level};
+use rd_list::{Chunks, Entry, Group, Kept, Level};
 use std::alloc::Global;
 use std::marker::Brand;
 use std::sync::ledger::{Blank, Ledger};
@@ -44,7 +44,7 @@ fn list_of<A: Ledger>(alloc: Global, entries: Vec<Entry<A>>) -> Option<Kept<A>> 
     let level = Level {
         entries,
         graph: OrderGraph::empty(alloc),
-        chunks: Vec::new(alloc),
+        chunks: Chunks::none(alloc),
     };
     Kept::new(alloc, level).ok()
 }

@@ -10,7 +10,7 @@ use rd_geom::{Blend, Color, NoMemory, Px, Rect, Size, Steps, px_of};
 use rd_graph::OrderGraph;
 use rd_item::{Item, Leaf, Shape};
 use rd_keys::{Key, Part};
-use rd_list::{Entry, Group, Kept, Level};
+use rd_list::{Chunks, Entry, Group, Kept, Level};
 use rd_paint::{Buffers, Canvas, paint_span, repaint};
 use std::alloc::Global;
 use std::marker::Brand;
@@ -78,7 +78,7 @@ fn list_of<A: Ledger>(rt: &impl Abort, alloc: Global, entries: Vec<Entry<A>>) ->
     let level = Level {
         entries,
         graph: OrderGraph::empty(alloc),
-        chunks: Vec::new(alloc),
+        chunks: Chunks::none(alloc),
     };
     Kept::new(alloc, level).expect(rt, "a level")
 }

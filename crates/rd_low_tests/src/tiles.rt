@@ -9,7 +9,7 @@ use rd_geom::{Color, NoMemory, Px, Rect, Size, Steps, px_of};
 use rd_graph::OrderGraph;
 use rd_item::{Item, Leaf, Shape};
 use rd_keys::{Key, Part};
-use rd_list::{Entry, Kept, Level};
+use rd_list::{Chunks, Entry, Kept, Level};
 use rd_paint::{Buffers, Canvas};
 use rd_tiles::{TileCanvas, cover};
 use std::alloc::Global;
@@ -98,7 +98,7 @@ fn list_of<A: Ledger>(
     let level = Level {
         entries,
         graph: OrderGraph::empty(alloc),
-        chunks: Vec::new(alloc),
+        chunks: Chunks::none(alloc),
     };
     Kept::new(alloc, level).expect(rt, "a level")
 }

@@ -35,6 +35,10 @@ pub puts_changes : {T : Type 0} (place : Option ℕ) (x : T) (old new : List T) 
 puts_changes None x old new h = h
 puts_changes (Some i) x old new h = record { size = ap length h ∙ length-set old i x; others = λ k d n. ap (λ zs. get_or zs k d) h ∙ get_or-set_other old i k x d n }
 
+-- a level with another entry at a place, of which nothing is told
+pub others_change : {A : Type 0} (i : ℕ) (old new : List (Entry A)) → KeepsOthers i old new → ChangesTo i None old new
+others_change i old new h = record { size = h.size; others = h.others; there = λ x y l e f. tt }
+
 -- ---- levels with another on top
 
 module _ {G L : Type 0} where

@@ -2,7 +2,8 @@
 ghost use Rattle.std.specs.Prelude.{◌≡◌, ℕ, ◌<◌, ◌≤◌, ◌+◌, ◌-◌, ◌++◌, ◌∷◌, [], IfNone, IfSome, List, length, take, drop, option_map, slice_set, vec_len, vec_capacity};
 ghost use Rattle.rd_graph.specs.Gathered.{ArePlaces, IsLine, arranged, gathered};
 ghost use Rattle.rd_graph.specs.Runs.{places_of, up_from};
-ghost use Rattle.rd_list.specs.Chunks.{Covers, CoversAll, IsAt, IsLeaf, IsTold};
+ghost use Rattle.rd_list.specs.Blocks.{IsAtBoth};
+ghost use Rattle.rd_list.specs.Chunks.{AreCovered, AreEights, Covers, CoversAll, IsAt, IsLeaf, IsTold, counts};
 ghost use Rattle.rd_list.specs.declared.kept.Entry.{Entry as KeptEntry};
 ghost use Rattle.rd_list.specs.KeptView.{kept_entries};
 ghost use Rattle.rd_list.specs.Entries.{◌▷◌};
@@ -14,20 +15,22 @@ use crate::moving::{put, put_item_at};
 use rd_graph::Run;
 use rd_item::Item;
 use rd_list::{
-    Chunk, ChunkBounds, ChunkCursor, Entry, FIRST_CHUNK, chunk_at, item_told, push_chunk,
-    replace_entry,
+    BlockCursor, Chunk, ChunkBounds, ChunkCursor, Chunks, Entry, FIRST_CHUNK, chunk_at, item_told,
+    push_chunk, replace_entry,
 };
 use std::sync::ledger::Ledger;
 
 /// Nothing is said any more of the chunk of a place, if one is given, since its entry goes.
 pub(crate) fn clear<A: Ledger>(
-    chunks: &mut Vec<Chunk>,
-    last: ChunkCursor,
+    chunks: &mut Chunks,
+    last: BlockCursor,
     place: Option<usize>,
-) -> ChunkCursor
-    requires { IsAt chunks.old.items last.at last.start }
-    ensures at { IsAt chunks.new.items result.at result.start }
-    ensures covers { (xs ys : List (KeptEntry A)) → Covers chunks.old.items xs → ChangesAt place xs ys → Covers chunks.new.items ys }
+) -> BlockCursor
+    requires eights { AreEights (counts chunks.old.blocks.items) (counts chunks.old.chunks.items) }
+    requires at { IsAtBoth chunks.old last }
+    ensures eights { AreEights (counts chunks.new.blocks.items) (counts chunks.new.chunks.items) }
+    ensures at { IsAtBoth chunks.new result }
+    ensures covers { (xs ys : List (KeptEntry A)) → AreCovered chunks.old xs → ChangesAt place xs ys → AreCovered chunks.new ys }
 {
     match place {
         Some(place) => replace_entry::<A>(chunks, last, place, None),
@@ -49,19 +52,19 @@ fn told_for_leaf<A: Ledger>(old: &Entry<A>, item: &Item<A>) -> Option<ChunkBound
 /// Puts a leaf at its place, and into the chunk of the place.
 #[inline(always)]
 pub(crate) fn put_item_in_chunk<A: Ledger>(
-    chunks: &mut Vec<Chunk>,
-    last: ChunkCursor,
+    chunks: &mut Chunks,
+    last: BlockCursor,
     entries: &mut Vec<Entry<A>>,
     place: usize,
     item: Item<A>,
-) -> ChunkCursor
+) -> BlockCursor
     requires place { place < vec_len entries.old }
-    requires at { IsAt chunks.old.items last.at last.start }
-    requires covers { Covers chunks.old.items entries.old.items }
+    requires at { IsAtBoth chunks.old last }
+    requires covers { AreCovered chunks.old entries.old.items }
     ensures put { entries.new.items ≡ slice_set entries.old.items place (variants.Leaf item) }
     ensures entries { vec_len entries.new ≡ vec_len entries.old }
-    ensures at { IsAt chunks.new.items result.at result.start }
-    ensures covers { Covers chunks.new.items entries.new.items }
+    ensures at { IsAtBoth chunks.new result }
+    ensures covers { AreCovered chunks.new entries.new.items }
 {
     let told = told_for_leaf(&entries[place], &item);
     let seek = replace_entry::<A>(chunks, last, place, told);
@@ -71,24 +74,24 @@ pub(crate) fn put_item_in_chunk<A: Ledger>(
 
 /// Puts an entry at its place, or on top of the ones that are made. Nothing is said any more of the chunk of the place.
 pub(crate) fn put_in_chunk<A: Ledger>(
-    chunks: &mut Vec<Chunk>,
-    last: ChunkCursor,
+    chunks: &mut Chunks,
+    last: BlockCursor,
     entries: &mut Vec<Entry<A>>,
     made: &mut Vec<Entry<A>>,
     place: Option<usize>,
     entry: Entry<A>,
-) -> ChunkCursor
+) -> BlockCursor
     requires place { IsPlace place (vec_len entries.old) }
     requires room { vec_len made.old + one_made place ≤ vec_capacity made.old }
-    requires at { IsAt chunks.old.items last.at last.start }
-    requires covers { Covers chunks.old.items entries.old.items }
+    requires at { IsAtBoth chunks.old last }
+    requires covers { AreCovered chunks.old entries.old.items }
     ensures put { kept_entries entries.new.items ▷ kept_entries made.new.items
         ≡ put_entry place (kept_entries (entry ∷ [])) (kept_entries entries.old.items ▷ kept_entries made.old.items) }
     ensures entries { vec_len entries.new ≡ vec_len entries.old }
     ensures made { vec_len made.new ≡ vec_len made.old + one_made place }
     ensures room { vec_capacity made.old ≤ vec_capacity made.new }
-    ensures at { IsAt chunks.new.items result.at result.start }
-    ensures covers { Covers chunks.new.items entries.new.items }
+    ensures at { IsAtBoth chunks.new result }
+    ensures covers { AreCovered chunks.new entries.new.items }
 {
     let seek = clear::<A>(chunks, last, place);
     put(entries, made, place, entry);
@@ -154,21 +157,22 @@ fn push_line<A: Ledger>(
 
 /// The chunks as they are, or what they say of the entries of a line. There is room for the parts in `room`.
 pub(crate) fn in_line_chunks<A: Ledger>(
-    had: Vec<Chunk>,
+    had: Chunks,
     entries: &[Entry<A>],
     made: &[Entry<A>],
     line: Option<&[Run]>,
-    mut room: Vec<Chunk>,
-) -> Vec<Chunk>
-    requires none { room.items ≡ [] }
-    requires had { Covers had.items entries.now }
+    mut room: Chunks,
+) -> Chunks
+    requires chunks { room.chunks.items ≡ [] }
+    requires blocks { room.blocks.items ≡ [] }
+    requires had { AreCovered had entries.now }
     requires line { IsLine (option_map (λ l. places_of l.now) line) (length entries.now + length made.now) }
-    ensures { Covers result.items (arranged (option_map (λ l. places_of l.now) line.entry) (entries.now ++ made.now)) }
+    ensures { AreCovered result (arranged (option_map (λ l. places_of l.now) line.entry) (entries.now ++ made.now)) }
 {
     match line {
         None => had,
         Some(runs) => {
-            push_line(&mut room, &had, entries, made, runs);
+            push_line(&mut room.chunks, &had.chunks, entries, made, runs);
             room
         }
     }

@@ -1,7 +1,8 @@
 //! The second half of a merge: entries are put at their places in the kept list, and nothing takes memory.
 ghost use Rattle.std.specs.Prelude.{◌≡◌, ◌≤◌, ◌+◌, ◌∷◌, [], vec_len, vec_capacity};
 ghost use Rattle.rd_list.specs.Entries.{◌▷◌};
-ghost use Rattle.rd_list.specs.Chunks.{Covers, IsAt};
+ghost use Rattle.rd_list.specs.Blocks.{IsAtBoth};
+ghost use Rattle.rd_list.specs.Chunks.{AreCovered};
 ghost use Rattle.rd_list.specs.KeptView.{kept_entries};
 ghost use Rattle.rd_merge.specs.Plans.{IsGroupPlace, IsNamed, PlacesFit, StepsFit, filled, grouped_as, left_for, list_for, made_count, old_list, stepped, wrapper_for};
 ghost use Rattle.rd_merge.specs.PlanView.{steps_seen};
@@ -13,7 +14,7 @@ use crate::moving::in_line;
 use crate::opening::{next_item, open, push_next};
 use crate::plan::{Plan, Step};
 use crate::taking::NewEntries;
-use rd_list::{Chunk, ChunkCursor, Entry, FIRST_CHUNK, Group, Kept, Level, NewList, renew_chunks};
+use rd_list::{BlockCursor, Chunks, Entry, FIRST_BLOCK, Group, Kept, Level, NewList, renew_chunks};
 use std::sync::ledger::Ledger;
 
 /// The plan, filled from the two lists: new entries are put at their places, and the rest stays where it is unless the plan has a line.
@@ -39,7 +40,7 @@ pub fn finish<A: Ledger>(kept: Kept<A>, new: NewList<A>, plan: Plan<A>) -> Kept<
         graph,
         chunks: mut had,
     } = kept.into_level(alloc);
-    let mut seek = FIRST_CHUNK;
+    let mut seek = FIRST_BLOCK;
     let mut fresh = NewEntries::new(alloc, new);
     for step in steps {
         seek = finish_step(&mut had, seek, &mut entries, &mut made, &mut fresh, step);
@@ -58,18 +59,18 @@ pub fn finish<A: Ledger>(kept: Kept<A>, new: NewList<A>, plan: Plan<A>) -> Kept<
 /// One step: an entry is put at its place, or on top of the ones that are made.
 #[cycle(finishing)]
 fn finish_step<A: Ledger>(
-    chunks: &mut Vec<Chunk>,
-    last: ChunkCursor,
+    chunks: &mut Chunks,
+    last: BlockCursor,
     entries: &mut Vec<Entry<A>>,
     made: &mut Vec<Entry<A>>,
     fresh: &mut NewEntries<A>,
     step: Step<A>,
-) -> ChunkCursor
+) -> BlockCursor
     requires fits { StepsFit (vec_len entries.old) (steps_seen (step ∷ []))
         (kept_entries entries.old.items ▷ kept_entries made.old.items) (untaken fresh.old) }
     requires room { vec_len made.old + made_count (steps_seen (step ∷ [])) ≤ vec_capacity made.old }
-    requires at { IsAt chunks.old.items last.at last.start }
-    requires covers { Covers chunks.old.items entries.old.items }
+    requires at { IsAtBoth chunks.old last }
+    requires covers { AreCovered chunks.old entries.old.items }
     ensures stepped { kept_entries entries.new.items ▷ kept_entries made.new.items
         ≡ stepped (steps_seen (step ∷ []))
         (kept_entries entries.old.items ▷ kept_entries made.old.items) (untaken fresh.old) }
@@ -78,8 +79,8 @@ fn finish_step<A: Ledger>(
     ensures entries { vec_len entries.new ≡ vec_len entries.old }
     ensures made { vec_len made.new ≡ vec_len made.old + made_count (steps_seen (step ∷ [])) }
     ensures room { vec_capacity made.old ≤ vec_capacity made.new }
-    ensures at { IsAt chunks.new.items result.at result.start }
-    ensures covers { Covers chunks.new.items entries.new.items }
+    ensures at { IsAtBoth chunks.new result }
+    ensures covers { AreCovered chunks.new entries.new.items }
 {
     match step {
         Step::Leaf(None) => {

@@ -2,7 +2,8 @@
 ghost use Rattle.std.specs.Prelude.{◌≡◌, ◌<◌, ◌≤◌, ◌+◌, ◌&&◌, not, false, if◌then◌else◌, [], ◌∷◌, ◌++◌, drop, length, map, take, None, IfOk, IfSome, OnOk};
 ghost use Rattle.rd_graph.specs.Names.{place_of, same_entry};
 ghost use Rattle.rd_graph.specs.Orders.{Once};
-ghost use Rattle.rd_list.specs.Chunks.{Covers, Tells};
+ghost use Rattle.rd_list.specs.Blocks.{AreBlocked};
+ghost use Rattle.rd_list.specs.Chunks.{Covers, Tells, total};
 ghost use Rattle.rd_list.specs.KeptView.{kept_entries};
 ghost use Rattle.rd_merge.specs.Internal.Looks.{LeavesStay, gone_at, inner_at, name_of, noted};
 ghost use Rattle.rd_merge.specs.Internal.Passes.{IsNoted, IsPass};
@@ -16,7 +17,7 @@ use crate::marks::Marks;
 use crate::passing::{Leaves, Pass, stands_still};
 use crate::sought::Finder;
 use rd_keys::EntryKey;
-use rd_list::{Chunk, Entry};
+use rd_list::{Blocked, Chunk, Entry};
 use std::alloc::{AllocError, Global};
 use std::sync::ledger::Ledger;
 
@@ -192,24 +193,72 @@ impl<A: Ledger, T: Touches> Pass<'_, A, T> {
         }
         self.between(notes, Leaves::Untouched, start, end)
     }
+
+    /// The same of the entries of chunks from one place on.
+    fn in_chunks(
+        &self,
+        notes: &mut Notes,
+        chunks: &[Chunk],
+        start: usize,
+    ) -> Result<usize, AllocError>
+        requires pass { IsPass self.now }
+        requires start { start ≤ length self.now.entries.now }
+        requires covers { Covers chunks.now (drop start self.now.entries.now) }
+        requires noted { IsNoted (T.is_touched self.now.tree.now) self.now start notes.old }
+        ensures end { IfOk result (λ n. n ≡ start + total chunks.now) }
+        ensures within { IfOk result (λ n. n ≤ length self.now.entries.now) }
+        ensures noted { IfOk result (λ n. IsNoted (T.is_touched self.now.tree.now) self.now n notes.new) }
+    {
+        let mut place = start;
+        for chunk in chunks {
+            self.in_chunk(notes, chunk, place)?;
+            place += chunk.count;
+        }
+        Ok(place)
+    }
+
+    /// The same of the entries of a block, whose chunks are given; they are passed as a whole where nothing is noted of them.
+    #[inline(always)]
+    fn in_block(
+        &self,
+        notes: &mut Notes,
+        block: &Chunk,
+        eight: &[Chunk],
+        start: usize,
+    ) -> Result<usize, AllocError>
+        requires pass { IsPass self.now }
+        requires end { start + block.now.count ≤ length self.now.entries.now }
+        requires told { block.now.is_open ≡ false
+            → Tells block.now (take block.now.count (drop start self.now.entries.now)) }
+        requires covers { Covers eight.now (drop start self.now.entries.now) }
+        requires total { total eight.now ≡ block.now.count }
+        requires noted { IsNoted (T.is_touched self.now.tree.now) self.now start notes.old }
+        ensures end { IfOk result (λ n. n ≡ start + block.now.count) }
+        ensures noted { IfOk result (λ n. IsNoted (T.is_touched self.now.tree.now) self.now n notes.new) }
+    {
+        if stands_still(block, self.tree) && self.marks.pages.lacks(block.told.keys) {
+            return Ok(start + block.count);
+        }
+        self.in_chunks(notes, eight, start)
+    }
 }
 
 /// One pass over the entries of a kept level, for the names of a new one.
 #[inline(never)]
 pub(crate) fn look<A: Ledger, T: Touches>(
     alloc: Global,
-    entries: &[Entry<A>],
-    chunks: &[Chunk],
+    level: Blocked<'_, A>,
     names: &[EntryKey],
     tree: &T,
 ) -> Result<LevelDiff, AllocError>
     requires names { Once names.now }
-    requires entries { Once (kept_names (kept_entries entries.now)) }
-    requires covers { Covers chunks.now entries.now }
-    ensures { IfOk result (λ l. IsLooked (T.is_touched tree.now) (kept_entries entries.now) names.now
+    requires entries { Once (kept_names (kept_entries level.entries.now)) }
+    requires covers { AreBlocked level }
+    ensures { IfOk result (λ l. IsLooked (T.is_touched tree.now) (kept_entries level.entry.entries.now) names.now
         l.gone.items l.found.items l.inner.items) }
 {
     let looked = nothing(alloc, names)?;
+    let entries = level.entries;
     if entries.is_empty() {
         return Ok(looked);
     }
@@ -226,10 +275,10 @@ pub(crate) fn look<A: Ledger, T: Touches>(
         finder: Finder::new(alloc),
     };
     let mut place = 0;
-    for chunk in chunks {
-        pass.in_chunk(&mut notes, chunk, place)?;
-        place += chunk.count;
+    for (i, block) in level.blocks.iter().enumerate() {
+        place = pass.in_block(&mut notes, block, level.eight(i, place), place)?;
     }
-    pass.anywhere(&mut notes, place, entries.len())?;
+    let end = pass.in_chunks(&mut notes, level.rest(place), place)?;
+    pass.anywhere(&mut notes, end, entries.len())?;
     Ok(notes.looked)
 }

@@ -2,7 +2,7 @@
 ghost use Rattle.std.specs.Prelude.{◌≡◌};
 
 use rd_graph::Patch;
-use rd_list::{Chunk, Entry, Level};
+use rd_list::{Chunks, Entry, Level};
 use std::alloc::Global;
 use std::marker::Model;
 use std::sync::ledger::Ledger;
@@ -18,8 +18,8 @@ pub struct Plan<A: Ledger> {
     pub(crate) made: Vec<Entry<A>>,
     pub(crate) aside: Vec<Entry<A>>,
     pub(crate) room: Vec<Entry<A>>,
-    pub(crate) parts: Vec<Chunk>,
-    pub(crate) chunks: Vec<Chunk>,
+    pub(crate) parts: Chunks,
+    pub(crate) chunks: Chunks,
     pub(crate) level: Box<Level<A>>,
 }
 
@@ -53,7 +53,7 @@ impl<A: Ledger> Model for Plan<A> {
 
     ghost view = { λ p. record { patch = p.patch; steps = steps_seen p.steps.items } };
 
-    ghost invariant = { λ p. (vec_len p.made ≡ 0) × (made_count (steps_seen p.steps.items) ≤ vec_capacity p.made) × HasLineRoom (line_of p.patch) p.room × (p.parts.items ≡ []) × (p.chunks.items ≡ []) };
+    ghost invariant = { λ p. (vec_len p.made ≡ 0) × (made_count (steps_seen p.steps.items) ≤ vec_capacity p.made) × HasLineRoom (line_of p.patch) p.room × (p.parts.chunks.items ≡ []) × (p.parts.blocks.items ≡ []) × (p.chunks.chunks.items ≡ []) × (p.chunks.blocks.items ≡ []) };
 
     ghost size = { λ p. list_size p.steps };
 

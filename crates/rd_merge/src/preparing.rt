@@ -17,7 +17,7 @@ use crate::going::Touches;
 use crate::looking::look;
 use crate::plan::{Plan, Step};
 use rd_graph::{Change, OrderGraph, Patch, aside_room, line_room};
-use rd_list::{Chunk, Entry, Kept, Level, NewEntry, NewList, new_keys};
+use rd_list::{Chunks, Entry, Kept, Level, NewEntry, NewList, new_keys};
 use std::alloc::{AllocError, Global};
 use std::sync::ledger::Ledger;
 
@@ -71,13 +71,36 @@ fn run_count(patch: &Patch) -> usize {
     }
 }
 
+/// Room for so many chunks, and for no blocks.
+fn room_for(alloc: Global, chunks: usize) -> Result<Chunks, AllocError>
+    ensures chunks { IfOk result (λ c. c.chunks.items ≡ []) }
+    ensures blocks { IfOk result (λ c. c.blocks.items ≡ []) }
+{
+    Ok(Chunks {
+        chunks: Vec::with_capacity(alloc, chunks)?,
+        blocks: Vec::new(alloc),
+    })
+}
+
+/// Room for so many chunks, and for their blocks.
+fn blocked_room(alloc: Global, chunks: usize) -> Result<Chunks, AllocError>
+    ensures chunks { IfOk result (λ c. c.chunks.items ≡ []) }
+    ensures blocks { IfOk result (λ c. c.blocks.items ≡ []) }
+{
+    Ok(Chunks {
+        chunks: Vec::with_capacity(alloc, chunks)?,
+        blocks: Vec::with_capacity(alloc, chunks / 8)?,
+    })
+}
+
 /// Room for what so many chunks say of the entries of a line, if there is one.
-fn part_room(alloc: Global, patch: &Patch, had: usize) -> Result<Vec<Chunk>, AllocError>
-    ensures { IfOk result (λ v. v.items ≡ []) }
+fn part_room(alloc: Global, patch: &Patch, had: usize) -> Result<Chunks, AllocError>
+    ensures chunks { IfOk result (λ c. c.chunks.items ≡ []) }
+    ensures blocks { IfOk result (λ c. c.blocks.items ≡ []) }
 {
     match patch.line() {
-        Some(line) => Vec::with_capacity(alloc, line.len().saturating_mul(2).saturating_add(had)),
-        None => Ok(Vec::new(alloc)),
+        Some(line) => room_for(alloc, line.len().saturating_mul(2).saturating_add(had)),
+        None => Ok(Chunks::none(alloc)),
     }
 }
 
@@ -89,12 +112,13 @@ fn chunk_room(
     had: usize,
     steps: usize,
     groups: usize,
-) -> Result<Vec<Chunk>, AllocError>
-    ensures { IfOk result (λ v. v.items ≡ []) }
+) -> Result<Chunks, AllocError>
+    ensures chunks { IfOk result (λ c. c.chunks.items ≡ []) }
+    ensures blocks { IfOk result (λ c. c.blocks.items ≡ []) }
 {
     let pairs = run_count(patch).saturating_add(groups).saturating_add(1);
     let singles = had.saturating_add(steps / 16);
-    Vec::with_capacity(alloc, singles.saturating_add(pairs.saturating_mul(2)))
+    blocked_room(alloc, singles.saturating_add(pairs.saturating_mul(2)))
 }
 
 /// The plan of a patch and of steps, with room for all that these need: at most so many entries are made, so many steps are those of
@@ -147,8 +171,8 @@ fn plan_level<A: Ledger, T: Touches>(
     ensures { IfOk result (IsPlan (T.is_touched tree.now) kept.now new.now) }
 {
     let names = new_keys(alloc, new)?;
-    let (chunks, entries) = kept.chunked();
-    let looked = look(alloc, entries, chunks, &names, tree)?;
+    let level = kept.blocked();
+    let looked = look(alloc, level, &names, tree)?;
     let change = Change {
         removed: &looked.gone,
         chain: &names,
@@ -160,7 +184,7 @@ fn plan_level<A: Ledger, T: Touches>(
     let mut inner = plan_groups(alloc, kept, &looked.inner, tree)?;
     steps.append(&mut inner)?;
     let groups = planned.groups.saturating_add(looked.inner.len());
-    let plan = with_room(alloc, patch, steps, names.len(), groups, chunks.len())?;
+    let plan = with_room(alloc, patch, steps, names.len(), groups, level.chunks.len())?;
     Ok(plan)
 }
 

@@ -2,6 +2,7 @@
 ghost use Rattle.std.specs.Prelude.{◌≡◌, ◌∷◌, [], IsTrue, OnOk, false};
 ghost use Rattle.rd_keys.specs.Keys.{BoxKey as Box};
 ghost use Rattle.rd_keys.specs.Ranges.{IsAmong};
+ghost use Rattle.rd_list.specs.Blocks.{AreBlocked};
 ghost use Rattle.rd_list.specs.Chunks.{Covers, Tells};
 ghost use Rattle.rd_list.specs.EntryNames.{kept_leaves};
 ghost use Rattle.rd_list.specs.KeptView.{kept_entries};
@@ -11,7 +12,7 @@ ghost use Rattle.rd_partial.specs.Internal.Touched.{Joins};
 
 use rd_area::Area;
 use rd_geom::NoMemory;
-use rd_list::{Chunk, Entry, Kept};
+use rd_list::{Blocked, Chunk, Entry, Kept};
 use rd_tree::Tree;
 use std::sync::ledger::Ledger;
 
@@ -24,13 +25,56 @@ pub(crate) fn add_list<A: Ledger, B: Ledger>(
 ) -> Result<(), NoMemory>
     ensures { OnOk result (Joins (any_shows tree.now (kept_leaves list.now.entries)) area.old area.new) }
 {
-    let (chunks, entries) = list.chunked();
-    add_level(tree, area, chunks, entries)
+    add_level(tree, area, list.blocked())
 }
 
-/// The same of a level, chunk by chunk.
+/// The same of a level, block by block.
 #[cycle(listing)]
 fn add_level<A: Ledger, B: Ledger>(
+    tree: &Tree<B>,
+    area: &mut Area,
+    level: Blocked<'_, A>,
+) -> Result<(), NoMemory>
+    requires { AreBlocked level }
+    ensures { OnOk result (Joins (any_shows tree.now (kept_leaves (kept_entries level.entry.entries.now))) area.old area.new) }
+{
+    let mut place = 0;
+    for (i, block) in level.blocks.iter().enumerate() {
+        let end = place + block.count;
+        add_block(
+            tree,
+            area,
+            block,
+            level.eight(i, place),
+            &level.entries[place..end],
+        )?;
+        place = end;
+    }
+    add_chunks(tree, area, level.rest(place), &level.entries[place..])
+}
+
+/// The same of the entries of a block, whose chunks are given.
+#[cycle(listing)]
+fn add_block<A: Ledger, B: Ledger>(
+    tree: &Tree<B>,
+    area: &mut Area,
+    block: &Chunk,
+    eight: &[Chunk],
+    entries: &[Entry<A>],
+) -> Result<(), NoMemory>
+    requires told { block.now.is_open ≡ false → Tells block.now entries.now }
+    requires covers { Covers eight.now entries.now }
+    ensures { OnOk result (Joins (any_shows tree.now (kept_leaves (kept_entries entries.now))) area.old area.new) }
+{
+    if is_quiet(tree, block) {
+        return Ok(());
+    }
+    add_chunks(tree, area, eight, entries)
+}
+
+/// The same of entries, chunk by chunk.
+#[cycle(listing)]
+fn add_chunks<A: Ledger, B: Ledger>(
     tree: &Tree<B>,
     area: &mut Area,
     chunks: &[Chunk],

@@ -6,7 +6,7 @@ use rd_area::Area;
 use rd_geom::{Color, Sides, Size, Steps};
 use rd_graph::OrderGraph;
 use rd_keys::{BoxKey, Part};
-use rd_list::{Entry, Group, Kept, Level, NewEntry, NewList, PlainEntry};
+use rd_list::{Chunks, Entry, Group, Kept, Level, NewEntry, NewList, PlainEntry};
 use rd_partial::{build, build_all, touched_area};
 use rd_style::{Display, Floating, Position, Style, fits_rect};
 use rd_tree::Tree;
@@ -238,7 +238,7 @@ fn kept<A: Ledger>(rt: &impl Abort, alloc: Global, list: NewList<A>) -> Kept<A> 
     let level = Level {
         entries,
         graph: OrderGraph::empty(alloc),
-        chunks: Vec::new(alloc),
+        chunks: Chunks::none(alloc),
     };
     Kept::new(alloc, level).expect(rt, "a level")
 }

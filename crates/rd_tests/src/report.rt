@@ -8,7 +8,7 @@ use rd_geom::{Blend, Color, Rect, Steps};
 use rd_graph::OrderGraph;
 use rd_item::{Item, Leaf, Shape};
 use rd_keys::Part;
-use rd_list::{Entry, Group, Kept, Level};
+use rd_list::{Chunks, Entry, Group, Kept, Level};
 use rd_report::{Answer, Totals, digest, push_dump, push_line, push_summary};
 use rd_style::Style;
 use rd_tree::{BoxKey, Tree};
@@ -128,7 +128,7 @@ fn list_of<A: Ledger>(rt: &impl Abort, alloc: Global, entry: Entry<A>) -> Kept<A
     let level = Level {
         entries: vec![in alloc; entry].expect(rt, "an entry"),
         graph: OrderGraph::empty(alloc),
-        chunks: Vec::new(alloc),
+        chunks: Chunks::none(alloc),
     };
     Kept::new(alloc, level).expect(rt, "a level")
 }

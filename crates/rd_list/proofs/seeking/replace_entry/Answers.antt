@@ -1,27 +1,25 @@
-use Rattle.std.proofs.Common.{◌≡◌, ◌∙◌, ◌<◌, ap, subst, get_or, length, arith}
-use Rattle.rd_list.specs.Chunks.{IsAt, IsFound, IsReplaced}
-use Rattle.rd_list.specs.declared.chunks.Chunk.{Chunk}
-use Rattle.rd_list.proofs.Admitting.{put_found, put_past, read_any, replaced_serves}
+use Rattle.std.proofs.Common.{subst, sym, inl, inr, ℕ, List, Option}
+use Rattle.rd_list.specs.Chunks.{AreEights, ChangesTo, counts}
+use Rattle.rd_list.specs.declared.told.ChunkBounds.{ChunkBounds}
+use Rattle.rd_list.proofs.Blocking.{changes_any}
 use Rattle.rd_list.proofs.seeking.replace_entry.Goals as goal
 
-pub returns-then-found-len-clause-covers : goal.returns-then-found-len-clause-covers
-returns-then-found-len-clause-covers g c = λ xs ys.
-    let at = c.find_chunk-found.result.at in
-    let start = c.find_chunk-found.result.start in
-    let bs = c.args.chunks.now.items in
-    let l = c.if-found-len.true in
-    let e = c.len.ensures in
-    let h : at < length bs = omega (arith, l, e) in
-    let new = c.with_entry.result in
-    let same : (b : Chunk) → b ≡ get_or bs at b → c.index.result.now ≡ b = λ b is. read_any bs at c.index.result.now b h c.index.ensures is in
-    put_found bs at start c.args.place c.args.told new h (subst (λ cs. IsAt cs at start) c.deref.ensures.value c.find_chunk-found.ensures.at)
-    (subst (λ cs. IsFound cs at start c.args.place) c.deref.ensures.value c.find_chunk-found.ensures.found)
-    (λ b is x y i. replaced_serves b new c.args.told x y (subst (λ d. IsReplaced c.args.told d new) (same b is) c.with_entry.ensures) i)
-    (λ b is. c.with_entry.ensures.count ∙ ap (λ (x : Chunk). x.count) (same b is)) xs ys
-
-pub returns-else-found-len-clause-covers : goal.returns-else-found-len-clause-covers
-returns-else-found-len-clause-covers g c =
-    let at = c.find_chunk-found.result.at in
-    let start = c.find_chunk-found.result.start in
-    put_past c.args.chunks.now.items at start c.args.place c.args.told (let l = c.if-found-len.false in let e = c.len.ensures in omega (arith, l, e)) (subst (λ cs. IsAt cs at start) c.deref.ensures.value c.find_chunk-found.ensures.at)
-    (subst (λ cs. IsFound cs at start c.args.place) c.deref.ensures.value c.find_chunk-found.ensures.found)
+pub returns : goal.returns
+returns g c =
+    let chunk = c.replace_in-chunk.ensures in
+    let block = c.replace_in-block.ensures in
+    let old = c.args.chunks.now in
+    let eights : AreEights (counts c.replace_in-block.new.chunks.items) (counts c.replace_in-chunk.new.chunks.items) =
+    subst (λ (ms : List ℕ). AreEights ms (counts c.replace_in-chunk.new.chunks.items)) (sym block.counts) (subst (λ (ns : List ℕ). AreEights (counts old.blocks.items) ns) (sym chunk.counts) c.requires.eights) in
+    record {
+      eights = eights;
+      at = record { block = block.at; chunk = chunk.at };
+      covers = λ xs ys h k. record {
+        chunks = chunk.covers xs ys h.chunks k;
+        blocks = block.covers xs ys h.blocks (elim c.told_unless-of_block.ensures [
+          | inl e ↦ subst (λ (o : Option ChunkBounds). ChangesTo c.args.place o xs ys) (sym e) k
+          | inr e ↦ subst (λ (o : Option ChunkBounds). ChangesTo c.args.place o xs ys) (sym e) (changes_any c.args.place c.args.told xs ys k)
+        ]);
+        eights = eights;
+      };
+    }

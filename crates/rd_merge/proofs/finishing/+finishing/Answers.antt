@@ -3,7 +3,7 @@ use Rattle.std.specs.Prelude.{option_map, vec_len, None, Some}
 use Rattle.rd_graph.specs.Patches.{line_of}
 use Rattle.rd_graph.proofs.Patches.PutInPlace.{fits}
 use Rattle.rd_list.specs.Entries.{◌▷◌, list_size}
-use Rattle.rd_list.specs.Chunks.{Covers}
+use Rattle.rd_list.specs.Chunks.{AreCovered}
 use Rattle.rd_list.specs.KeptView.{kept_entries}
 use Rattle.rd_graph.specs.Runs.{places_of}
 use Rattle.rd_merge.specs.Internal.Untaken.{untaken}
@@ -36,7 +36,7 @@ finish-loop-step-init g t c =
       omega (arith, empty, count),
       omega (arith, room, counted),
       omega (arith, listed),
-      (omega arith, refl),
+      record { block = (omega arith, refl); chunk = (omega arith, refl) },
       c.into_level-entries.ensures.covers,
     )
 
@@ -116,11 +116,14 @@ finish-in_line-entries-requires-clause-still g t c =
 pub finish-in_line-entries-requires-clause-room : goal.finish-in_line-entries-requires-clause-room
 finish-in_line-entries-requires-clause-room g t c = room_so (option_map (λ l. places_of l.now) c.line-2.result) (line_of c.plan.inside.patch) c.plan.inside.room c.line-2.ensures c.plan.invariant.2
 
-pub finish-in_line_chunks-had-requires-clause-none : goal.finish-in_line_chunks-had-requires-clause-none
-finish-in_line_chunks-had-requires-clause-none g t c = c.plan.invariant.3
+pub finish-in_line_chunks-had-requires-clause-chunks : goal.finish-in_line_chunks-had-requires-clause-chunks
+finish-in_line_chunks-had-requires-clause-chunks g t c = c.plan.invariant.3
+
+pub finish-in_line_chunks-had-requires-clause-blocks : goal.finish-in_line_chunks-had-requires-clause-blocks
+finish-in_line_chunks-had-requires-clause-blocks g t c = c.plan.invariant.4
 
 pub finish-in_line_chunks-had-requires-clause-had : goal.finish-in_line_chunks-had-requires-clause-had
-finish-in_line_chunks-had-requires-clause-had g t c = subst (Covers c.loop-step.had.items) (sym c.deref.ensures.value) c.loop-step.invariant.9
+finish-in_line_chunks-had-requires-clause-had g t c = subst (AreCovered c.loop-step.had) (sym c.deref.ensures.value) c.loop-step.invariant.9
 
 pub finish-in_line_chunks-had-requires-clause-line : goal.finish-in_line_chunks-had-requires-clause-line
 finish-in_line_chunks-had-requires-clause-line g t c =
@@ -134,8 +137,11 @@ finish-in_line_chunks-had-requires-clause-line g t c =
     let more = c.deref-2.ensures.len in
     line_so (option_map (λ l. places_of l.now) c.line.result) (line_of c.args.plan.patch) (length c.deref.result.now + length c.deref-2.result.now) (size_of c.args.kept.entries + made_count c.args.plan.steps) (c.line.ensures ∙ ap (λ p. line_of p.patch) c.plan.view_is) (omega (arith, none, entries, counted, many, more)) c.requires.line
 
-pub finish-renew_chunks-chunks-requires-clause-none : goal.finish-renew_chunks-chunks-requires-clause-none
-finish-renew_chunks-chunks-requires-clause-none g t c = c.plan.invariant.4
+pub finish-renew_chunks-chunks-requires-clause-chunks : goal.finish-renew_chunks-chunks-requires-clause-chunks
+finish-renew_chunks-chunks-requires-clause-chunks g t c = c.plan.invariant.5
+
+pub finish-renew_chunks-chunks-requires-clause-blocks : goal.finish-renew_chunks-chunks-requires-clause-blocks
+finish-renew_chunks-chunks-requires-clause-blocks g t c = c.plan.invariant.6
 
 pub finish-renew_chunks-chunks-requires-clause-had : goal.finish-renew_chunks-chunks-requires-clause-had
 finish-renew_chunks-chunks-requires-clause-had g t c =
@@ -144,7 +150,7 @@ finish-renew_chunks-chunks-requires-clause-had g t c =
     rw (c.deref-3.ensures.value, c.in_line-entries.ensures.items, ← same, ← all) c.in_line_chunks-had.ensures
 
 pub finish-of-requires : goal.finish-of-requires
-finish-of-requires g t c = subst (Covers c.renew_chunks-chunks.result.items) c.deref-3.ensures.value c.renew_chunks-chunks.ensures
+finish-of-requires g t c = subst (AreCovered c.renew_chunks-chunks.result) c.deref-3.ensures.value c.renew_chunks-chunks.ensures
 
 pub finish-apply-requires : goal.finish-apply-requires
 finish-apply-requires g t c = fits c.plan.inside.patch c.args.plan.patch c.into_level-entries.result.graph c.args.kept.graph (ap (λ p. p.patch) c.plan.view_is) c.into_level-entries.ensures.seen.0 c.requires.patch

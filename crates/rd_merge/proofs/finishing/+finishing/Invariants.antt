@@ -1,7 +1,8 @@
 use Rattle.std.proofs.Common.{◌≡◌, ◌≤◌, ◌+◌, ◌*◌, ◌∷◌, []}
 use Rattle.std.specs.Prelude.{vec_len, vec_capacity}
 use Rattle.rd_list.specs.Entries.{list_size, ◌▷◌}
-use Rattle.rd_list.specs.Chunks.{Covers, IsAt}
+use Rattle.rd_list.specs.Blocks.{IsAtBoth}
+use Rattle.rd_list.specs.Chunks.{AreCovered}
 use Rattle.rd_list.specs.KeptView.{kept_entries}
 use Rattle.rd_merge.specs.Internal.Untaken.{untaken}
 use Rattle.rd_merge.specs.Plans.{StepsFit, made_count, size_of, stepped}
@@ -27,5 +28,5 @@ invariant-finish-loop-step g l =
     (vec_len l.made + made_count (steps_seen l.step-iterator.rest.items) ≡ made_count l.fn.plan.steps) ×
     (made_count l.fn.plan.steps ≤ vec_capacity l.made) ×
     (list_size (steps_seen l.step-iterator.rest.items) ≤ list_size l.fn.plan.steps) ×
-    IsAt l.had.items l.seek.at l.seek.start ×
-    Covers l.had.items l.entries.items
+    IsAtBoth l.had l.seek ×
+    AreCovered l.had l.entries.items

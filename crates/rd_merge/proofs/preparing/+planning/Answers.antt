@@ -228,18 +228,18 @@ plan_level-look-requires-clause-names g t c =
 
 pub plan_level-look-requires-clause-entries : goal.plan_level-look-requires-clause-entries
 plan_level-look-requires-clause-entries g t c =
-    let entries = c.chunked.ensures.entries in
+    let entries = c.blocked-level.ensures.entries in
     subst (λ ys. Once (kept_names ys)) (sym entries) (c.requires.fits.once_kept [])
 
 pub plan_level-look-requires-clause-covers : goal.plan_level-look-requires-clause-covers
 plan_level-look-requires-clause-covers g t c =
-    c.chunked.ensures.covers
+    c.blocked-level.ensures.covers
 
 pub plan_level-patch_of-requires : goal.plan_level-patch_of-requires
 plan_level-patch_of-requires g t c =
     let touched = g.T.Touches.is_touched c.args.tree.now in
     let keys = c.in_ok-names.ensures in
-    let entries = c.chunked.ensures.entries in
+    let entries = c.blocked-level.ensures.entries in
     let l = c.in_ok-looked.looked in
     let looked = looked_as touched c.args.kept.now.entries _ _ (new_names c.args.new.now) l.gone.items l.found.items l.inner.items entries (c.deref.ensures.value ∙ keys) c.in_ok-looked.ensures in
     can_patch_as l.gone.items _ (new_names c.args.new.now) _ l.found.items _ c.args.kept.now.graph _ c.deref-2.ensures.value (c.deref-3.ensures.value ∙ keys) c.deref-4.ensures.value refl
@@ -250,7 +250,7 @@ plan_level-plan_entries-requires g t c κs within =
     let touched = g.T.Touches.is_touched c.args.tree.now in
     let xs = c.args.kept.now.entries in
     let keys = c.in_ok-names.ensures in
-    let entries = c.chunked.ensures.entries in
+    let entries = c.blocked-level.ensures.entries in
     let l = c.in_ok-looked.looked in
     let looked = looked_as touched xs _ _ (new_names c.args.new.now) l.gone.items l.found.items l.inner.items entries (c.deref.ensures.value ∙ keys) c.in_ok-looked.ensures in
     let new_is = ap in_runs c.deref-5.ensures.value ∙ c.new.view_is in
@@ -273,7 +273,7 @@ plan_level-plan_groups-requires g t c κs within =
     let touched = g.T.Touches.is_touched c.args.tree.now in
     let xs = c.args.kept.now.entries in
     let keys = c.in_ok-names.ensures in
-    let entries = c.chunked.ensures.entries in
+    let entries = c.blocked-level.ensures.entries in
     let l = c.in_ok-looked.looked in
     let looked = looked_as touched xs _ _ (new_names c.args.new.now) l.gone.items l.found.items l.inner.items entries (c.deref.ensures.value ∙ keys) c.in_ok-looked.ensures in (
       omega (arith, c.decreases),
@@ -288,7 +288,7 @@ plan_level-with_room-requires g t c =
     let touched = g.T.Touches.is_touched c.args.tree.now in
     let xs = c.args.kept.now.entries in
     let keys = c.in_ok-names.ensures in
-    let entries = c.chunked.ensures.entries in
+    let entries = c.blocked-level.ensures.entries in
     let l = c.in_ok-looked.looked in
     let looked = looked_as touched xs _ _ (new_names c.args.new.now) l.gone.items l.found.items l.inner.items entries (c.deref.ensures.value ∙ keys) c.in_ok-looked.ensures in
     let fits = c.in_ok-patch.ensures.fits in
@@ -308,7 +308,7 @@ plan_level-returns g t c =
     let touched = g.T.Touches.is_touched c.args.tree.now in
     let xs = c.args.kept.now.entries in
     let keys = c.in_ok-names.ensures in
-    let entries = c.chunked.ensures.entries in
+    let entries = c.blocked-level.ensures.entries in
     let l = c.in_ok-looked.looked in
     let looked = looked_as touched xs _ _ (new_names c.args.new.now) l.gone.items l.found.items l.inner.items entries (c.deref.ensures.value ∙ keys) c.in_ok-looked.ensures in
     let fits = c.in_ok-patch.ensures.fits in
