@@ -1,11 +1,12 @@
 //! Blocks: of each eight chunks of a level what is told of all their entries, so that a walk passes over them at once.
-ghost use Rattle.std.specs.Prelude.{◌≡◌, ◌<◌, [], length, drop, slice_index_or};
+ghost use Rattle.std.specs.Prelude.{◌≡◌, ◌<◌, ◌≤◌, ◌+◌, [], IfSome, false, length, take, drop, slice_index_or};
 ghost use Rattle.rd_list.specs.Blocks.{AreBlocked};
-ghost use Rattle.rd_list.specs.Chunks.{AreCovered, AreEights, Covers, IsAt, counts, total};
+ghost use Rattle.rd_list.specs.Chunks.{AreCovered, AreEights, Covers, IsAt, Tells, counts, total};
 ghost use Rattle.rd_list.specs.declared.chunks.Chunk.{Chunk};
 
 use crate::chunks::{Chunk, push_chunk, renew_open};
 use crate::kept::Entry;
+use crate::seeking::ChunkCursor;
 use crate::told::sum_of;
 use std::alloc::Global;
 use std::sync::ledger::Ledger;
@@ -55,6 +56,22 @@ impl<'a, A: Ledger> Blocked<'a, A> {
         let (_, from) = self.chunks.split_at(block * EIGHT);
         let (eight, _) = from.split_at(EIGHT);
         eight
+    }
+
+    /// The block that begins with the next chunk, if there is one.
+    #[inline(always)]
+    pub fn block_at(&self, next: ChunkCursor) -> Option<&'a Chunk>
+        requires covers { AreBlocked self.now }
+        requires at { IsAt self.now.chunks.now next.at next.start }
+        ensures at { IfSome result (λ b. IsAt self.now.chunks.now (next.at + 8) (next.start + b.now.count)) }
+        ensures within { IfSome result (λ b. next.start + b.now.count ≤ length self.now.entries.now) }
+        ensures told { IfSome result (λ b. b.now.is_open ≡ false → Tells b.now (take b.now.count (drop next.start self.now.entries.now))) }
+    {
+        let block = next.at / EIGHT;
+        if next.at % EIGHT != 0 || block >= self.blocks.len() {
+            return None;
+        }
+        Some(&self.blocks[block])
     }
 
     /// The chunks after those of all blocks.
