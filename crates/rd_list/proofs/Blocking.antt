@@ -8,6 +8,7 @@ use Rattle.rd_list.specs.Internal.Telling.{IsBoth}
 use Rattle.rd_list.specs.declared.told.ChunkBounds.{ChunkBounds}
 use Rattle.rd_list.specs.declared.chunks.Chunk.{Chunk}
 use Rattle.rd_list.specs.declared.kept.Entry.{Entry}
+use Rattle.rd_list.proofs.Admitting.{found_told}
 use Rattle.rd_list.proofs.Covering.{told_both, total_append, total_next}
 
 total_counts : (bs : List Chunk) → total bs ≡ added (counts bs)
@@ -49,6 +50,10 @@ at_first bs cs k start h at =
     total_counts (take (k * 8) cs) ∙ ap added (sym (take-map (λ (b : Chunk). b.count) (k * 8) cs)) ∙ r.1 ∙ ap added (take-map (λ (b : Chunk). b.count) k bs) ∙ sym (total_counts (take k bs)) in
     (omega (arith, few, f), at.1 ∙ sym same)
 
+-- the block that begins with a chunk
+pub at_chunk : (bs cs : List Chunk) (k start : ℕ) → AreEights (counts bs) (counts cs) → k ≤ length bs → IsAt cs (k * 8) start → IsAt bs k start
+at_chunk bs cs k start h l at = (l, at.1 ∙ sym (at_first bs cs k (total (take k bs)) h (l, refl)).1)
+
 -- the next block
 pub at_block : (bs : List Chunk) (k start : ℕ) (b : Chunk) → k < length bs → b ≡ get_or bs k b → IsAt bs k start → IsAt bs (k + 1) (start + b.count)
 at_block bs k start b l is at = let e = total_next bs k b l is in let s = at.1 in (omega (arith, l), omega (arith, s, e))
@@ -81,6 +86,14 @@ eight_there bs cs k start h at l =
     get_any [] i d e m = absurd (omega (arith, m))
     get_any (x ∷ xs) zero d e m = refl
     get_any (x ∷ xs) (suc i) d e m = get_any xs i d e (omega (arith, m))
+
+-- all of them are there
+pub eight_within : (bs cs : List Chunk) (k start : ℕ) → AreEights (counts bs) (counts cs) → IsAt bs k start → k < length bs → k * 8 + 8 ≤ length cs
+eight_within bs cs k start h at l =
+    let few = (at_first bs cs k start h at).0 in
+    let more = eight_there bs cs k start h at l in
+    let e = length-drop (k * 8) cs in
+    omega (arith, few, more, e)
 
 module _ {A : Type 0} where
   -- chunks from one on
@@ -176,3 +189,42 @@ module _ {A : Type 0} where
   -- of a place of which nothing is told
   pub changes_any : (place : ℕ) (told : Option ChunkBounds) (xs ys : List (Entry A)) → ChangesTo place told xs ys → ChangesTo place None xs ys
   changes_any place told xs ys c = record { size = c.size; others = c.others; there = λ x y l e f. tt }
+
+-- ---- a chunk that is told anew
+
+-- so many chunks come before, whatever is told of them
+pub at_alike : (bs cs : List Chunk) (at start : ℕ) → counts cs ≡ counts bs → IsAt bs at start → IsAt cs at start
+at_alike bs cs at start e h =
+    let l = counts_length bs in
+    let m = counts_length cs in
+    let n = ap length e in
+    let w = h.0 in
+    let one : total (take at bs) ≡ added (take at (counts bs)) = total_counts (take at bs) ∙ ap added (sym (take-map (λ (b : Chunk). b.count) at bs)) in
+    let other : total (take at cs) ≡ added (take at (counts cs)) = total_counts (take at cs) ∙ ap added (sym (take-map (λ (b : Chunk). b.count) at cs)) in
+    (omega (arith, l, m, n, w), h.1 ∙ one ∙ sym (ap (λ ns. added (take at ns)) e) ∙ sym other)
+
+module _ {A : Type 0} where
+  -- entries begin before they end
+  pub start_within : (bs : List Chunk) (es : List (Entry A)) (k start : ℕ) → k < length bs → Covers bs es → IsAt bs k start → start ≤ length es
+  start_within bs es k start l c at =
+      let d = any_chunk bs k l in
+      let r = (found_told bs es k start (get_or bs k d) c at l (get_own bs k d l)).0 in
+      omega (arith, r)
+
+  -- another chunk of the same entries
+  pub covers_set : (cs : List Chunk) (es : List (Entry A)) (at start : ℕ) (b new : Chunk) → at < length cs → b ≡ get_or cs at b → IsAt cs at start → new.count ≡ b.count
+      → (new.is_open ≡ false → Tells new (take new.count (drop start es))) → Covers cs es → Covers (slice_set cs at new) es
+  covers_set [] es at start b new l is s n h c = absurd (omega (arith, l))
+  covers_set (x ∷ cs) es zero start b new l is s n h c =
+      let e : start ≡ 0 = s.1 in
+      let k : new.count ≡ x.count = n ∙ ap (λ (y : Chunk). y.count) is in
+      let m = c.0 in
+      (omega (arith, k, m), (λ f. subst (λ j. Tells new (take new.count (drop j es))) e (h f)), subst (λ j. Covers cs (drop j es)) (sym k) c.2)
+  covers_set (x ∷ cs) es (suc at) start b new l is s n h c =
+      let e : start ≡ x.count + total (take at cs) = s.1 in
+      let w = s.0 in
+      let there : drop (start - x.count) (drop x.count es) ≡ drop start es = drop-drop (start - x.count) x.count es ∙ ap (λ j. drop j es) (let z : x.count + (start - x.count) ≡ start = omega (arith, e) in z) in (
+        c.0,
+        c.1,
+        covers_set cs (drop x.count es) at (start - x.count) b new (omega (arith, l)) is (omega (arith, w), omega (arith, e)) n (λ f. subst (λ ys. Tells new (take new.count ys)) (sym there) (h f)) c.2,
+      )

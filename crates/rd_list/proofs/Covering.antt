@@ -207,7 +207,7 @@ module _ {A : Type 0} where
 
   -- ---- the loops
 
-  slice_length : (es : List (Entry A)) (p to : ℕ) → p ≤ to → to ≤ length es → length (take (to - p) (drop p es)) ≡ to - p
+  pub slice_length : (es : List (Entry A)) (p to : ℕ) → p ≤ to → to ≤ length es → length (take (to - p) (drop p es)) ≡ to - p
   slice_length es p to l m = let n = length-drop p es in length-take-le (to - p) (drop p es) (omega (arith, n, l, m))
 
   pub slice_within : (es : List (Entry A)) (p to n : ℕ) → p ≤ to → to ≤ length es → n ≤ length (take (to - p) (drop p es)) → p + n ≤ to

@@ -6,13 +6,14 @@ ghost use Rattle.rd_list.specs.declared.chunks.Chunk.{Chunk};
 
 use crate::chunks::{Chunk, push_chunk, renew_open};
 use crate::kept::Entry;
+use crate::retelling::retell;
 use crate::seeking::ChunkCursor;
 use crate::told::sum_of;
 use std::alloc::Global;
 use std::sync::ledger::Ledger;
 
 /// How many chunks a block has.
-const EIGHT: usize = 8;
+pub(crate) const EIGHT: usize = 8;
 
 /// The chunks of a level, one after another, and blocks, which are told of as a chunk is; each is of the next eight chunks, and the last
 /// chunks may have none.
@@ -123,18 +124,32 @@ fn are_closed<A: Ledger>(chunks: &Chunks, entries: &[Entry<A>]) -> bool
     !rest.is_open && blocks.count + rest.count == entries.len()
 }
 
-/// The chunks of some entries, by chunks that they had: these, where none is open, and otherwise new ones, as far as there is room
-/// for them. Open ones, and small ones beside them, are made anew, and the others stay.
-pub fn renew_chunks<A: Ledger>(mut room: Chunks, entries: &[Entry<A>], had: Chunks) -> Chunks
+/// Has each eight chunks a block?
+fn has_blocks(chunks: &Chunks) -> bool {
+    chunks.blocks.len() >= chunks.chunks.len() / EIGHT
+}
+
+/// The chunks of some entries, by chunks that they had. Open ones are told anew where they stand, and where none is left that is open
+/// these chunks stay, with new blocks if some are missing. Otherwise open ones, and small ones beside them, are made anew, and the
+/// others stay, as far as there is room for them.
+pub fn renew_chunks<A: Ledger>(mut room: Chunks, entries: &[Entry<A>], mut had: Chunks) -> Chunks
     requires chunks { room.chunks.items ≡ [] }
     requires blocks { room.blocks.items ≡ [] }
     requires had { AreCovered had entries.now }
     ensures { AreCovered result entries.now }
 {
-    if are_closed(&had, entries) {
+    retell(&mut had, entries);
+    if !are_closed(&had, entries) {
+        renew_open(&mut room.chunks, entries, &had.chunks);
+        push_blocks(&mut room.blocks, &room.chunks, entries);
+        return room;
+    }
+    if has_blocks(&had) {
         return had;
     }
-    renew_open(&mut room.chunks, entries, &had.chunks);
-    push_blocks(&mut room.blocks, &room.chunks, entries);
-    room
+    push_blocks(&mut room.blocks, &had.chunks, entries);
+    Chunks {
+        chunks: had.chunks,
+        blocks: room.blocks,
+    }
 }

@@ -8,7 +8,7 @@ use crate::told::{ChunkBounds, NOTHING, told_more};
 use std::sync::ledger::Ledger;
 
 /// How many entries a chunk has at most.
-const MOST: usize = 32;
+pub(crate) const MOST: usize = 32;
 
 /// So many entries that follow each other, and what is told of them. Nothing is said of those of an open one, which is made anew by
 /// the next merge.
@@ -76,7 +76,7 @@ fn grown_chunk<A: Ledger>(entries: &[Entry<A>], first: usize, first_told: ChunkB
 
 /// The first chunk of some entries: as many as there may be, up to the first of which nothing is told. The leaves that come first
 /// are told at once.
-fn first_chunk<A: Ledger>(entries: &[Entry<A>]) -> Chunk
+pub(crate) fn first_chunk<A: Ledger>(entries: &[Entry<A>]) -> Chunk
     requires { 0 < length entries.now }
     ensures some { 0 < result.count }
     ensures within { result.count ≤ length entries.now }
