@@ -7,3 +7,4 @@ pub mod Older
 pub mod Hiding
 pub mod Seen
 pub mod Beside
+pub mod Told

@@ -3,7 +3,7 @@
 ghost use Rattle.std.specs.Prelude.{◌≡◌, ℕ, pos, ◌+◌, ◌-◌, ◌*◌, ◌^◌, ◌≤◌, ◌<◌, IsTrue, IsFalse, IfSome, length, take, vec_capacity};
 ghost use Rattle.std.specs.Int.{int_max, int_min};
 ghost use Rattle.rd_geom.specs.Areas.{spans_at};
-ghost use Rattle.rd_list.specs.Chunks.{Covers};
+ghost use Rattle.rd_list.specs.Blocks.{AreBlocked};
 ghost use Rattle.rd_list.specs.Displayed.{shown};
 ghost use Rattle.rd_list.specs.Entries.{flat};
 ghost use Rattle.rd_list.specs.EntryNames.{kept_leaves};
@@ -30,7 +30,7 @@ use crate::skipping::Sight;
 use crate::strip::{Band, PixelRect, Strip, Window};
 use rd_area::Area;
 use rd_geom::{Px, Span};
-use rd_list::{Chunk, Entry, Kept};
+use rd_list::{Blocked, Entry, Kept};
 use std::sync::ledger::Ledger;
 
 /// Paints the entries that picks name, on white, in the pixels of the rectangle. It begins with the topmost opaque leaf that covers all of
@@ -264,29 +264,28 @@ const FIRST_PICKS: usize = 1_024;
 /// Writes picks of the entries that may show in the area, as `gather` does, into room of which no more is filled than that
 /// takes. All of it is where the picks are many; in room for their bands too.
 fn gather_all<A: Ledger>(
-    entries: &[Entry<A>],
-    chunks: &[Chunk],
+    level: Blocked<'_, A>,
     sight: Sight<'_>,
     room: &mut Vec<Pick>,
 ) -> Option<usize>
     requires few { length room.old.items < 2 ^ 32 }
-    requires covers { Covers chunks.now entries.now }
-    requires since { AreMadeSince sight.area.now sight.since (flat (kept_entries entries.now)) }
+    requires covers { AreBlocked level }
+    requires since { AreMadeSince sight.area.now sight.since (flat (kept_entries level.entries.now)) }
     ensures few { length room.new.items < 2 ^ 32 }
     ensures within { IfSome result (λ n. n ≤ length room.new.items) }
     ensures same { IfSome result (λ n. SameWhere (InAreaWithin sight.entry.area.now sight.entry.columns sight.entry.rows)
-        (picked (take n room.new.items) (shown entries.now)) (shown entries.now)) }
-    ensures levels { IfSome result (λ n. levels (picked (take n room.new.items) (shown entries.now))
-        ≤ levels (shown entries.now)) }
+        (picked (take n room.new.items) (shown level.entry.entries.now)) (shown level.entry.entries.now)) }
+    ensures levels { IfSome result (λ n. levels (picked (take n room.new.items) (shown level.entry.entries.now))
+        ≤ levels (shown level.entry.entries.now)) }
 {
     fill_room(room, FIRST_PICKS);
-    if let Some(count) = gather(entries, chunks, sight, room) {
+    if let Some(count) = gather(level, sight, room) {
         fill_room(room, count * ROOMS);
         return Some(count);
     }
     let most = room.capacity();
     fill_room(room, most);
-    gather(entries, chunks, sight, room)
+    gather(level, sight, room)
 }
 
 /// Paints all rows of the entries of a level. False where the room is too small for picks of all entries that may show: then
@@ -294,19 +293,18 @@ fn gather_all<A: Ledger>(
 fn paint_all<A: Ledger>(
     canvas: &mut Canvas,
     window: Window<'_>,
-    entries: &[Entry<A>],
-    chunks: &[Chunk],
+    level: Blocked<'_, A>,
     rows: &mut Vec<Px>,
     room: &mut Vec<Pick>,
 ) -> bool
     requires limits { IsWithinLimits canvas.old window.corner }
-    requires rows { canvas.old.width * (levels (kept_entries entries.now) - 1) ≤ vec_capacity rows.old }
+    requires rows { canvas.old.width * (levels (kept_entries level.entries.now) - 1) ≤ vec_capacity rows.old }
     requires few { length room.old.items < 2 ^ 32 }
-    requires covers { Covers chunks.now entries.now }
-    requires since { AreMadeSince window.area.now window.since (flat (kept_entries entries.now)) }
+    requires covers { AreBlocked level }
+    requires since { AreMadeSince window.area.now window.since (flat (kept_entries level.entries.now)) }
     ensures few { length room.new.items < 2 ^ 32 }
     ensures rows { vec_capacity rows.old ≤ vec_capacity rows.new }
-    ensures painted { IsTrue result → IsPainted window.entry.corner (shown entries.now) window.entry.area.now canvas.old canvas.new }
+    ensures painted { IsTrue result → IsPainted window.entry.corner (shown level.entry.entries.now) window.entry.area.now canvas.old canvas.new }
     ensures same { IsFalse result → canvas.new ≡ canvas.old }
 {
     let Window {
@@ -323,7 +321,7 @@ fn paint_all<A: Ledger>(
         columns: frame.columns(),
         rows: frame.rows(),
     };
-    let Some(count) = gather_all(entries, chunks, sight, room) else {
+    let Some(count) = gather_all(level, sight, room) else {
         return false;
     };
     let (own, rest) = room.split_at_mut(count);
@@ -333,11 +331,11 @@ fn paint_all<A: Ledger>(
         y0: frame.top,
         y1: frame.bottom,
     };
-    paint_band(canvas, Band { strip, area }, entries, own, rows, rest);
+    paint_band(canvas, Band { strip, area }, level.entries, own, rows, rest);
     true
 }
 
-/// The same of the entries of a kept list from place `from` on. Its chunks serve where those are all.
+/// The same of the entries of a kept list from place `from` on. Its blocks and chunks serve where those are all.
 pub(crate) fn paint_kept<A: Ledger>(
     canvas: &mut Canvas,
     window: Window<'_>,
@@ -358,8 +356,12 @@ pub(crate) fn paint_kept<A: Ledger>(
     ensures same { IsFalse result → canvas.new ≡ canvas.old }
 {
     if from == 0 {
-        let (chunks, entries) = list.chunked();
-        return paint_all(canvas, window, entries, chunks, rows, room);
+        return paint_all(canvas, window, list.blocked(), rows, room);
     }
-    paint_all(canvas, window, upper(list.entries(), from), &[], rows, room)
+    let level = Blocked {
+        blocks: &[],
+        chunks: &[],
+        entries: upper(list.entries(), from),
+    };
+    paint_all(canvas, window, level, rows, room)
 }

@@ -1,7 +1,7 @@
 //! Picks of all entries of a list that may show in an area.
 
 ghost use Rattle.std.specs.Prelude.{◌^◌, ◌≤◌, ◌<◌, ◌∷◌, [], IfSome, length, take};
-ghost use Rattle.rd_list.specs.Chunks.{Covers};
+ghost use Rattle.rd_list.specs.Blocks.{AreBlocked};
 ghost use Rattle.rd_list.specs.Displayed.{shown};
 ghost use Rattle.rd_list.specs.Entries as list;
 ghost use Rattle.rd_list.specs.Entries.{flat};
@@ -15,34 +15,34 @@ ghost use Rattle.rd_paint.specs.Since.{AreMadeSince};
 use crate::picks::{MOST, Pick, put};
 use crate::skipping::{Sight, next_within};
 use rd_item::Item;
-use rd_list::{Chunk, Entry, FIRST_CHUNK, Kept};
+use rd_list::{Blocked, Entry, FIRST_CHUNK, Kept};
 use std::sync::ledger::Ledger;
 
 /// Writes picks of the entries that may show in the area, as far as it is in these columns of these rows, and says how
-/// many; None where there is too little room. A chunk or a leaf outside of them costs no more than to see that.
+/// many; None where there is too little room. A block, a chunk or a leaf outside of them costs no more than to see that.
 #[cycle(gathering)]
 pub(crate) fn gather<A: Ledger>(
-    entries: &[Entry<A>],
-    chunks: &[Chunk],
+    level: Blocked<'_, A>,
     sight: Sight<'_>,
     room: &mut [Pick],
 ) -> Option<usize>
     requires few { length room.old < 2 ^ 32 }
-    requires covers { Covers chunks.now entries.now }
-    requires since { AreMadeSince sight.area.now sight.since (flat (kept_entries entries.now)) }
+    requires covers { AreBlocked level }
+    requires since { AreMadeSince sight.area.now sight.since (flat (kept_entries level.entries.now)) }
     ensures within { IfSome result (λ n. n ≤ length room.old) }
     ensures same { IfSome result (λ n. SameWhere (InAreaWithin sight.entry.area.now sight.entry.columns sight.entry.rows)
-        (picked (take n room.new) (shown entries.now)) (shown entries.now)) }
-    ensures levels { IfSome result (λ n. levels (picked (take n room.new) (shown entries.now))
-        ≤ levels (shown entries.now)) }
+        (picked (take n room.new) (shown level.entry.entries.now)) (shown level.entry.entries.now)) }
+    ensures levels { IfSome result (λ n. levels (picked (take n room.new) (shown level.entry.entries.now))
+        ≤ levels (shown level.entry.entries.now)) }
 {
+    let entries = level.entries;
     let mut count = 0;
     let mut seek = FIRST_CHUNK;
-    let mut i = next_within(entries, chunks, sight, &mut seek, 0);
+    let mut i = next_within(level, sight, &mut seek, 0);
     while i < entries.len() {
         let more = gather_one(&entries[i], i, sight, &mut room[count..])?;
         count += more;
-        i = next_within(entries, chunks, sight, &mut seek, i + 1);
+        i = next_within(level, sight, &mut seek, i + 1);
     }
     Some(count)
 }
@@ -109,8 +109,7 @@ fn gather_group<A: Ledger>(
     if room.is_empty() || place > MOST {
         return None;
     }
-    let (chunks, entries) = inner.chunked();
-    let inside = gather(entries, chunks, sight, &mut room[1..])?;
+    let inside = gather(inner.blocked(), sight, &mut room[1..])?;
     if inside == 0 {
         return Some(0);
     }

@@ -1,9 +1,10 @@
-//! Entries that show nothing in an area are passed over: chunks of them whose hull is off it, or which are older than all that meets
-//! it, leaves, and groups of no opacity.
+//! Entries that show nothing in an area are passed over: blocks and chunks of them whose hull is off it, or which are older than all
+//! that meets it, leaves, and groups of no opacity.
 
-ghost use Rattle.std.specs.Prelude.{◌≡◌, ℤ, ◌+◌, ◌<◌, ◌≤◌, ◌∷◌, [], IsTrue, false, length, take, drop};
+ghost use Rattle.std.specs.Prelude.{◌≡◌, ◌⊎◌, ℤ, ◌+◌, ◌<◌, ◌≤◌, ◌∷◌, [], IsTrue, false, length, take, drop};
 ghost use Rattle.rd_geom.specs.Plane.{holds_pixel};
-ghost use Rattle.rd_list.specs.Chunks.{Covers, IsAt, Tells};
+ghost use Rattle.rd_list.specs.Blocks.{AreBlocked};
+ghost use Rattle.rd_list.specs.Chunks.{IsAt, Tells};
 ghost use Rattle.rd_list.specs.Displayed.{shown};
 ghost use Rattle.rd_list.specs.Entries as list;
 ghost use Rattle.rd_list.specs.Entries.{flat};
@@ -14,7 +15,7 @@ ghost use Rattle.rd_paint.specs.Since.{AreMadeSince};
 use rd_area::Area;
 use rd_geom::{Rect, Span};
 use rd_item::Item;
-use rd_list::{Chunk, ChunkCursor, Entry};
+use rd_list::{Blocked, Chunk, ChunkCursor, Entry};
 use std::sync::ledger::Ledger;
 
 /// What of an area is in some columns of some rows. The leaves that meet the area were made by this paint or after.
@@ -136,6 +137,17 @@ fn is_older(chunk: &Chunk, since: u64) -> bool
     !chunk.is_open && chunk.told.newest < since
 }
 
+/// Is a chunk or a block passed as a whole, since no entry of it may show in the area?
+#[inline(always)]
+fn is_passed(chunk: &Chunk, sight: Sight<'_>) -> bool
+    ensures open { IsTrue result → chunk.now.is_open ≡ false }
+    ensures unseen { IsTrue result → (chunk.now.told.newest < sight.entry.since)
+        ⊎ ((x y : ℤ) → InAreaWithin sight.entry.area.now sight.entry.columns sight.entry.rows x y
+        → holds_pixel chunk.now.told.hull x y ≡ false) }
+{
+    is_older(chunk, sight.since) || is_off(chunk, sight.area, sight.columns, sight.rows)
+}
+
 /// The same before the end of a chunk, which is passed as a whole where no entry of it may show in the area.
 fn next_in_chunk<A: Ledger>(
     entries: &[Entry<A>],
@@ -157,38 +169,70 @@ fn next_in_chunk<A: Ledger>(
     if from >= end {
         return from;
     }
-    if from == start && is_older(chunk, sight.since) {
-        return end;
-    }
-    if from == start && is_off(chunk, sight.area, sight.columns, sight.rows) {
+    if from == start && is_passed(chunk, sight) {
         return end;
     }
     next_before(entries, from, end, sight.columns, sight.rows)
+}
+
+/// Past the block that begins with the next chunk, where no entry of it may show in the area. Otherwise the same.
+#[inline(always)]
+fn past_block<A: Ledger>(level: Blocked<'_, A>, sight: Sight<'_>, next: ChunkCursor) -> ChunkCursor
+    requires covers { AreBlocked level }
+    requires at { IsAt level.chunks.now next.at next.start }
+    requires within { next.start ≤ length level.entries.now }
+    requires since { AreMadeSince sight.area.now sight.since (flat (kept_entries level.entries.now)) }
+    ensures at { IsAt level.entry.chunks.now result.at result.start }
+    ensures forward { next.at ≤ result.at }
+    ensures from { next.start ≤ result.start }
+    ensures within { result.start ≤ length level.entry.entries.now }
+    ensures same { ServesWhere (InAreaWithin sight.entry.area.now sight.entry.columns sight.entry.rows)
+        (shown (drop result.start level.entry.entries.now)) (shown (drop next.start level.entry.entries.now)) }
+{
+    let Some(block) = level.block_at(next) else {
+        return next;
+    };
+    if !is_passed(block, sight) {
+        return next;
+    }
+    ChunkCursor {
+        at: next.at + 8,
+        start: next.start + block.count,
+    }
 }
 
 /// The place of the next entry that may show in the area, as far as it is in these columns of these rows, or how many entries
 /// there are. Its chunk is sought from the one of the last.
 #[inline(always)]
 pub(crate) fn next_within<A: Ledger>(
-    entries: &[Entry<A>],
-    chunks: &[Chunk],
+    level: Blocked<'_, A>,
     sight: Sight<'_>,
     seek: &mut ChunkCursor,
     from: usize,
 ) -> usize
-    requires from { from ≤ length entries.now }
-    requires covers { Covers chunks.now entries.now }
-    requires at { IsAt chunks.now seek.old.at seek.old.start }
-    requires since { AreMadeSince sight.area.now sight.since (flat (kept_entries entries.now)) }
-    ensures within { result ≤ length entries.now }
+    requires from { from ≤ length level.entries.now }
+    requires covers { AreBlocked level }
+    requires at { IsAt level.chunks.now seek.old.at seek.old.start }
+    requires since { AreMadeSince sight.area.now sight.since (flat (kept_entries level.entries.now)) }
+    ensures within { result ≤ length level.entry.entries.now }
     ensures from { from ≤ result }
-    ensures at { IsAt chunks.now seek.new.at seek.new.start }
+    ensures at { IsAt level.entry.chunks.now seek.new.at seek.new.start }
     ensures same { ServesWhere (InAreaWithin sight.entry.area.now sight.entry.columns sight.entry.rows)
-        (shown (drop result entries.now)) (shown (drop from entries.now)) }
+        (shown (drop result level.entry.entries.now)) (shown (drop from level.entry.entries.now)) }
 {
+    let chunks = level.chunks;
+    let entries = level.entries;
     let mut i = from;
     let mut now = *seek;
     while now.at < chunks.len() {
+        if i == now.start {
+            let past = past_block(level, sight, now);
+            if past.at > now.at {
+                i = past.start;
+                now = past;
+                continue;
+            }
+        }
         let chunk = &chunks[now.at];
         let end = now.start + chunk.count;
         i = next_in_chunk(entries, chunk, now.start, sight, i);

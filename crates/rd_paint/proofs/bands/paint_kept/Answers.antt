@@ -37,7 +37,7 @@ paint_all-requires-2-clause-rows g c =
 
 pub paint_all-requires-clause-since : goal.paint_all-requires-clause-since
 paint_all-requires-clause-since g c =
-    subst (λ (es : Entries (Ordered EntryKey Wrapper) Made). AreMadeSince c.args.window.area.now c.args.window.since (flat es)) (sym c.chunked.ensures.entries) c.requires.since
+    subst (λ (es : Entries (Ordered EntryKey Wrapper) Made). AreMadeSince c.args.window.area.now c.args.window.since (flat es)) (sym c.blocked.ensures.entries) c.requires.since
 
 pub paint_all-requires-2-clause-since : goal.paint_all-requires-2-clause-since
 paint_all-requires-2-clause-since g c =

@@ -26,26 +26,26 @@ gather-loop-i-init g t c =
       within = omega arith;
       closed = closed_none;
       same =
-          serves_less (InAreaWithin c.args.sight.area.now c.args.sight.columns c.args.sight.rows) (picked (take 0 c.args.room.now) (shown c.args.entries.now)) (shown (drop c.next_within-i.result c.args.entries.now)) (shown c.args.entries.now) (shown c.args.entries.now)
+          serves_less (InAreaWithin c.args.sight.area.now c.args.sight.columns c.args.sight.rows) (picked (take 0 c.args.room.now) (shown c.args.level.entries.now)) (shown (drop c.next_within-i.result c.args.level.entries.now)) (shown c.args.level.entries.now) (shown c.args.level.entries.now)
           past
-          (serves_by (InAreaWithin c.args.sight.area.now c.args.sight.columns c.args.sight.rows) _ _ (ap (λ (xs : Entries Wrapper item.Leaf). xs ▷ shown c.args.entries.now) (picked-none (shown c.args.entries.now))));
+          (serves_by (InAreaWithin c.args.sight.area.now c.args.sight.columns c.args.sight.rows) _ _ (ap (λ (xs : Entries Wrapper item.Leaf). xs ▷ shown c.args.level.entries.now) (picked-none (shown c.args.level.entries.now))));
     }
 
 pub gather-gather_one-requires : goal.gather-gather_one-requires
 gather-gather_one-requires g t c κs within =
-    let s = size_at c.args.entries.now c.loop-i.i c.index-entries-i.result c.loop-i-test.true c.index-entries-i.is in
+    let s = size_at c.args.level.entries.now c.loop-i.i c.index-entries-i.result c.loop-i-test.true c.index-entries-i.is in
     let n = length-take (length c.loop-i.room - c.loop-i.count) (drop c.loop-i.count c.loop-i.room) in
     let d = length-drop c.loop-i.count c.loop-i.room in
-    (omega (arith, s, c.decreases), (within, (omega (arith, n, d, c.loop-i.auto.room, c.requires.few), since_at c.args.sight.area.now c.args.sight.since c.args.entries.now c.loop-i.i c.index-entries-i.result c.loop-i-test.true c.index-entries-i.is c.requires.since)))
+    (omega (arith, s, c.decreases), (within, (omega (arith, n, d, c.loop-i.auto.room, c.requires.few), since_at c.args.sight.area.now c.args.sight.since c.args.level.entries.now c.loop-i.i c.index-entries-i.result c.loop-i-test.true c.index-entries-i.is c.requires.since)))
 
 pub gather-loop-i-preserved : goal.gather-loop-i-preserved
 gather-loop-i-preserved g t c =
     let fits : c.in_ok-more.more ≤ length c.gather_one.new.room = omega (arith, c.in_ok-more.ensures.within, c.gather_one.auto.room) in
-    let at = λ (f : Entries Wrapper item.Leaf → Entries Wrapper item.Leaf). entry_at-shown f c.args.entries.now c.loop-i.i c.index-entries-i.result c.loop-i-test.true c.index-entries-i.is in
+    let at = λ (f : Entries Wrapper item.Leaf → Entries Wrapper item.Leaf). entry_at-shown f c.args.level.entries.now c.loop-i.i c.index-entries-i.result c.loop-i-test.true c.index-entries-i.is in
     let past = c.next_within-i-in-loop-i.ensures.same in
-    let written = written_past (InAreaWithin c.args.sight.area.now c.args.sight.columns c.args.sight.rows) (shown c.args.entries.now) (shown c.args.entries.now) (shown (c.index-entries-i.result ∷ [])) (shown (drop (c.loop-i.i + 1) c.args.entries.now)) (shown (drop c.loop-i.i c.args.entries.now)) (shown (drop c.next_within-i-in-loop-i.result c.args.entries.now))
-    c.loop-i.room c.gather_one.new.room c.loop-i.count c.in_ok-more.more (length c.loop-i.room - c.loop-i.count) c.loop-i.invariant.within fits (shown_from c.args.entries.now c.loop-i.i c.index-entries-i.result c.loop-i-test.true c.index-entries-i.is)
-    c.loop-i.invariant.closed c.in_ok-more.ensures.closed c.loop-i.invariant.same (c.in_ok-more.ensures.same (shown c.args.entries.now) at) past in
+    let written = written_past (InAreaWithin c.args.sight.area.now c.args.sight.columns c.args.sight.rows) (shown c.args.level.entries.now) (shown c.args.level.entries.now) (shown (c.index-entries-i.result ∷ [])) (shown (drop (c.loop-i.i + 1) c.args.level.entries.now)) (shown (drop c.loop-i.i c.args.level.entries.now)) (shown (drop c.next_within-i-in-loop-i.result c.args.level.entries.now))
+    c.loop-i.room c.gather_one.new.room c.loop-i.count c.in_ok-more.more (length c.loop-i.room - c.loop-i.count) c.loop-i.invariant.within fits (shown_from c.args.level.entries.now c.loop-i.i c.index-entries-i.result c.loop-i-test.true c.index-entries-i.is)
+    c.loop-i.invariant.closed c.in_ok-more.ensures.closed c.loop-i.invariant.same (c.in_ok-more.ensures.same (shown c.args.level.entries.now) at) past in
     record {
       at = c.next_within-i-in-loop-i.ensures.within;
       chunk = c.next_within-i-in-loop-i.ensures.at;
@@ -56,12 +56,12 @@ gather-loop-i-preserved g t c =
 
 pub gather-returns-clause-same : goal.gather-returns-clause-same
 gather-returns-clause-same g t c = λ x y d h.
-    sym (ap (λ (ts : List (Entry g.row.A.Denot)). composed x y d (picked (take c.loop-i.count c.loop-i.room) (shown c.args.entries.now) ▷ shown ts)) (drop_all c.loop-i.i c.args.entries.now c.loop-i-test.false)
-    ∙ ap (λ (xs : Entries Wrapper item.Leaf). composed x y d xs) (join-nil (picked (take c.loop-i.count c.loop-i.room) (shown c.args.entries.now)))) ∙ c.loop-i.invariant.same.0 x y d h
+    sym (ap (λ (ts : List (Entry g.row.A.Denot)). composed x y d (picked (take c.loop-i.count c.loop-i.room) (shown c.args.level.entries.now) ▷ shown ts)) (drop_all c.loop-i.i c.args.level.entries.now c.loop-i-test.false)
+    ∙ ap (λ (xs : Entries Wrapper item.Leaf). composed x y d xs) (join-nil (picked (take c.loop-i.count c.loop-i.room) (shown c.args.level.entries.now)))) ∙ c.loop-i.invariant.same.0 x y d h
 
 pub gather-returns-clause-levels : goal.gather-returns-clause-levels
 gather-returns-clause-levels g t c =
-    let a = (join_has (picked (take c.loop-i.count c.loop-i.room) (shown c.args.entries.now)) (shown (drop c.loop-i.i c.args.entries.now))).0 in
+    let a = (join_has (picked (take c.loop-i.count c.loop-i.room) (shown c.args.level.entries.now)) (shown (drop c.loop-i.i c.args.level.entries.now))).0 in
     let b = c.loop-i.invariant.same.1 in
     omega (arith, a, b)
 
@@ -70,9 +70,9 @@ gather_group-returns-then-inside-eq0-clause-closed g t c = closed_none
 
 pub gather_group-returns-then-inside-eq0-clause-same : goal.gather_group-returns-then-inside-eq0-clause-same
 gather_group-returns-then-inside-eq0-clause-same g t c = λ w.
-    let e : shown c.chunked.result.1.now ≡ kept_leaves c.args.inner.now.entries = ap kept_leaves (c.chunked.ensures.entries) in
+    let e : shown c.blocked.result.entries.now ≡ kept_leaves c.args.inner.now.entries = ap kept_leaves (c.blocked.ensures.entries) in
     none_named (InAreaWithin c.args.sight.area.now c.args.sight.columns c.args.sight.rows) c.args.place (group w (kept_leaves c.args.inner.now.entries) nil) (group w (kept_leaves c.args.inner.now.entries) nil)
-    (group_unseen (InAreaWithin c.args.sight.area.now c.args.sight.columns c.args.sight.rows) w (kept_leaves c.args.inner.now.entries) (nothing_left (InAreaWithin c.args.sight.area.now c.args.sight.columns c.args.sight.rows) c.in_ok-inside.inside c.gather.new.room (shown c.chunked.result.1.now) (shown c.chunked.result.1.now) (kept_leaves c.args.inner.now.entries) c.if-inside-eq0.true e c.in_ok-inside.ensures.same))
+    (group_unseen (InAreaWithin c.args.sight.area.now c.args.sight.columns c.args.sight.rows) w (kept_leaves c.args.inner.now.entries) (nothing_left (InAreaWithin c.args.sight.area.now c.args.sight.columns c.args.sight.rows) c.in_ok-inside.inside c.gather.new.room (shown c.blocked.result.entries.now) (shown c.blocked.result.entries.now) (kept_leaves c.args.inner.now.entries) c.if-inside-eq0.true e c.in_ok-inside.ensures.same))
 
 pub gather_group-returns-clause-closed : goal.gather_group-returns-clause-closed
 gather_group-returns-clause-closed g t c =
@@ -83,7 +83,7 @@ gather_group-returns-clause-closed g t c =
 
 pub gather_group-returns-clause-same : goal.gather_group-returns-clause-same
 gather_group-returns-clause-same g t c = λ w.
-    let e : shown c.chunked.result.1.now ≡ kept_leaves c.args.inner.now.entries = ap kept_leaves (c.chunked.ensures.entries) in
+    let e : shown c.blocked.result.entries.now ≡ kept_leaves c.args.inner.now.entries = ap kept_leaves (c.blocked.ensures.entries) in
     let fits : c.in_ok-inside.inside ≤ length c.gather.new.room = omega (arith, c.in_ok-inside.ensures.within, c.gather.auto.room) in
     let some : 1 ≤ length c.args.room.now = search rules in
     let q = put_first c.args.place c.in_ok-inside.inside _ c.args.room.now c.gather.new.room _ some fits c.put.ensures.written in

@@ -8,18 +8,18 @@ use Rattle.rd_paint.proofs.gathering.+gathering.Given as goal
 
 abbrev pub invariant-gather-loop-i : goal.invariant-gather-loop-i
 invariant-gather-loop-i g l = record {
-  at : l.i ≤ length l.entries;
-  chunk : IsAt l.chunks l.seek.at l.seek.start;
+  at : l.i ≤ length l.level.entries.now;
+  chunk : IsAt l.level.chunks.now l.seek.at l.seek.start;
   within : l.count ≤ length l.room;
   closed : IsClosed (take l.count l.room);
-  same : ServesWhere (InAreaWithin l.sight.area.now l.sight.columns l.sight.rows) (picked (take l.count l.room) (shown l.entries) ▷ shown (drop l.i l.entries)) (shown l.entries);
+  same : ServesWhere (InAreaWithin l.sight.area.now l.sight.columns l.sight.rows) (picked (take l.count l.room) (shown l.level.entries.now) ▷ shown (drop l.i l.level.entries.now)) (shown l.level.entries.now);
 }
 
 abbrev pub decreases-gather-loop-i : goal.decreases-gather-loop-i
-decreases-gather-loop-i g l = length l.entries - l.i
+decreases-gather-loop-i g l = length l.level.entries.now - l.i
 
 abbrev pub decreases-gather : goal.decreases-gather
-decreases-gather g l = 4 * list_size (kept_entries l.entries.now) + 2
+decreases-gather g l = 4 * list_size (kept_entries l.level.entries.now) + 2
 
 abbrev pub decreases-gather_one : goal.decreases-gather_one
 decreases-gather_one g l = 4 * list_size (kept_entries (l.entry.now ∷ [])) + 1

@@ -6,11 +6,11 @@ use Rattle.rd_paint.proofs.skipping.next_within.Given as goal
 
 abbrev pub invariant-loop-now : goal.invariant-loop-now
 invariant-loop-now g l = record {
-  at : IsAt l.chunks l.now.at l.now.start;
+  at : IsAt l.level.chunks.now l.now.at l.now.start;
   from : l.from ≤ l.i;
-  within : l.i ≤ length l.entries;
-  same : ServesWhere (InAreaWithin l.sight.area.now l.sight.columns l.sight.rows) (shown (drop l.i l.entries)) (shown (drop l.from l.entries));
+  within : l.i ≤ length l.level.entries.now;
+  same : ServesWhere (InAreaWithin l.sight.area.now l.sight.columns l.sight.rows) (shown (drop l.i l.level.entries.now)) (shown (drop l.from l.level.entries.now));
 }
 
 abbrev pub decreases-loop-now : goal.decreases-loop-now
-decreases-loop-now g l = length l.chunks - l.now.at
+decreases-loop-now g l = length l.level.chunks.now - l.now.at
