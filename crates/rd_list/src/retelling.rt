@@ -1,7 +1,7 @@
 //! Open chunks are told anew where they stand, and so are the blocks over them.
 ghost use Rattle.std.specs.Prelude.{◌≡◌, ◌<◌, ◌≤◌, ◌+◌, false, length, take, drop, slice_index_or};
 ghost use Rattle.rd_list.specs.Chunks.{AreCovered, Covers, IsAt, Tells, counts};
-ghost use Rattle.rd_list.specs.declared.chunks.Chunk.{Chunk as Block};
+ghost use Rattle.rd_list.specs.declared.chunks.Chunk.{Chunk};
 
 use crate::blocks::{Blocked, Chunks, EIGHT};
 use crate::chunks::{Chunk, MOST, first_chunk, open_chunk};
@@ -77,16 +77,11 @@ fn retell_chunks<A: Ledger>(
 }
 
 /// What the chunks of a block tell of it.
-fn block_told<A: Ledger>(
-    level: &Chunks,
-    block: usize,
-    entries: &[Entry<A>],
-    start: usize,
-) -> Chunk
+fn block_told<A: Ledger>(level: &Chunks, block: usize, entries: &[Entry<A>], start: usize) -> Chunk
     requires some { block < length level.now.blocks.items }
     requires at { IsAt level.now.blocks.items block start }
     requires covers { AreCovered level.now entries.now }
-    ensures count { (b : Block) → b ≡ slice_index_or level.now.blocks.items block b → result.count ≡ b.count }
+    ensures count { (b : Chunk) → b ≡ slice_index_or level.now.blocks.items block b → result.count ≡ b.count }
     ensures told { result.is_open ≡ false → Tells result (take result.count (drop start entries.now)) }
 {
     let level = Blocked {

@@ -1,12 +1,11 @@
 -- The law of the merge at the names of display lists.
-use Rattle.std.proofs.Common.{◌≡◌, refl, ap, ◌∙◌, sym, subst, ℕ, zero, suc, ℤ, Bool, true, false, List, [], ◌∷◌, length, get_or, ◌<◌, arith}
+use Rattle.std.proofs.Common.{◌≡◌, refl, ap, sym, subst, ℕ, zero, suc, ℤ, Bool, true, false, List, [], ◌∷◌, length, get_or, ◌<◌, arith}
 use Rattle.std.specs.Prelude.{AllPairs, map, not, ◌&&◌, ◌||◌, IsTrue}
 use Rattle.rd_geom.proofs.Pixels.{at_holds, first_at, some_of, meets_shares, shares_meets}
 use Rattle.rd_keys.specs.Keys.{same_key}
 use Rattle.rd_item.specs.declared.leaf.Leaf.{Leaf}
 use Rattle.rd_list.specs.Wrappers.{Wrapper}
 use Rattle.rd_list.specs.Entries.{Entries, nil, leaf, group, wrappers, only}
-use Rattle.rd_list.specs.Lists as lists
 use Rattle.rd_list.specs.Lists.{leaves_meet, groups}
 use Rattle.rd_list.specs.Laws.{IsReady}
 use Rattle.rd_list.proofs.Merges.Named.{AreNames}

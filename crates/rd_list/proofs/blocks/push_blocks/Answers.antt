@@ -1,4 +1,4 @@
-use Rattle.std.proofs.Common.{◌≡◌, ◌≤◌, ◌+◌, ◌-◌, sym, subst, ap, length, take, drop, arith, List, refl}
+use Rattle.std.proofs.Common.{◌+◌, ◌-◌, sym, subst, arith, List}
 use Rattle.rd_list.specs.Chunks.{AreEights, Covers, counts}
 use Rattle.rd_list.specs.declared.chunks.Chunk.{Chunk}
 use Rattle.rd_list.proofs.Covering.{covers_all, stay_next}

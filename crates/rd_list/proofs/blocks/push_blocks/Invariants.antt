@@ -1,4 +1,4 @@
-use Rattle.std.proofs.Common.{◌≡◌, ◌≤◌, ◌*◌, ◌-◌, length, take, drop}
+use Rattle.std.proofs.Common.{◌≡◌, ◌≤◌, ◌*◌, ◌-◌, length, take}
 use Rattle.rd_list.specs.Chunks.{AreEights, CoversAll, IsAt, counts}
 use Rattle.rd_list.proofs.blocks.push_blocks.Given as goal
 

@@ -1,6 +1,6 @@
-use Rattle.std.proofs.Common.{◌≡◌, ◌∙◌, ◌≤◌, ◌+◌, ◌-◌, refl, sym, subst, length, take, drop, arith, rules}
+use Rattle.std.proofs.Common.{◌≡◌, ◌+◌, ◌-◌, subst, take, drop, arith, rules}
 use Rattle.std.specs.Prelude.{slice_set}
-use Rattle.rd_list.specs.Chunks.{Tells, counts}
+use Rattle.rd_list.specs.Chunks.{Tells}
 use Rattle.rd_list.proofs.Admitting.{found_told}
 use Rattle.rd_list.proofs.Blocking.{at_alike, at_block, counts_set, covers_set}
 use Rattle.rd_list.proofs.Covering.{slice_length}

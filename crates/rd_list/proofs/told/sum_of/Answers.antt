@@ -1,4 +1,4 @@
-use Rattle.std.proofs.Common.{◌≡◌, ◌∙◌, ◌+◌, ◌++◌, ap, subst, sym, take, drop, arith, take-add, Option}
+use Rattle.std.proofs.Common.{◌∙◌, ap, subst, sym, take, drop, arith, take-add, Option}
 use Rattle.std.specs.Prelude.{IfSome}
 use Rattle.std.proofs.lemmas.List.{take_all}
 use Rattle.rd_list.specs.Chunks.{IsTold, total}

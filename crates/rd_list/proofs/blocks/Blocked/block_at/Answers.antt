@@ -1,4 +1,4 @@
-use Rattle.std.proofs.Common.{◌≡◌, ◌≤◌, ◌*◌, ◌/◌, ◌+◌, ap, subst, length, ℕ, arith}
+use Rattle.std.proofs.Common.{◌≡◌, ◌*◌, ◌/◌, ◌+◌, subst, ℕ, arith}
 use Rattle.std.specs.Prelude.{slice_index_or}
 use Rattle.rd_list.specs.Chunks.{IsAt}
 use Rattle.rd_list.proofs.Admitting.{found_told}

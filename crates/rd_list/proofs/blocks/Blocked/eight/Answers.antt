@@ -1,8 +1,7 @@
-use Rattle.std.proofs.Common.{◌≡◌, ◌≤◌, ◌∙◌, ◌*◌, ◌+◌, ap, length, take, drop, subst, sym, get_or, List, arith}
-use Rattle.std.proofs.lemmas.List.{length-drop}
+use Rattle.std.proofs.Common.{◌≡◌, ◌≤◌, ◌∙◌, ◌*◌, ap, length, take, drop, subst, sym, List}
 use Rattle.rd_list.specs.Chunks.{Covers, total}
 use Rattle.rd_list.specs.declared.chunks.Chunk.{Chunk}
-use Rattle.rd_list.proofs.Blocking.{at_block, at_first, covers_first, covers_from, eight_total, eight_there}
+use Rattle.rd_list.proofs.Blocking.{at_first, covers_first, covers_from, eight_total, eight_there}
 use Rattle.rd_list.proofs.blocks.Blocked.eight.Goals as goal
 
 pub split_at-requires : goal.split_at-requires
