@@ -5,6 +5,8 @@
 #[cfg(test)]
 mod area;
 #[cfg(test)]
+mod blocks;
+#[cfg(test)]
 mod clip;
 #[cfg(test)]
 mod drawing;
