@@ -43,6 +43,16 @@ def spread(count, rng):
     ]
 
 
+def even(count, rng):
+    """The same on a canvas that grows with the boxes, so that as many lie on each pixel: 5,000 are all over one of 1280 by 800."""
+    side = (count / 5000) ** 0.5
+    w, h = round(WIDTH * side), round(HEIGHT * side)
+    return [w, h], [
+        box(f"b{i}", "b0", [rng.randrange(w - 16), rng.randrange(h - 12), 16, 12], {"background": ink(rng)})
+        for i in range(1, count)
+    ]
+
+
 def divide(found, parent, rect, count, depth, rng):
     """Boxes below a box, side by side or one above another, each with its share of what is left of them."""
     fan = min(count, rng.randint(3, 8)) if depth < 12 else count
@@ -168,6 +178,7 @@ SCENES = [
         ("page of contexts, mixed edits, blended", blended, (5000,), 200, mixed, 1),
         ("flat", flat, (1000, 5000, 20000), 50, tinted, 1),
         ("spread", spread, (1000, 5000, 20000), 200, tinted, 1),
+        ("spread evenly", even, (1250, 5000, 20000), 200, tinted, 1),
         ("nested", nested, (64, 128, 250), 10, tinted, 1),
     )
     for count in sizes
