@@ -1,18 +1,19 @@
 -- What a kept list shows, chunk by chunk.
-use Rattle.std.proofs.Common.{◌≡◌, refl, ap, ◌∙◌, sym, false, ◌||◌, ℤ, ℕ, ◌+◌, List, ◌++◌, take, drop, take-add}
-use Rattle.std.proofs.lemmas.List.{take-append-drop}
+use Rattle.std.proofs.Common.{◌≡◌, refl, ap, ◌∙◌, sym, subst, false, ◌||◌, ◌≤◌, ◌-◌, ℤ, ℕ, ◌+◌, List, [], ◌∷◌, ◌++◌, length, take, drop, arith, take-add}
+use Rattle.std.proofs.lemmas.List.{length-drop, length-take-le, take-append-le, drop-append-le, take-append-drop}
 use Rattle.rd_geom.specs.Areas.{Region}
 use Rattle.rd_item.specs.Items.{Made}
 use Rattle.rd_keys.specs.Keys.{BoxKey}
 use Rattle.rd_keys.specs.Ranges.{IsAmong}
 use Rattle.rd_keys.specs.declared.entry.EntryKey.{EntryKey}
 use Rattle.rd_keys.specs.declared.range.KeyRange.{KeyRange}
-use Rattle.rd_list.specs.Chunks.{AreNamed}
+use Rattle.rd_list.specs.Chunks.{AreNamed, Covers, Tells, total}
 use Rattle.rd_list.specs.Wrappers.{Wrapper}
 use Rattle.rd_list.specs.Entries.{Entries, nil, leaf, group, flat}
 use Rattle.rd_list.specs.Kept.{Ordered}
 use Rattle.rd_list.specs.EntryNames.{kept_leaves}
 use Rattle.rd_list.specs.KeptView.{kept_entries}
+use Rattle.rd_list.specs.declared.chunks.Chunk.{Chunk}
 use Rattle.rd_list.specs.declared.kept.Entry.{Entry}
 use Rattle.rd_list.proofs.News.{kept-append}
 use Rattle.rd_tree.specs.Document.{Document, is_touched}
@@ -51,3 +52,22 @@ module _ (t : Document) where
     pub rest_more : (es : List (Entry A)) (p : ℕ) (a b c : Region) → Joins (any_shows t (kept_leaves (kept_entries (take p es)))) a b → Joins (any_shows t (kept_leaves (kept_entries (drop p es)))) b c
         → Joins (any_shows t (kept_leaves (kept_entries es))) a c
     rest_more es p a b c j k = two_parts (take p es) (drop p es) es a b c (sym (take-append-drop p es)) j k
+
+module _ {A : Type 0} where
+  -- chunks are those of no entries but the first ones
+  covers_left : (cs : List Chunk) (xs ys : List (Entry A)) → total cs ≤ length xs → Covers cs (xs ++ ys) → Covers cs xs
+  covers_left [] xs ys l c = tt
+  covers_left (b ∷ cs) xs ys l c =
+      let u : b.count ≤ length xs = omega (arith, l) in
+      let d = length-drop b.count xs in (
+        u,
+        (λ f. subst (Tells b) (take-append-le b.count xs ys u) (c.1 f)),
+        covers_left cs (drop b.count xs) ys (omega (arith, l, d)) (subst (Covers cs) (drop-append-le b.count xs ys u) c.2),
+      )
+
+  -- those of so many entries, from one on
+  pub covers_part : (cs : List Chunk) (es : List (Entry A)) (p n : ℕ) → n ≤ length es - p → total cs ≡ n → Covers cs (drop p es) → Covers cs (take n (drop p es))
+  covers_part cs es p n l t c =
+      let d = length-drop p es in
+      let m : length (take n (drop p es)) ≡ n = length-take-le n (drop p es) (omega (arith, d, l)) in
+      covers_left cs (take n (drop p es)) (drop n (drop p es)) (omega (arith, m, t)) (subst (Covers cs) (sym (take-append-drop n (drop p es))) c)

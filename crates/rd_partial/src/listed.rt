@@ -38,6 +38,7 @@ fn add_level<A: Ledger, B: Ledger>(
     requires { AreBlocked level }
     ensures { OnOk result (Joins (any_shows tree.now (kept_leaves (kept_entries level.entry.entries.now))) area.old area.new) }
 {
+    let entries = level.entries;
     let mut place = 0;
     for (i, block) in level.blocks.iter().enumerate() {
         let end = place + block.count;
@@ -46,11 +47,11 @@ fn add_level<A: Ledger, B: Ledger>(
             area,
             block,
             level.eight(i, place),
-            &level.entries[place..end],
+            &entries[place..end],
         )?;
         place = end;
     }
-    add_chunks(tree, area, level.rest(place), &level.entries[place..])
+    add_chunks(tree, area, level.rest(place), &entries[place..])
 }
 
 /// The same of the entries of a block, whose chunks are given.
