@@ -46,7 +46,6 @@ rest-requires-clause-at g c =
     let same : c.loop-i.i ≡ length c.args.level.blocks.now = omega (arith, l, m) in
     subst (λ (k : ℕ). IsAt c.args.level.blocks.now k c.loop-i.place) same c.loop-i.invariant.at
 
-
 pub returns : goal.returns
 returns g c =
     let t = g.T.Touches.is_touched c.args.tree.now in
